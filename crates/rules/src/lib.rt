@@ -1,0 +1,1 @@
+// The rules are definitions alone: see specs/. This crate has no code.

@@ -1,0 +1,1 @@
+// Theorems about the rules alone: see proofs/. This crate has no code.

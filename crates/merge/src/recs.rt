@@ -1,0 +1,93 @@
+// The records, read from the workspace.
+use crate::lists::at;
+use crate::lists::many;
+ghost use mathlib.Core.Path.{_≡_};
+ghost use mathlib.Core.Bool.{Bool, true, false, not};
+ghost use mathlib.Core.List.{List, [], map};
+ghost use Prim.Native.Nat.{ℕ, _+_, _*_, _-_, _≤_, _<_};
+ghost use lib.ListN.{length, getD, take, drop};
+ghost use lib.Dec.{eqb};
+ghost use Rattle.rules.specs.Base.{_and_, any};
+ghost use Rattle.rules.specs.Records.{at as recOf};
+ghost use Rattle.merge.specs.View.{wide, startOf, endOf, listAt, recAt, view, Parts, Below, Held};
+ghost use Rattle.merge.specs.Fixed.{floorIs, floorIn, idsOf, suitsF};
+
+// A number in two halves, low at a, high m further on.
+fn wide(ws: &[u16], m: usize, a: usize) -> usize
+    requires { ⌜ a + m < length (now ws) ⌝ }
+    ensures { λ r. ⌜ (r ≡ wide (now (ws .entry)) m a) × (r < 4294967296) ⌝ }
+{
+    at(ws, a) + 65536 * at(ws, a + m)
+}
+
+// The neighbours of record r, with the table at s, or its floors, with that at t: the part itself.
+pub fn list_of(ws: &[u16], m: usize, s: usize, r: usize) -> &[u16]
+    requires { ⌜ Parts m s (now ws) ⌝ }
+    requires { ⌜ r < m ⌝ }
+    ensures { λ l. ⌜ now l ≡ listAt (now (ws .entry)) m s r ⌝ }
+{
+    let a = wide(ws, m, s + r);
+    let e = wide(ws, m, s + m + m + r);
+    &ws[a..e]
+}
+
+// Does the list hold a record whose id is b?
+fn any_floor(ws: &[u16], l: &[u16], b: u16) -> bool
+    requires { ⌜ Below (length (now ws)) (now l) ⌝ }
+    ensures { λ r. ⌜ r ≡ any (floorIs (now (ws .entry)) b) (now (l .entry)) ⌝ }
+{
+    let mut i = 0;
+    while i < l.len() {
+        if ws[at(l, i)] == b {
+            return true;
+        }
+        i += 1;
+    }
+    false
+}
+
+// Record i, if its id is a: has it a floor of id b?
+fn floor_at(ws: &[u16], m: usize, s: usize, t: usize, i: usize, a: u16, b: u16) -> bool
+    requires { ⌜ Held m s t (now ws) ⌝ }
+    requires { ⌜ i < m ⌝ }
+    ensures { λ r. ⌜ r ≡ (eqb (recAt (now (ws .entry)) m s t i .id) a and any (floorIs (now (ws .entry)) b) (recAt (now (ws .entry)) m s t i .floors)) ⌝ }
+{
+    if ws[i] != a {
+        return false;
+    }
+    any_floor(ws, list_of(ws, m, t, i), b)
+}
+
+// Has some record of id a a floor of id b?
+fn floor_in(ws: &[u16], m: usize, s: usize, t: usize, a: u16, b: u16) -> bool
+    requires { ⌜ Held m s t (now ws) ⌝ }
+    ensures { λ r. ⌜ r ≡ floorIn (now (ws .entry)) (view (now (ws .entry)) m s t) a b ⌝ }
+{
+    let mut i = 0;
+    while i < m {
+        if floor_at(ws, m, s, t, i, a, b) {
+            return true;
+        }
+        i += 1;
+    }
+    false
+}
+
+// can_merge_with: the same area, listed at most once, and not a floor.
+pub(crate) fn suits(ws: &[u16], m: usize, s: usize, t: usize, i: usize, j: usize) -> bool
+    requires { ⌜ Held m s t (now ws) ⌝ }
+    requires { ⌜ i < m ⌝ }
+    requires { ⌜ j < m ⌝ }
+    ensures { λ r. ⌜ r ≡ suitsF (view (now (ws .entry)) m s t) (recAt (now (ws .entry)) m s t i) (recAt (now (ws .entry)) m s t j) ⌝ }
+{
+    if ws[m + m + i] != ws[m + m + j] {
+        return false;
+    }
+    if 1 < many(list_of(ws, m, s, i), ws[j]) {
+        return false;
+    }
+    if floor_in(ws, m, s, t, ws[i], ws[j]) {
+        return false;
+    }
+    true
+}

@@ -1,0 +1,10 @@
+//! Answers of the unchanged Rust watershed, in the terms of document 01.
+
+pub mod damage;
+pub mod field;
+pub mod file;
+pub mod levels;
+pub mod listing;
+pub mod refusals;
+pub mod rng;
+pub mod run;

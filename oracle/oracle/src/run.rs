@@ -1,0 +1,102 @@
+//! The two entries, answered by the unchanged Rust.
+
+use crate::{
+    field::{Field, Settings},
+    refusals::{self, Refusal},
+};
+use rerecast::{AreaType, CompactCell, CompactHeightfield, CompactSpan, RegionId};
+
+/// What the distance entry gives.
+#[derive(Debug, Clone, PartialEq, Eq)]
+pub struct Distances {
+    /// The distance of each span before the blur.
+    pub raw: Vec<u16>,
+    /// The distance of each span after the blur.
+    pub blurred: Vec<u16>,
+    /// The greatest raw distance.
+    pub max_distance: u16,
+}
+
+/// What the region entry gives.
+#[derive(Debug, Clone, PartialEq, Eq)]
+pub struct Regions {
+    /// The region of each span.
+    pub ids: Vec<u16>,
+    /// The last number given.
+    pub max_region: u16,
+    /// How many records have overlap set.
+    pub overlaps: usize,
+}
+
+/// The distance entry.
+pub fn distances(field: &Field) -> Result<Distances, Refusal> {
+    refusals::distance_entry(field, field.spans(), field.spans())?;
+    let mut heightfield = heightfield(field);
+    let raw = heightfield.raw_distances();
+    heightfield.build_distance_field();
+    Ok(Distances {
+        raw,
+        blurred: heightfield.dist,
+        max_distance: heightfield.max_distance,
+    })
+}
+
+/// The region entry, with a workspace that is long enough. The distances may be any that it takes, not only those of
+/// the distance entry.
+pub fn regions(
+    field: &Field,
+    distances: &[u16],
+    max_distance: u16,
+    settings: Settings,
+) -> Result<Regions, Refusal> {
+    let workspace_len = refusals::workspace_needed(field.spans());
+    refusals::region_entry(field, distances, max_distance, field.spans(), workspace_len)?;
+    let mut heightfield = heightfield(field);
+    heightfield.dist = distances.to_vec();
+    heightfield.max_distance = max_distance;
+    tracing::take_len();
+    heightfield
+        .build_regions(
+            settings.border_size,
+            settings.least_area,
+            settings.merge_area,
+        )
+        .expect("ids don't run out below 32,001 spans");
+    Ok(Regions {
+        ids: heightfield
+            .spans
+            .iter()
+            .map(|span| span.region.bits())
+            .collect(),
+        max_region: heightfield.max_region.bits(),
+        overlaps: tracing::take_len().unwrap_or(0),
+    })
+}
+
+/// Both entries in turn.
+pub fn both(field: &Field, settings: Settings) -> Result<(Distances, Regions), Refusal> {
+    let distances = distances(field)?;
+    let regions = regions(field, &distances.blurred, distances.max_distance, settings)?;
+    Ok((distances, regions))
+}
+
+fn heightfield(field: &Field) -> CompactHeightfield {
+    let cell = |(&index, &count)| CompactCell::new(index, count);
+    CompactHeightfield {
+        width: field.w,
+        height: field.h,
+        border_size: 0,
+        max_distance: 0,
+        max_region: RegionId::NONE,
+        cells: field.index.iter().zip(&field.count).map(cell).collect(),
+        spans: field
+            .con
+            .as_chunks()
+            .0
+            .iter()
+            .map(|&con| CompactSpan::new(con))
+            .collect(),
+        dist: Vec::new(),
+        areas: field.area.iter().map(|&area| AreaType(area)).collect(),
+    }
+}

@@ -11,6 +11,7 @@ impl RegionId {
     pub const NONE: RegionId = RegionId(0);
     // The flag of a border region.
     pub const BORDER_REGION: RegionId = RegionId(0x8000);
+
     pub const MAX: RegionId = RegionId(65535);
 
     // The id that lies `other` further on: an addition that may not overflow.

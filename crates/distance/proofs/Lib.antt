@@ -1,0 +1,5 @@
+pub mod Walks
+pub mod Values
+pub mod Sides
+pub mod Bounds
+pub mod Blurs

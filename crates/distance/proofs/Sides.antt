@@ -1,0 +1,98 @@
+-- What the two sides of a pass come to: a value that is there is read with room for the sum, and one that is not changes nothing,
+-- since where there is no span the rule reads 65,535 and adds to it.
+use Prim.Native.Nat.{ℕ, _+_, _*_, _≤_, _<_, min}
+use native.Mathlib.Omega.{arith}
+use mathlib.Core.Path.{_≡_, refl, sym, ap, _∙_}
+use mathlib.Core.List.{List}
+use lib.ListN.{length, getD, List·getD-eq-default}
+use Rattle.rules.specs.Field.{Field, spans, near, cellTo}
+use Rattle.rules.specs.Distance.{far}
+use Rattle.field.specs.Lent.{Reached, Spot, SomeSpot, Leaf, SomeLeaf, consAt}
+use Rattle.field.proofs.Places.{getD-any, near-stands, near-spot, step-spot}
+use Rattle.distance.specs.Value.{side, least, Sized, Room}
+use Rattle.distance.proofs.Values.{none-near, sized-con, sized-in, sized-leaf}
+
+module _ (w : ℕ) (is cs l : List ℕ) (c s d e : ℕ) (v : Room w is cs l c s d e) where
+  room-sized : Sized w is cs l c s
+  room-sized = record { F = v .F; spot = v .spot; size = v .size }
+
+  pub room-con : 4 * s + 3 < length cs
+  room-con = sized-con w is cs l c s room-sized
+
+  pub room-in : s < length l
+  room-in = sized-in w is cs l c s room-sized
+
+  pub room-leaf : (cons : List ℕ) → cons ≡ consAt cs s → SomeLeaf w is cons c
+  room-leaf cons q = sized-leaf w is cs l c s room-sized cons q
+
+  room-few : length l ≤ 32000
+  room-few = omega (arith, v .size, v .spot .reached .celled .few)
+
+  -- neighbour t, in cell a
+  module _ (cons : List ℕ) (q : cons ≡ consAt cs s) (t a : ℕ) (n : (F : Field) (s : ℕ) → Leaf F w is cons c s → t ≡ near F s d) (g : d < 4)
+      (p : a ≡ cellTo w c d) where
+    at-near : (F : Field) → Spot F w is cs c s → near F s d ≡ t
+    at-near F u = sym (near-spot w is cs cons c s q d t n F u)
+
+    stepped : (t ≡ 65535 → ⊥) → (F : Field) → Spot F w is cs c s → Spot F w is cs a t
+    stepped k F u = step-spot w is cs cons c s q d t n F a u g p k
+
+    pub first-spot : (t ≡ 65535 → ⊥) → SomeSpot w is cs a t
+    first-spot k = record { F = v .F; spot = stepped k (v .F) (v .spot) }
+
+    pub first-in : (t ≡ 65535 → ⊥) → t < length l
+    first-in k = omega (arith, stepped k (v .F) (v .spot) .stands .span, v .size)
+
+    pub first-low : (t ≡ 65535 → ⊥) → getD l t 0 ≤ 510
+    first-low k =
+        let i : t < spans (v .F) = stepped k (v .F) (v .spot) .stands .span in
+        let b : far l t ≤ 510 = rw (at-near (v .F) (v .spot)) at (v .first (rw (at-near (v .F) (v .spot)) i)) in
+        rw (getD-any l t 0 65535 (first-in k)) b
+
+    pub side-none : (best : ℕ) → best < 65536 → e < 4 → t ≡ 65535 → (F : Field) → Spot F w is cs c s → best ≡ min best (side F l s d e)
+    unfolding side
+    side-none best b h z F u =
+        let m : near F s d ≡ 65535 = at-near F u ∙ z in
+        let f : far l 65535 ≡ 65535 = List·getD-eq-default l 65535 (omega (arith, room-few)) in
+        rw (m, none-near F (u .reached) e h) (omega arith)
+
+    -- its neighbour x
+    module _ (k : t ≡ 65535 → ⊥) (best b : ℕ) (r : b ≡ min best (getD l t 0 + 2)) (x : ℕ) (m : (F : Field) → Spot F w is cs a t → x ≡ near F t e) (h : e < 4) where
+      at-second : (F : Field) → Spot F w is cs c s → near F (near F s d) e ≡ x
+      at-second F u = ap (λ (y : ℕ). near F y e) (at-near F u) ∙ sym (m F (stepped k F u))
+
+      pub second-in : (x ≡ 65535 → ⊥) → x < length l
+      second-in j =
+          let u = stepped k (v .F) (v .spot) in
+          let i = near-stands (v .F) (u .reached) a t e (u .stands) h (λ z. j (m (v .F) u ∙ z)) .span in
+          omega (arith, m (v .F) u, v .size)
+
+      pub second-low : (x ≡ 65535 → ⊥) → getD l x 0 ≤ 510
+      second-low j =
+          let i : x < spans (v .F) = omega (arith, second-in j, v .size) in
+          let f : far l x ≤ 510 = rw (at-second (v .F) (v .spot)) at (v .second (rw (at-second (v .F) (v .spot)) i)) in
+          rw (getD-any l x 0 65535 (second-in j)) f
+
+      near-value : far l t ≡ getD l t 0
+      near-value = getD-any l t 65535 0 (first-in k)
+
+      pub side-one : best < 65536 → x ≡ 65535 → (F : Field) → Spot F w is cs c s → b ≡ min best (side F l s d e)
+      unfolding side
+      side-one o z F u =
+          let f : far l 65535 ≡ 65535 = List·getD-eq-default l 65535 (omega (arith, room-few)) in
+          rw (at-second F u ∙ z, at-near F u) (omega (arith, near-value, first-low k))
+
+      pub side-two : (y : ℕ) → (x ≡ 65535 → ⊥) → y ≡ min b (getD l x 0 + 3) → (F : Field) → Spot F w is cs c s → y ≡ min best (side F l s d e)
+      unfolding side
+      side-two y j o F u =
+          let f : far l x ≡ getD l x 0 = getD-any l x 65535 0 (second-in j) in
+          rw (at-second F u, at-near F u) (omega (arith, near-value))
+
+pub least-is : (w : ℕ) (is cs l : List ℕ) (p s a b d e x y : ℕ) → Room w is cs l p s a b
+    → ((F : Field) → Spot F w is cs p s → x ≡ min (getD l s 0) (side F l s a b))
+    → ((F : Field) → Spot F w is cs p s → y ≡ min x (side F l s d e))
+    → (F : Field) → Spot F w is cs p s → y ≡ least F a b d e s l
+unfolding least
+least-is w is cs l p s a b d e x y v m n F u =
+    let f : far l s ≡ getD l s 0 = getD-any l s 65535 0 (room-in w is cs l p s a b v) in
+    omega (arith, m F u, n F u)

@@ -1,0 +1,134 @@
+-- What a stage reads at a span and at its neighbours is what the rule reads: a neighbour that is there stands in its cell and has a value,
+-- and one that is not is past the list, where the rule reads its default.
+use Prim.Native.Nat.{ℕ, zero, suc, _+_, _*_, _-_, _/_, _%_, _≤_, _<_, min}
+use native.Mathlib.Omega.{arith}
+use mathlib.Core.Path.{_≡_, refl, sym, ap, _∙_}
+use mathlib.Core.Bool.{Bool, true, false}
+use mathlib.Core.List.{List}
+use lib.ListN.{length, getD, set, List·getD-eq-default}
+use lib.Dec.{eqb, leb, ltb}
+use borrow.Author.Tests.{eq-eqb, ne-eqb, lt-ltb, le-ltb}
+use Rattle.rules.specs.Base.{if_then_else_, upto}
+use Rattle.rules.specs.Field.{Field, spans, near, corner, areaOf, cellTo, conOf}
+use Rattle.rules.specs.Distance.{same, far, term, blurAt}
+use Rattle.laws.proofs.Cells.{near-none}
+use Rattle.field.specs.Lent.{Reached, Stands, Spot, SomeSpot, Leaf, SomeLeaf, consAt, lent}
+use Rattle.field.proofs.Places.{getD-any, near-stands, spot-leaf, spot-con, some-leaf, near-spot, step-spot, some-step, turned}
+use Rattle.field.proofs.Checks.{layer-spot}
+use Rattle.distance.specs.Value.{startAt, startTo, side, least, Sized, SizedLeaf, Room}
+use Rattle.field.proofs.Loops.{upto-go}
+
+-- ---------------------------------------------------------------- no span
+
+-- no neighbour has no neighbour
+pub none-near : (F : Field) → Reached F → (d : ℕ) → d < 4 → near F 65535 d ≡ 65535
+unfolding conOf
+none-near F ok d h = near-none F 65535 d (List·getD-eq-default (F .con) 255 (omega (arith, ok .celled .linked, ok .celled .few)))
+
+-- ---------------------------------------------------------------- a list with a value for each span
+
+module _ (w : ℕ) (is cs l : List ℕ) (c s : ℕ) (v : Sized w is cs l c s) where
+  pub sized-spot : SomeSpot w is cs c s
+  sized-spot = record { F = v .F; spot = v .spot }
+
+  pub sized-con : 4 * s + 3 < length cs
+  sized-con = spot-con w is cs c s sized-spot
+
+  pub sized-in : s < length l
+  sized-in = omega (arith, v .spot .stands .span, v .size)
+
+  pub sized-few : length l ≤ 32000
+  sized-few = omega (arith, v .spot .reached .celled .few, v .size)
+
+  pub sized-leaf : (cons : List ℕ) → cons ≡ consAt cs s → SomeLeaf w is cons c
+  sized-leaf cons e = some-leaf w is cs cons c s e sized-spot
+
+  pub sized-four : (cons : List ℕ) → cons ≡ consAt cs s → SizedLeaf w is cons l c s
+  sized-four cons e = record { F = v .F; leaf = spot-leaf (v .F) w is cs cons c s (v .spot) e; size = v .size }
+
+  -- the neighbour t, in cell a, has a value too
+  module _ (cons : List ℕ) (e : cons ≡ consAt cs s) (d t a : ℕ) (n : (F : Field) (s : ℕ) → Leaf F w is cons c s → t ≡ near F s d) (g : d < 4)
+      (p : a ≡ cellTo w c d) (k : t ≡ 65535 → ⊥) where
+    pub sized-step : Sized w is cs l a t
+    sized-step = record { F = v .F; spot = step-spot w is cs cons c s e d t n (v .F) a (v .spot) g p k; size = v .size }
+
+    pub step-in : t < length l
+    step-in = let u = step-spot w is cs cons c s e d t n (v .F) a (v .spot) g p k in omega (arith, u .stands .span, v .size)
+
+-- a layer of cell c, as a loop over the cell's layers has it
+module _ (w h : ℕ) (is ks ar cs l : List ℕ) (c i k j : ℕ) (ok : Reached (lent w h is ks ar cs)) (n : length l ≡ length ar)
+    (e : i ≡ getD is c 0) (f : k ≡ getD ks c 0) (g : j < k) where
+  pub layer-sized : Sized w is cs l c (i + j)
+  layer-sized = record { F = lent w h is ks ar cs; spot = layer-spot w h is ks ar cs c i k j e f g ok; size = n }
+
+  pub layer-in : i + j < length l
+  layer-in = sized-in w is cs l c (i + j) layer-sized
+
+-- ---------------------------------------------------------------- the start
+
+module _ (w : ℕ) (is cons ar : List ℕ) (c s d : ℕ) (v : SizedLeaf w is cons ar c s) where
+  pub four-leaf : SomeLeaf w is cons c
+  four-leaf = record { F = v .F; s = s; leaf = v .leaf }
+
+  pub four-in : s < length ar
+  four-in = omega (arith, v .leaf .stands .span, v .size)
+
+module _ (w : ℕ) (is cons ar : List ℕ) (c s d t : ℕ) (g : d < 4) (n : (F : Field) (s : ℕ) → Leaf F w is cons c s → t ≡ near F s d) where
+  pub four-near : SizedLeaf w is cons ar c s → (t ≡ 65535 → ⊥) → t < length ar
+  four-near v k =
+      let e = n (v .F) s (v .leaf) in
+      omega (arith, near-stands (v .F) (v .leaf .reached) c s d (v .leaf .stands) g (λ z. k (e ∙ z)) .span, v .size)
+
+  pub same-none : t ≡ 65535 → getD ar s 0 < 256 → (F : Field) → Leaf F w is cons c s → F .area ≡ ar → 0 ≡ same F s d
+  unfolding same areaOf if_then_else_
+  same-none z b F u q =
+      let m : near F s d ≡ 65535 = sym (n F s u) ∙ z in
+      let past : getD (F .area) (near F s d) 256 ≡ 256 = rw m (List·getD-eq-default (F .area) 256 (omega (arith, u .reached .celled .few))) in
+      let here : getD (F .area) s 256 ≡ getD ar s 0 = getD-any (F .area) s 256 0 (u .stands .span) ∙ ap (λ (x : List ℕ). getD x s 0) q in
+      rw (ne-eqb (getD (F .area) (near F s d) 256) (getD (F .area) s 256) (λ y. omega arith))
+
+  module _ (k : t ≡ 65535 → ⊥) (F : Field) (u : Leaf F w is cons c s) (q : F .area ≡ ar) where
+    there : getD (F .area) (near F s d) 256 ≡ getD ar t 0
+    there =
+        let m : near F s d ≡ t = sym (n F s u) in
+        let i : near F s d < spans F = near-stands F (u .reached) c s d (u .stands) g (λ z. k (n F s u ∙ z)) .span in
+        getD-any (F .area) (near F s d) 256 0 i ∙ rw (m, q)
+
+    here : getD (F .area) s 256 ≡ getD ar s 0
+    here = getD-any (F .area) s 256 0 (u .stands .span) ∙ ap (λ (x : List ℕ). getD x s 0) q
+
+  pub same-yes : (t ≡ 65535 → ⊥) → getD ar t 0 ≡ getD ar s 0 → (F : Field) → Leaf F w is cons c s → F .area ≡ ar → 1 ≡ same F s d
+  unfolding same areaOf if_then_else_
+  same-yes k z F u q = rw (eq-eqb (getD (F .area) (near F s d) 256) (getD (F .area) s 256) (there k F u q ∙ z ∙ sym (here k F u q)))
+
+  pub same-not : (t ≡ 65535 → ⊥) → (getD ar t 0 ≡ getD ar s 0 → ⊥) → (F : Field) → Leaf F w is cons c s → F .area ≡ ar → 0 ≡ same F s d
+  unfolding same areaOf if_then_else_
+  same-not k z F u q = rw (ne-eqb (getD (F .area) (near F s d) 256) (getD (F .area) s 256) (λ y. z (sym (there k F u q) ∙ y ∙ here k F u q)))
+
+-- the four neighbours' counts, of every field that fits what is lent
+module _ (w : ℕ) (is cs ar cons : List ℕ) (c s x₀ x₁ x₂ x₃ : ℕ) (e : cons ≡ consAt cs s)
+    (e₀ : (F : Field) → Leaf F w is cons c s → F .area ≡ ar → x₀ ≡ same F s 0)
+    (e₁ : (F : Field) → Leaf F w is cons c s → F .area ≡ ar → x₁ ≡ same F s 1)
+    (e₂ : (F : Field) → Leaf F w is cons c s → F .area ≡ ar → x₂ ≡ same F s 2)
+    (e₃ : (F : Field) → Leaf F w is cons c s → F .area ≡ ar → x₃ ≡ same F s 3) where
+  pub start-none : x₀ + x₁ + x₂ + x₃ < 4 → (F : Field) → Spot F w is cs c s → F .area ≡ ar → 0 ≡ startAt F s
+  unfolding startAt if_then_else_
+  start-none h F v q =
+      let u = spot-leaf F w is cs cons c s v e in
+      rw (← e₀ F u q, ← e₁ F u q, ← e₂ F u q, ← e₃ F u q, lt-ltb (x₀ + x₁ + x₂ + x₃) 4 h)
+
+  pub start-all : 4 ≤ x₀ + x₁ + x₂ + x₃ → (F : Field) → Spot F w is cs c s → F .area ≡ ar → 65535 ≡ startAt F s
+  unfolding startAt if_then_else_
+  start-all h F v q =
+      let u = spot-leaf F w is cs cons c s v e in
+      rw (← e₀ F u q, ← e₁ F u q, ← e₂ F u q, ← e₃ F u q, le-ltb (x₀ + x₁ + x₂ + x₃) 4 h)
+
+-- one layer more: v is what the start gives span i + j, of every field that fits what is lent
+pub start-go : (w h : ℕ) (is ks ar cs : List ℕ) (c i k j v : ℕ) (l m : List ℕ) → Reached (lent w h is ks ar cs) → i ≡ getD is c 0 → k ≡ getD ks c 0 → j < k
+    → m ≡ upto j (λ t. startTo (lent w h is ks ar cs) (i + t)) l
+    → ((F : Field) → Spot F w is cs c (i + j) → F .area ≡ ar → v ≡ startAt F (i + j))
+    → set m (i + j) v ≡ upto (j + 1) (λ t. startTo (lent w h is ks ar cs) (i + t)) l
+unfolding startTo
+start-go w h is ks ar cs c i k j v l m ok e f g p q =
+    upto-go (λ t. startTo (lent w h is ks ar cs) (i + t)) j l m (set m (i + j) v) p
+    (ap (set m (i + j)) (q (lent w h is ks ar cs) (layer-spot w h is ks ar cs c i k j e f g ok) refl))

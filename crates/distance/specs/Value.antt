@@ -1,0 +1,60 @@
+-- What a stage gives a span, and the bounds that keep every sum within 65,535.
+use Prim.Native.Nat.{ℕ, _+_, _*_, _%_, _≤_, _<_, min}
+use mathlib.Core.Path.{_≡_}
+use mathlib.Core.List.{List}
+use lib.ListN.{length, set}
+use lib.Dec.{ltb}
+use Rattle.rules.specs.Base.{if_then_else_}
+use Rattle.rules.specs.Field.{Field, spans, near, cellOf, conOf}
+use Rattle.rules.specs.Distance.{same, far, blurAt}
+use Rattle.field.specs.Lent.{Spot, Leaf}
+
+-- a span's value at the start, and the list with it
+unfoldable pub startAt : Field → ℕ → ℕ
+startAt F s = if ltb (same F s 0 + same F s 1 + same F s 2 + same F s 3) 4 then 0 else 65535
+
+unfoldable pub startTo : Field → ℕ → List ℕ → List ℕ
+startTo F s l = set l s (startAt F s)
+
+-- neighbour a plus 2 or its neighbour b plus 3, whichever is less
+unfoldable pub side : Field → List ℕ → ℕ → ℕ → ℕ → ℕ
+side F l s a b = min (far l (near F s a) + 2) (far l (near F (near F s a) b) + 3)
+
+-- a span's value after a pass that looks at two sides
+unfoldable pub least : Field → ℕ → ℕ → ℕ → ℕ → ℕ → List ℕ → ℕ
+least F a b c e s l = min (far l s) (min (side F l s a b) (side F l s c e))
+
+-- the blurred list with the blurred value of span s of the raw list l
+unfoldable pub blurTo : Field → List ℕ → ℕ → List ℕ → List ℕ
+blurTo F l s m = set m s (blurAt F l s)
+
+-- pass 1 has gone through the cells before c: their spans hold at most twice their column, and a span with no neighbour 0 holds 0
+pub record Passing (F : Field) (c : ℕ) (l : List ℕ) : Type 0 where
+  pub size : length l ≡ spans F
+  pub low : (t : ℕ) → t < spans F → cellOf (F .count) t < c → far l t ≤ 2 * (cellOf (F .count) t % F .w)
+  pub edge : (t : ℕ) → t < spans F → conOf F t 0 ≡ 255 → far l t ≡ 0
+
+-- every value is at most 510, as after pass 1
+pub record Low (F : Field) (l : List ℕ) : Type 0 where
+  pub size : length l ≡ spans F
+  pub low : (t : ℕ) → t < spans F → far l t ≤ 510
+
+-- a list with a value for each span of a field that is lent, of which span s stands in cell c
+pub record Sized (w : ℕ) (index con l : List ℕ) (c s : ℕ) : Type 0 where
+  pub F : Field
+  pub spot : Spot F w index con c s
+  pub size : length l ≡ spans F
+
+-- the same with no more of the connections than the four of span s
+pub record SizedLeaf (w : ℕ) (index cons l : List ℕ) (c s : ℕ) : Type 0 where
+  pub F : Field
+  pub leaf : Leaf F w index cons c s
+  pub size : length l ≡ spans F
+
+-- a sized list with room for the sums that neighbour a and its neighbour b make
+pub record Room (w : ℕ) (index con l : List ℕ) (c s a b : ℕ) : Type 0 where
+  pub F : Field
+  pub spot : Spot F w index con c s
+  pub size : length l ≡ spans F
+  pub first : near F s a < spans F → far l (near F s a) ≤ 510
+  pub second : near F (near F s a) b < spans F → far l (near F (near F s a) b) ≤ 510

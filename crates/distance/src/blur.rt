@@ -1,0 +1,155 @@
+// The greatest value, and the box blur.
+use field::place::NO_SPAN;
+use field::place::Place;
+use field::place::SpanIx;
+use field::place::connections;
+use field::place::corner;
+use field::place::step;
+use field::read::at8;
+use field::read::at16;
+use field::read::at32;
+ghost use mathlib.Core.Path.{_≡_};
+ghost use Prim.Native.Nat.{_<_, _≤_, max};
+ghost use lib.ListN.{length};
+ghost use Rattle.rules.specs.Field.{Field};
+ghost use Rattle.rules.specs.Distance as rules;
+ghost use Rattle.field.specs.Lent.{lent, Reached, Spot, consAt};
+ghost use Rattle.distance.specs.Walk.{overCell, rowUp};
+ghost use Rattle.distance.specs.Value.{blurTo, Sized};
+
+// A raw value of at most this stays.
+pub const THRESHOLD: usize = 2;
+
+fn larger(a: u16, b: u16) -> u16
+    ensures { λ r. ⌜ r ≡ max a b ⌝ }
+{
+    if a < b {
+        return b;
+    }
+    a
+}
+
+// The greatest value of a list, 0 for none.
+pub fn greatest(raw: &[u16]) -> u16
+    ensures { λ r. ⌜ r ≡ rules.greatest (now (raw .entry)) ⌝ }
+{
+    let mut best: u16 = 0;
+    for i in 0..raw.len() {
+        best = larger(best, raw[i]);
+    }
+    best
+}
+
+// The terms of direction d for the span at place p, which holds v: its neighbour and its corner neighbour, or v for each that is missing.
+fn term(
+    w: usize,
+    index: &[u32],
+    con: &[u8],
+    raw: &[u16],
+    cons: [u8; 4],
+    p: Place,
+    d: usize,
+    v: usize,
+) -> usize
+    requires { ⌜ Sized w (now index) (now con) (now raw) (p .cell) (p .span .0) × (cons ≡ consAt (now con) (p .span .0)) × (d < 4) × (v < 65536) ⌝ }
+    ensures { λ r. ⌜ ((F : Field) → Spot F w (now (index .entry)) (now (con .entry)) (p .cell) (p .span .0) → r ≡ rules.term F (now (raw .entry)) (p .span .0) v d) × (r ≤ 131070) ⌝ }
+{
+    let q = step(w, index, cons, p.cell, d);
+    let t = q.span.0;
+    if t == NO_SPAN {
+        return v * 2;
+    }
+    let x = at16(raw, t);
+    let k = corner(w, index, con, q, d);
+    let u = k.0;
+    if u == NO_SPAN {
+        return x + v;
+    }
+    x + at16(raw, u)
+}
+
+// The blurred value of the span at place p.
+fn blur_span(w: usize, index: &[u32], con: &[u8], raw: &[u16], p: Place) -> u16
+    requires { ⌜ Sized w (now index) (now con) (now raw) (p .cell) (p .span .0) ⌝ }
+    ensures { λ r. ⌜ ((F : Field) → Spot F w (now (index .entry)) (now (con .entry)) (p .cell) (p .span .0) → r ≡ rules.blurAt F (now (raw .entry)) (p .span .0)) ⌝ }
+{
+    let s = p.span;
+    let i = p.span.0;
+    let v = at16(raw, i);
+    if v <= THRESHOLD {
+        return v as u16;
+    }
+    let cons = connections(con, s);
+    let a = term(w, index, con, raw, cons, p, 0, v);
+    let b = term(w, index, con, raw, cons, p, 1, v);
+    let c = term(w, index, con, raw, cons, p, 2, v);
+    let d = term(w, index, con, raw, cons, p, 3, v);
+    ((v + a + b + c + d + 5) / 9) as u16
+}
+
+// The spans of cell c.
+fn blur_cell(
+    w: usize,
+    h: usize,
+    index: &[u32],
+    count: &[u8],
+    area: &[u8],
+    con: &[u8],
+    raw: &[u16],
+    blurred: &mut [u16],
+    c: usize,
+)
+    requires { ⌜ Reached (lent w h (now index) (now count) (now area) (now con)) × (length (now raw) ≡ length (now area)) × (length (now blurred) ≡ length (now area)) × (c < length (now count)) ⌝ }
+    ensures { λ _. ⌜ now (blurred .exit) ≡ overCell (lent w h (now (index .entry)) (now (count .entry)) (now (area .entry)) (now (con .entry))) (blurTo (lent w h (now (index .entry)) (now (count .entry)) (now (area .entry)) (now (con .entry))) (now (raw .entry))) c (now (blurred .entry)) ⌝ }
+{
+    let i = at32(index, c);
+    let k = at8(count, c);
+    for j in 0..k {
+        let s = i + j;
+        let p = Place {
+            cell: c,
+            span: SpanIx(s),
+        };
+        blurred[s] = blur_span(w, index, con, raw, p);
+    }
+}
+
+// Row y.
+pub fn blur_row(
+    w: usize,
+    h: usize,
+    index: &[u32],
+    count: &[u8],
+    area: &[u8],
+    con: &[u8],
+    raw: &[u16],
+    blurred: &mut [u16],
+    y: usize,
+)
+    requires { ⌜ Reached (lent w h (now index) (now count) (now area) (now con)) × (length (now raw) ≡ length (now area)) × (length (now blurred) ≡ length (now area)) × (y < h) ⌝ }
+    ensures { λ _. ⌜ now (blurred .exit) ≡ rowUp (lent w h (now (index .entry)) (now (count .entry)) (now (area .entry)) (now (con .entry))) (blurTo (lent w h (now (index .entry)) (now (count .entry)) (now (area .entry)) (now (con .entry))) (now (raw .entry))) y (now (blurred .entry)) ⌝ }
+{
+    let first = w * y;
+    for x in 0..w {
+        blur_cell(w, h, index, count, area, con, raw, blurred, first + x);
+    }
+}
+
+// Every row.
+pub fn box_blur(
+    w: usize,
+    h: usize,
+    index: &[u32],
+    count: &[u8],
+    area: &[u8],
+    con: &[u8],
+    raw: &[u16],
+    blurred: &mut [u16],
+)
+    requires { ⌜ Reached (lent w h (now index) (now count) (now area) (now con)) × (length (now raw) ≡ length (now area)) × (length (now blurred) ≡ length (now area)) ⌝ }
+    ensures { λ _. ⌜ now (blurred .exit) ≡ rules.blur (lent w h (now (index .entry)) (now (count .entry)) (now (area .entry)) (now (con .entry))) (now (raw .entry)) ⌝ }
+{
+    for y in 0..h {
+        blur_row(w, h, index, count, area, con, raw, blurred, y);
+    }
+}

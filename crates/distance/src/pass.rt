@@ -1,0 +1,214 @@
+// The two passes: each span takes the least of itself and of what its neighbours on two sides hold, plus 2, or plus 3 at a corner.
+use field::place::NO_SPAN;
+use field::place::Place;
+use field::place::SpanIx;
+use field::place::connections;
+use field::place::step;
+use field::place::step_from;
+use field::read::at8;
+use field::read::at32;
+ghost use mathlib.Core.Path.{_≡_};
+ghost use Prim.Native.Nat.{_+_, _*_, _<_, _≤_, min};
+ghost use lib.ListN.{length, getD};
+ghost use Rattle.rules.specs.Field.{Field};
+ghost use Rattle.rules.specs.Distance as rules;
+ghost use Rattle.field.specs.Lent.{lent, Reached, Spot, consAt};
+ghost use Rattle.distance.specs.Walk.{overCell, rowUp, rowDown};
+ghost use Rattle.distance.specs.Value.{least, Passing, Low, Room};
+ghost use Rattle.distance.specs.Value as value;
+
+// The least of best and the value of span t plus n.
+fn lower(raw: &[u16], t: usize, n: u16, best: u16) -> u16
+    requires { ⌜ (t < length (now raw)) × (getD (now raw) t 0 ≤ 510) × (n ≤ 3) ⌝ }
+    ensures { λ r. ⌜ r ≡ min best (getD (now (raw .entry)) t 0 + n) ⌝ }
+{
+    let v = raw[t] + n;
+    if best <= v {
+        return best;
+    }
+    v
+}
+
+// The least of best, neighbour d plus 2, and its neighbour e plus 3, of the span at place p, whose connections are cons.
+fn side(
+    w: usize,
+    index: &[u32],
+    con: &[u8],
+    raw: &[u16],
+    cons: [u8; 4],
+    p: Place,
+    d: usize,
+    e: usize,
+    best: u16,
+) -> u16
+    requires { ⌜ Room w (now index) (now con) (now raw) (p .cell) (p .span .0) d e × (cons ≡ consAt (now con) (p .span .0)) × (d < 4) × (e < 4) ⌝ }
+    ensures { λ r. ⌜ ((F : Field) → Spot F w (now (index .entry)) (now (con .entry)) (p .cell) (p .span .0) → r ≡ min best (value.side F (now (raw .entry)) (p .span .0) d e)) ⌝ }
+{
+    let q = step(w, index, cons, p.cell, d);
+    let t = q.span.0;
+    if t == NO_SPAN {
+        return best;
+    }
+    let b = lower(raw, t, 2, best);
+    let k = step_from(w, index, con, q, e);
+    let u = k.span.0;
+    if u == NO_SPAN {
+        return b;
+    }
+    lower(raw, u, 3, b)
+}
+
+// What a pass gives the span at place p: it looks at neighbour a and its neighbour b, and at neighbour c and its neighbour e.
+fn lowered(
+    w: usize,
+    index: &[u32],
+    con: &[u8],
+    raw: &[u16],
+    p: Place,
+    a: usize,
+    b: usize,
+    c: usize,
+    e: usize,
+) -> u16
+    requires { ⌜ Room w (now index) (now con) (now raw) (p .cell) (p .span .0) a b × Room w (now index) (now con) (now raw) (p .cell) (p .span .0) c e × (a < 4) × (b < 4) × (c < 4) × (e < 4) ⌝ }
+    ensures { λ r. ⌜ ((F : Field) → Spot F w (now (index .entry)) (now (con .entry)) (p .cell) (p .span .0) → r ≡ least F a b c e (p .span .0) (now (raw .entry))) ⌝ }
+{
+    let s = p.span;
+    let cons = connections(con, s);
+    let i = p.span.0;
+    let own = raw[i];
+    let best = side(w, index, con, raw, cons, p, a, b, own);
+    side(w, index, con, raw, cons, p, c, e, best)
+}
+
+// Pass 1 over the spans of cell c.
+fn pass1_cell(
+    w: usize,
+    h: usize,
+    index: &[u32],
+    count: &[u8],
+    area: &[u8],
+    con: &[u8],
+    raw: &mut [u16],
+    c: usize,
+)
+    requires { ⌜ Reached (lent w h (now index) (now count) (now area) (now con)) × (c < length (now count)) × Passing (lent w h (now index) (now count) (now area) (now con)) c (now raw) ⌝ }
+    ensures { λ _. ⌜ (now (raw .exit) ≡ overCell (lent w h (now (index .entry)) (now (count .entry)) (now (area .entry)) (now (con .entry))) (rules.lower (lent w h (now (index .entry)) (now (count .entry)) (now (area .entry)) (now (con .entry))) 0 3 3 2) c (now (raw .entry))) × Passing (lent w h (now (index .entry)) (now (count .entry)) (now (area .entry)) (now (con .entry))) (c + 1) (now (raw .exit)) ⌝ }
+{
+    let i = at32(index, c);
+    let k = at8(count, c);
+    for j in 0..k {
+        let s = i + j;
+        let p = Place {
+            cell: c,
+            span: SpanIx(s),
+        };
+        raw[s] = lowered(w, index, con, raw, p, 0, 3, 3, 2);
+    }
+}
+
+// Pass 1 over row y, columns upward.
+pub fn pass1_row(
+    w: usize,
+    h: usize,
+    index: &[u32],
+    count: &[u8],
+    area: &[u8],
+    con: &[u8],
+    raw: &mut [u16],
+    y: usize,
+)
+    requires { ⌜ Reached (lent w h (now index) (now count) (now area) (now con)) × (y < h) × Passing (lent w h (now index) (now count) (now area) (now con)) (w * y) (now raw) ⌝ }
+    ensures { λ _. ⌜ (now (raw .exit) ≡ rowUp (lent w h (now (index .entry)) (now (count .entry)) (now (area .entry)) (now (con .entry))) (rules.lower (lent w h (now (index .entry)) (now (count .entry)) (now (area .entry)) (now (con .entry))) 0 3 3 2) y (now (raw .entry))) × Passing (lent w h (now (index .entry)) (now (count .entry)) (now (area .entry)) (now (con .entry))) (w * (y + 1)) (now (raw .exit)) ⌝ }
+{
+    let first = w * y;
+    for x in 0..w {
+        pass1_cell(w, h, index, count, area, con, raw, first + x);
+    }
+}
+
+// Pass 1.
+pub fn pass1(
+    w: usize,
+    h: usize,
+    index: &[u32],
+    count: &[u8],
+    area: &[u8],
+    con: &[u8],
+    raw: &mut [u16],
+)
+    requires { ⌜ Reached (lent w h (now index) (now count) (now area) (now con)) × Passing (lent w h (now index) (now count) (now area) (now con)) 0 (now raw) ⌝ }
+    ensures { λ _. ⌜ (now (raw .exit) ≡ rules.pass1 (lent w h (now (index .entry)) (now (count .entry)) (now (area .entry)) (now (con .entry))) (now (raw .entry))) × Low (lent w h (now (index .entry)) (now (count .entry)) (now (area .entry)) (now (con .entry))) (now (raw .exit)) ⌝ }
+{
+    for y in 0..h {
+        pass1_row(w, h, index, count, area, con, raw, y);
+    }
+}
+
+// Pass 2 over the spans of cell c, layers upward.
+fn pass2_cell(
+    w: usize,
+    h: usize,
+    index: &[u32],
+    count: &[u8],
+    area: &[u8],
+    con: &[u8],
+    raw: &mut [u16],
+    c: usize,
+)
+    requires { ⌜ Reached (lent w h (now index) (now count) (now area) (now con)) × (c < length (now count)) × Low (lent w h (now index) (now count) (now area) (now con)) (now raw) ⌝ }
+    ensures { λ _. ⌜ (now (raw .exit) ≡ overCell (lent w h (now (index .entry)) (now (count .entry)) (now (area .entry)) (now (con .entry))) (rules.lower (lent w h (now (index .entry)) (now (count .entry)) (now (area .entry)) (now (con .entry))) 2 1 1 0) c (now (raw .entry))) × Low (lent w h (now (index .entry)) (now (count .entry)) (now (area .entry)) (now (con .entry))) (now (raw .exit)) ⌝ }
+{
+    let i = at32(index, c);
+    let k = at8(count, c);
+    for j in 0..k {
+        let s = i + j;
+        let p = Place {
+            cell: c,
+            span: SpanIx(s),
+        };
+        raw[s] = lowered(w, index, con, raw, p, 2, 1, 1, 0);
+    }
+}
+
+// Pass 2 over row y, columns downward.
+pub fn pass2_row(
+    w: usize,
+    h: usize,
+    index: &[u32],
+    count: &[u8],
+    area: &[u8],
+    con: &[u8],
+    raw: &mut [u16],
+    y: usize,
+)
+    requires { ⌜ Reached (lent w h (now index) (now count) (now area) (now con)) × (y < h) × Low (lent w h (now index) (now count) (now area) (now con)) (now raw) ⌝ }
+    ensures { λ _. ⌜ (now (raw .exit) ≡ rowDown (lent w h (now (index .entry)) (now (count .entry)) (now (area .entry)) (now (con .entry))) (rules.lower (lent w h (now (index .entry)) (now (count .entry)) (now (area .entry)) (now (con .entry))) 2 1 1 0) y (now (raw .entry))) × Low (lent w h (now (index .entry)) (now (count .entry)) (now (area .entry)) (now (con .entry))) (now (raw .exit)) ⌝ }
+{
+    let first = w * y;
+    let mut x = w;
+    while 0 < x {
+        x -= 1;
+        pass2_cell(w, h, index, count, area, con, raw, first + x);
+    }
+}
+
+// Pass 2.
+pub fn pass2(
+    w: usize,
+    h: usize,
+    index: &[u32],
+    count: &[u8],
+    area: &[u8],
+    con: &[u8],
+    raw: &mut [u16],
+)
+    requires { ⌜ Reached (lent w h (now index) (now count) (now area) (now con)) × Low (lent w h (now index) (now count) (now area) (now con)) (now raw) ⌝ }
+    ensures { λ _. ⌜ (now (raw .exit) ≡ rules.pass2 (lent w h (now (index .entry)) (now (count .entry)) (now (area .entry)) (now (con .entry))) (now (raw .entry))) × Low (lent w h (now (index .entry)) (now (count .entry)) (now (area .entry)) (now (con .entry))) (now (raw .exit)) ⌝ }
+{
+    let mut y = h;
+    while 0 < y {
+        y -= 1;
+        pass2_row(w, h, index, count, area, con, raw, y);
+    }
+}

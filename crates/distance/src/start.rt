@@ -1,0 +1,115 @@
+// The start: 65,535, and 0 for a span with fewer than four neighbours of its own area.
+use field::place::NO_SPAN;
+use field::place::Place;
+use field::place::SpanIx;
+use field::place::connections;
+use field::place::step;
+use field::read::at8;
+use field::read::at32;
+ghost use mathlib.Core.Path.{_≡_};
+ghost use Prim.Native.Nat.{_*_, _<_, _≤_};
+ghost use lib.ListN.{length};
+ghost use Rattle.rules.specs.Field.{Field, spans};
+ghost use Rattle.rules.specs.Distance as rules;
+ghost use Rattle.field.specs.Lent.{lent, Reached, Spot, Leaf};
+ghost use Rattle.distance.specs.Walk.{overCell, rowUp};
+ghost use Rattle.distance.specs.Value.{startAt, startTo, Sized, SizedLeaf};
+
+// 1 for a neighbour in direction d of the span's own area.
+fn same(w: usize, index: &[u32], area: &[u8], cons: [u8; 4], p: Place, d: usize) -> usize
+    requires { ⌜ SizedLeaf w (now index) cons (now area) (p .cell) (p .span .0) × (d < 4) ⌝ }
+    ensures { λ r. ⌜ ((F : Field) → Leaf F w (now (index .entry)) cons (p .cell) (p .span .0) → F .area ≡ now (area .entry) → r ≡ rules.same F (p .span .0) d) × (r ≤ 1) ⌝ }
+{
+    let s = p.span.0;
+    let own = area[s];
+    let q = step(w, index, cons, p.cell, d);
+    let t = q.span.0;
+    if t == NO_SPAN {
+        return 0;
+    }
+    if area[t] == own {
+        return 1;
+    }
+    0
+}
+
+// The start of the span at place p.
+fn start_span(w: usize, index: &[u32], con: &[u8], area: &[u8], p: Place) -> u16
+    requires { ⌜ Sized w (now index) (now con) (now area) (p .cell) (p .span .0) ⌝ }
+    ensures { λ r. ⌜ ((F : Field) → Spot F w (now (index .entry)) (now (con .entry)) (p .cell) (p .span .0) → F .area ≡ now (area .entry) → r ≡ startAt F (p .span .0)) ⌝ }
+{
+    let s = p.span;
+    let cons = connections(con, s);
+    let a = same(w, index, area, cons, p, 0);
+    let b = same(w, index, area, cons, p, 1);
+    let c = same(w, index, area, cons, p, 2);
+    let d = same(w, index, area, cons, p, 3);
+    if a + b + c + d < 4 {
+        return 0;
+    }
+    65535
+}
+
+// The spans of cell c.
+fn start_cell(
+    w: usize,
+    h: usize,
+    index: &[u32],
+    count: &[u8],
+    area: &[u8],
+    con: &[u8],
+    raw: &mut [u16],
+    c: usize,
+)
+    requires { ⌜ Reached (lent w h (now index) (now count) (now area) (now con)) × (c < length (now count)) × (length (now raw) ≡ length (now area)) ⌝ }
+    ensures { λ _. ⌜ now (raw .exit) ≡ overCell (lent w h (now (index .entry)) (now (count .entry)) (now (area .entry)) (now (con .entry))) (startTo (lent w h (now (index .entry)) (now (count .entry)) (now (area .entry)) (now (con .entry)))) c (now (raw .entry)) ⌝ }
+{
+    let i = at32(index, c);
+    let k = at8(count, c);
+    for j in 0..k {
+        let s = i + j;
+        let p = Place {
+            cell: c,
+            span: SpanIx(s),
+        };
+        raw[s] = start_span(w, index, con, area, p);
+    }
+}
+
+// Row y.
+pub fn start_row(
+    w: usize,
+    h: usize,
+    index: &[u32],
+    count: &[u8],
+    area: &[u8],
+    con: &[u8],
+    raw: &mut [u16],
+    y: usize,
+)
+    requires { ⌜ Reached (lent w h (now index) (now count) (now area) (now con)) × (y < h) × (length (now raw) ≡ length (now area)) ⌝ }
+    ensures { λ _. ⌜ now (raw .exit) ≡ rowUp (lent w h (now (index .entry)) (now (count .entry)) (now (area .entry)) (now (con .entry))) (startTo (lent w h (now (index .entry)) (now (count .entry)) (now (area .entry)) (now (con .entry)))) y (now (raw .entry)) ⌝ }
+{
+    let first = w * y;
+    for x in 0..w {
+        start_cell(w, h, index, count, area, con, raw, first + x);
+    }
+}
+
+// Every row.
+pub fn start(
+    w: usize,
+    h: usize,
+    index: &[u32],
+    count: &[u8],
+    area: &[u8],
+    con: &[u8],
+    raw: &mut [u16],
+)
+    requires { ⌜ Reached (lent w h (now index) (now count) (now area) (now con)) × (length (now raw) ≡ length (now area)) ⌝ }
+    ensures { λ _. ⌜ now (raw .exit) ≡ rules.start (lent w h (now (index .entry)) (now (count .entry)) (now (area .entry)) (now (con .entry))) ⌝ }
+{
+    for y in 0..h {
+        start_row(w, h, index, count, area, con, raw, y);
+    }
+}

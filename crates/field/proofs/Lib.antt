@@ -1,0 +1,4 @@
+pub mod Loops
+pub mod Places
+pub mod Checks
+pub mod Refused

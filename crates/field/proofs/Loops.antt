@@ -1,0 +1,74 @@
+-- Loops that test or step through every number below a bound, as a port's code has them. Assumes nothing.
+use Prim.Native.Nat.{ℕ, zero, suc, _+_, _*_, _<_, _≤_}
+use native.Mathlib.Omega.{arith}
+use native.Mathlib.Nat.{le-trans, mul-le-mul-left}
+use native.Mathlib.Numerals.{add-one}
+use native.Mathlib.Decide.{decLt}
+use mathlib.Core.Path.{_≡_, refl, sym, _∙_}
+use mathlib.Core.Bool.{Bool, true, false}
+use Rattle.rules.specs.Base.{_and_, upto, every}
+use Rattle.laws.proofs.Basics.{and-no}
+
+-- `and` is associative
+and-and : (a b c : Bool) → a and b and c ≡ a and (b and c)
+unfolding _and_
+and-and true b c = refl
+and-and false b c = refl
+
+pub every-stop : (n : ℕ) (p : ℕ → Bool) (i : ℕ) → i < n → p i ≡ false → every n p ≡ false
+unfolding every _and_
+every-stop zero p i h e = absurd (omega arith)
+every-stop (suc n) p i h e =
+    elim (decLt i n) [ yes g ↦ rw (every-stop n p i g e) | no g ↦ let q : i ≡ n = omega arith in let z : p n ≡ false = rw q at e in rw z (and-no (every n p)) ]
+
+pub every-ext : (n : ℕ) (p q : ℕ → Bool) → ((i : ℕ) → i < n → p i ≡ q i) → every n p ≡ every n q
+unfolding every
+every-ext zero p q h = refl
+every-ext (suc n) p q h = rw (every-ext n p q (λ i g. h i (omega arith)), h n (omega arith))
+
+-- a test of a + k numbers is a test of a, and one of the k that follow
+pub every-join : (a k : ℕ) (p : ℕ → Bool) → every (a + k) p ≡ every a p and every k (λ j. p (a + j))
+unfolding every _and_
+every-join a zero p = let e : a + 0 ≡ a = omega arith in rw e (and-yes (every a p))
+  where
+    and-yes : (b : Bool) → b ≡ b and true
+    and-yes true = refl
+    and-yes false = refl
+every-join a (suc k) p =
+    let e : a + suc k ≡ suc (a + k) = omega arith in rw (e, every-join a k p) (and-and (every a p) (every k (λ j. p (a + j))) (p (a + k)))
+
+-- the loop that tests p, with r the test's result at i
+module _ (p : ℕ → Bool) where
+  pub every-go : (i : ℕ) (r : Bool) → every i p ≡ true → r ≡ p i → r ≡ true → every (i + 1) p ≡ true
+  unfolding every _and_
+  every-go i r a e t = rw (add-one, a) (sym e ∙ t)
+
+  pub every-halt : (n i : ℕ) (r : Bool) → i < n → r ≡ p i → r ≡ false → false ≡ every n p
+  every-halt n i r h e t = sym (every-stop n p i h (sym e ∙ t))
+
+  pub every-end : (n i : ℕ) → every i p ≡ true → i ≤ n → n ≤ i → true ≡ every n p
+  every-end n i a h g = let q : n ≡ i = omega arith in rw (q, a)
+
+-- the loop that takes the steps f 0, f 1, .. below n, from s; t is the state at i, and u the next
+module _ {ℓ} {A : Type ℓ} (f : ℕ → A → A) where
+  pub upto-go : (i : ℕ) (s t u : A) → t ≡ upto i f s → u ≡ f i t → u ≡ upto (i + 1) f s
+  unfolding upto
+  upto-go i s t u e g = rw (add-one, ← e) g
+
+  pub upto-end : (n i : ℕ) (s t : A) → t ≡ upto i f s → i ≤ n → n ≤ i → t ≡ upto n f s
+  upto-end n i s t e h g = let q : n ≡ i = omega arith in rw q e
+
+-- a + k steps are a steps and the k that follow
+pub upto-join {ℓ} : {A : Type ℓ} (a k : ℕ) (f : ℕ → A → A) (s : A) → upto (a + k) f s ≡ upto k (λ j. f (a + j)) (upto a f s)
+unfolding upto
+upto-join a zero f s = let e : a + 0 ≡ a = omega arith in rw e
+upto-join a (suc k) f s = let e : a + suc k ≡ suc (a + k) = omega arith in rw (e, upto-join a k f s)
+
+pub upto-ext {ℓ} : {A : Type ℓ} (n : ℕ) (f g : ℕ → A → A) (s : A) → ((i : ℕ) (x : A) → i < n → f i x ≡ g i x) → upto n f s ≡ upto n g s
+unfolding upto
+upto-ext zero f g s h = refl
+upto-ext (suc n) f g s h = rw (upto-ext n f g s (λ i x l. h i x (omega arith))) (h n (upto n g s) (omega arith))
+
+-- a product of two numbers of at most 256
+pub product-small : (w h : ℕ) → w ≤ 256 → h ≤ 256 → w * h ≤ 65536
+product-small w h a b = le-trans (mul-le-mul-left w b) (omega arith)

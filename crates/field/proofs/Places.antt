@@ -1,0 +1,280 @@
+-- Cells, spans and connections of a field that refusals 1 to 4, or 1 to 5, leave. Assumes nothing.
+use Prim.Native.Nat.{ℕ, zero, suc, _+_, _*_, _-_, _/_, _%_, _≤_, _<_}
+use native.Mathlib.Omega.{arith}
+use native.Mathlib.Nat.{mod-lt, suc-mul, mul-comm, div-add-mod', div-lt-iff-lt-mul}
+use native.Mathlib.Numerals.{add-one}
+use native.Mathlib.Decide.{ℕ-discrete}
+use lib.Arith.{digits-lt}
+use mathlib.Core.Path.{_≡_, refl, sym, ap, _∙_}
+use mathlib.Core.Bool.{true, false, false≢true}
+use mathlib.Core.List.{List, [], _∷_}
+use lib.ListN.{length, getD}
+use lib.Dec.{eqb, leb}
+use borrow.Author.Tests.{eqb-true, ne-eqb, ltb-true, not-true}
+use Rattle.rules.specs.Base.{_or_}
+use Rattle.rules.specs.Field.{Field, spans, none, near, corner, cellOf, cellTo, leaves, conOf}
+use Rattle.rules.specs.Refusals.{goodCells, goodCon, goodBack}
+use Rattle.laws.proofs.Basics.{both, either, tests, in-list}
+use Rattle.laws.proofs.Cells.{before, before-lt, cellOf-at, cellOf-in, Cell, cells-at, cells-sum, Leads, near-none, near-is}
+use Rattle.laws.proofs.Passes.{wide-pos}
+use Rattle.field.specs.Lent.{Stands, Celled, Reached, Spot, Leaf, SomeSpot, SomeLeaf, consAt}
+
+-- what is read within a list is the same for every default
+pub getD-any : (l : List ℕ) (i d e : ℕ) → i < length l → getD l i d ≡ getD l i e
+getD-any [] i d e h = absurd (omega arith)
+getD-any (x ∷ l) zero d e h = refl
+getD-any (x ∷ l) (suc i) d e h = getD-any l i d e (omega arith)
+
+-- ---------------------------------------------------------------- the cell across, by direction
+
+module _ (w c d : ℕ) where
+  pub across-0 : d ≡ 0 → (r : ℕ) → r ≡ c - 1 → r ≡ cellTo w c d
+  unfolding cellTo
+  across-0 e r f = rw (e, f)
+
+  pub across-1 : d ≡ 1 → c + w ≡ cellTo w c d
+  unfolding cellTo
+  across-1 e = rw e
+
+  pub across-2 : d ≡ 2 → c + 1 ≡ cellTo w c d
+  unfolding cellTo
+  across-2 e = rw e
+
+  pub across-3 : d < 4 → (d ≡ 0 → ⊥) → (d ≡ 1 → ⊥) → (d ≡ 2 → ⊥) → (r : ℕ) → r ≡ c - w → r ≡ cellTo w c d
+  unfolding cellTo
+  across-3 h a b e r f = let q : d ≡ 3 = omega arith in rw (q, f)
+
+  module _ (h : ℕ) where
+    pub leaves-0 : d ≡ 0 → eqb (c % w) 0 ≡ leaves w h c d
+    unfolding leaves
+    leaves-0 e = rw e
+
+    pub leaves-1 : d ≡ 1 → leb h (c / w + 1) ≡ leaves w h c d
+    unfolding leaves
+    leaves-1 e = rw e
+
+    pub leaves-2 : d ≡ 2 → leb w (c % w + 1) ≡ leaves w h c d
+    unfolding leaves
+    leaves-2 e = rw e
+
+    pub leaves-3 : d < 4 → (d ≡ 0 → ⊥) → (d ≡ 1 → ⊥) → (d ≡ 2 → ⊥) → eqb (c / w) 0 ≡ leaves w h c d
+    unfolding leaves
+    leaves-3 l a b e = let q : d ≡ 3 = omega arith in rw q
+
+-- ---------------------------------------------------------------- cells
+
+module _ (F : Field) (ok : Celled F) where
+  pub cell-is : (c : ℕ) → Cell (F .index) (F .count) 0 c
+  cell-is c = cells-at (F .index) (F .count) 0 (spans F) (ok .cells) c
+
+  pub sum-is : before (F .count) (length (F .count)) ≡ spans F
+  sum-is = omega (arith, cells-sum (F .index) (F .count) 0 (spans F) (ok .cells))
+
+  -- a layer of a cell is a span of it
+  pub layer-stands : (c j : ℕ) → j < getD (F .count) c 0 → Stands F c (getD (F .index) c 0 + j)
+  layer-stands c j h =
+      let starts : getD (F .index) c 0 ≡ 0 + before (F .count) c = cell-is c .starts (omega arith) in
+      let here : getD (F .index) c 0 + j ≡ before (F .count) c + j = omega arith in
+      let last = before-lt (F .count) c (length (F .count)) j h (in-list (F .count) c (omega arith)) in
+      record { span = omega (arith, sum-is); cell = rw here (cellOf-at (F .count) c j h) }
+
+  -- the same as a loop over the layers has it, with the cell's index and count read before it, as i and k
+  pub stands-at : (c i k j : ℕ) → i ≡ getD (F .index) c 0 → k ≡ getD (F .count) c 0 → j < k → Stands F c (i + j)
+  stands-at c i k j e f h = rw e (layer-stands c j (omega arith))
+
+  -- the cell of a span is in the grid
+  pub stands-in : (c s : ℕ) → Stands F c s → c < F .w * F .h
+  stands-in c s h =
+      let r = cellOf-in (F .count) s (rw sum-is (h .span)) in
+      omega (arith, r .2, h .cell, ok .counted)
+
+  pub stands-small : (c s : ℕ) → Stands F c s → c < 65536
+  stands-small c s h = omega (arith, stands-in c s h, ok .grid)
+
+-- the spans in the cells before c
+unfoldable pub firstOf : List ℕ → ℕ → ℕ
+firstOf ks zero = 0
+firstOf ks (suc c) = firstOf ks c + getD ks c 0
+
+first-cons : (x : ℕ) (ks : List ℕ) (c : ℕ) → firstOf (x ∷ ks) (suc c) ≡ x + firstOf ks c
+unfolding firstOf
+first-cons x ks zero = omega arith
+first-cons x ks (suc c) = omega (arith, first-cons x ks c)
+
+-- a nonempty cell's index is the number of the spans before it
+cells-first : (is ks : List ℕ) (off n : ℕ) → goodCells is ks off n ≡ true → (c : ℕ) → 0 < getD ks c 0 → getD is c 0 ≡ off + firstOf ks c
+unfolding goodCells firstOf
+cells-first [] [] off n e c h = absurd (omega arith)
+cells-first [] (k ∷ ks) off n e c h = absurd (false≢true e)
+cells-first (i ∷ is) [] off n e c h = absurd (false≢true e)
+cells-first (i ∷ is) (k ∷ ks) off n e zero h = either _ _ _ (both _ _ (both _ _ e .0) .1) (λ z. absurd (omega tests)) (λ z. omega tests)
+cells-first (i ∷ is) (k ∷ ks) off n e (suc c) h = omega (arith, cells-first is ks (off + k) n (both _ _ e .1) c h, first-cons k ks c)
+
+cells-total : (is ks : List ℕ) (off n : ℕ) → goodCells is ks off n ≡ true → off + firstOf ks (length ks) ≡ n
+unfolding goodCells firstOf
+cells-total [] [] off n e = omega tests
+cells-total [] (k ∷ ks) off n e = absurd (false≢true e)
+cells-total (i ∷ is) [] off n e = absurd (false≢true e)
+cells-total (i ∷ is) (k ∷ ks) off n e = omega (arith, cells-total is ks (off + k) n (both _ _ e .1), first-cons k ks (length ks))
+
+module _ (F : Field) (ok : Celled F) where
+  pub first-is : (c : ℕ) → 0 < getD (F .count) c 0 → getD (F .index) c 0 ≡ firstOf (F .count) c
+  first-is c h = omega (arith, cells-first (F .index) (F .count) 0 (spans F) (ok .cells) c h)
+
+  pub total-is : firstOf (F .count) (F .w * F .h) ≡ spans F
+  total-is = rw (← ok .counted) (omega (arith, cells-total (F .index) (F .count) 0 (spans F) (ok .cells)))
+
+-- ---------------------------------------------------------------- where a connection leads
+
+-- the four connections of a span, read by direction
+pub con-at : (F : Field) → Celled F → (s d : ℕ) → s < spans F → d < 4 → conOf F s d ≡ getD (consAt (F .con) s) d 0
+unfolding conOf consAt
+con-at F ok s zero h g = let e : 4 * s + 0 ≡ 4 * s = omega arith in rw e (getD-any (F .con) (4 * s) 255 0 (omega (arith, ok .linked)))
+con-at F ok s (suc zero) h g = getD-any (F .con) (4 * s + 1) 255 0 (omega (arith, ok .linked))
+con-at F ok s (suc (suc zero)) h g = getD-any (F .con) (4 * s + 2) 255 0 (omega (arith, ok .linked))
+con-at F ok s (suc (suc (suc zero))) h g = getD-any (F .con) (4 * s + 3) 255 0 (omega (arith, ok .linked))
+con-at F ok s (suc (suc (suc (suc d)))) h g = absurd (omega arith)
+
+module _ (F : Field) (ok : Reached F) where
+  pub reaches : (s d : ℕ) → s < spans F → d < 4 → (conOf F s d ≡ 255 → ⊥) → Leads F s d
+  unfolding goodCon
+  reaches s d h g k =
+      let t = cellTo (F .w) (cellOf (F .count) s) d in
+      either _ _ _ (ok .reach s d h g)
+      (λ e. absurd (k (eqb-true _ _ e)))
+      (λ e.
+      let b = both _ _ e in
+      let layer : conOf F s d < getD (F .count) t 0 = ltb-true _ _ (b .1) in
+      let there = layer-stands F (ok .celled) t (conOf F s d) layer in
+      let starts : getD (F .index) t 0 ≡ 0 + before (F .count) t = cell-is F (ok .celled) t .starts (omega arith) in
+      let at : near F s d ≡ getD (F .index) t 0 + conOf F s d = near-is F s d k in
+      record {
+        inner = not-true _ (b .0);
+        layer = layer;
+        span = at ∙ omega arith;
+        cell = rw at (there .cell);
+        inside = rw at (there .span);
+      })
+
+  -- a neighbour stands in the cell across
+  pub near-stands : (c s d : ℕ) → Stands F c s → d < 4 → (near F s d ≡ none → ⊥) → Stands F (cellTo (F .w) c d) (near F s d)
+  near-stands c s d h g k =
+      let r = reaches s d (h .span) g (λ e. k (near-none F s d e)) in
+      record { span = r .inside; cell = r .cell ∙ ap (λ (x : ℕ). cellTo (F .w) x d) (h .cell) }
+
+-- ---------------------------------------------------------------- the leaf, as the code has it
+
+module _ (w : ℕ) (is cons : List ℕ) (c d : ℕ) (g : d < 4) where
+  pub leaf-none : getD cons d 0 ≡ 255 → (F : Field) (s : ℕ) → Leaf F w is cons c s → 65535 ≡ near F s d
+  leaf-none k F s v =
+      let e : conOf F s d ≡ getD cons d 0 = rw (v .four) (con-at F (v .reached .celled) s d (v .stands .span) g) in
+      sym (near-none F s d (e ∙ k))
+
+  pub leaf-some : (a r : ℕ) → (getD cons d 0 ≡ 255 → ⊥) → a ≡ cellTo w c d → r ≡ getD is a 0 + getD cons d 0
+      → (F : Field) (s : ℕ) → Leaf F w is cons c s → r ≡ near F s d
+  leaf-some a r k p q F s v =
+      let e : conOf F s d ≡ getD cons d 0 = rw (v .four) (con-at F (v .reached .celled) s d (v .stands .span) g) in
+      let n : near F s d ≡ getD (F .index) (cellTo (F .w) (cellOf (F .count) s) d) 0 + conOf F s d = near-is F s d (λ z. k (sym e ∙ z)) in
+      let t : cellTo (F .w) (cellOf (F .count) s) d ≡ a = ap (λ (x : ℕ). cellTo (F .w) x d) (v .stands .cell) ∙ ap (λ (x : ℕ). cellTo x c d) (v .wide) ∙ sym p in
+      let i : getD (F .index) (cellTo (F .w) (cellOf (F .count) s) d) 0 ≡ getD is a 0 = ap (λ (x : ℕ). getD (F .index) x 0) t ∙ ap (λ (l : List ℕ). getD l a 0) (v .indexed) in
+      omega arith
+
+  -- the cell that it leads to has an index
+  pub leaf-in : (a : ℕ) → SomeLeaf w is cons c → (getD cons d 0 ≡ 255 → ⊥) → a ≡ cellTo w c d → a < length is
+  leaf-in a x k p =
+      let F = x .F in
+      let v = x .leaf in
+      let s = x .s in
+      let e : conOf F s d ≡ getD cons d 0 = rw (v .four) (con-at F (v .reached .celled) s d (v .stands .span) g) in
+      let r = reaches F (v .reached) s d (v .stands .span) g (λ z. k (sym e ∙ z)) in
+      let t : cellTo (F .w) (cellOf (F .count) s) d ≡ a = ap (λ (x : ℕ). cellTo (F .w) x d) (v .stands .cell) ∙ ap (λ (x : ℕ). cellTo x c d) (v .wide) ∙ sym p in
+      let z : 0 < getD (F .count) (cellTo (F .w) (cellOf (F .count) s) d) 0 = omega (arith, r .layer) in
+      let l : a < length (F .count) = in-list (F .count) a (rw t at z) in
+      omega (arith, v .reached .celled .indexed, v .reached .celled .counted, ap length (v .indexed))
+
+module _ (w : ℕ) (is cons : List ℕ) (c : ℕ) (v : SomeLeaf w is cons c) where
+  pub leaf-narrow : w ≤ 256
+  leaf-narrow = omega (arith, v .leaf .wide, v .leaf .reached .celled .narrow)
+
+  pub leaf-small : c < 65536
+  leaf-small = stands-small (v .F) (v .leaf .reached .celled) c (v .s) (v .leaf .stands)
+
+-- ---------------------------------------------------------------- a span at its place, as the code has it
+
+pub spot-leaf : (F : Field) (w : ℕ) (is cs cons : List ℕ) (c s : ℕ) → Spot F w is cs c s → cons ≡ consAt cs s → Leaf F w is cons c s
+spot-leaf F w is cs cons c s v e =
+    record { reached = v .reached; wide = v .wide; indexed = v .indexed; four = e ∙ ap (λ (l : List ℕ). consAt l s) (sym (v .linked)); stands = v .stands }
+
+pub spot-con : (w : ℕ) (is cs : List ℕ) (c s : ℕ) → SomeSpot w is cs c s → 4 * s + 3 < length cs
+spot-con w is cs c s x =
+    omega (arith, x .spot .stands .span, x .spot .reached .celled .linked, ap length (x .spot .linked))
+
+-- the neighbour of a span is none only where its connection is
+pub near-con : (F : Field) → Reached F → (s d : ℕ) → s < spans F → d < 4 → near F s d ≡ 65535 → conOf F s d ≡ 255
+near-con F ok s d h g e =
+    elim (ℕ-discrete (conOf F s d) 255) [ yes k ↦ k | no k ↦ absurd (omega (arith, reaches F ok s d h g k .inside, ok .celled .few)) ]
+
+module _ (w : ℕ) (is cs cons : List ℕ) (c s : ℕ) (e : cons ≡ consAt cs s) where
+  pub some-leaf : SomeSpot w is cs c s → SomeLeaf w is cons c
+  some-leaf x = record { F = x .F; s = s; leaf = spot-leaf (x .F) w is cs cons c s (x .spot) e }
+
+  -- what a step gives, t the span and a the cell
+  module _ (d t : ℕ) (n : (F : Field) (s : ℕ) → Leaf F w is cons c s → t ≡ near F s d) where
+    pub near-spot : (F : Field) → Spot F w is cs c s → t ≡ near F s d
+    near-spot F v = n F s (spot-leaf F w is cs cons c s v e)
+
+    pub step-spot : (F : Field) (a : ℕ) → Spot F w is cs c s → d < 4 → a ≡ cellTo w c d → (t ≡ 65535 → ⊥) → Spot F w is cs a t
+    step-spot F a v g p k =
+        let q = near-spot F v in
+        let r = near-stands F (v .reached) c s d (v .stands) g (λ z. k (q ∙ z)) in
+        let b : cellTo (F .w) c d ≡ a = ap (λ (x : ℕ). cellTo x c d) (v .wide) ∙ sym p in
+        record { reached = v .reached; wide = v .wide; indexed = v .indexed; linked = v .linked; stands = stood F (cellTo (F .w) c d) a (near F s d) t b (sym q) r }
+      where
+        stood : (F : Field) (a b x y : ℕ) → a ≡ b → x ≡ y → Stands F a x → Stands F b y
+        stood F a b x y e f r = record { span = omega (arith, r .span); cell = ap (cellOf (F .count)) (sym f) ∙ r .cell ∙ e }
+
+    pub some-step : (a : ℕ) → SomeSpot w is cs c s → d < 4 → a ≡ cellTo w c d → (t ≡ 65535 → ⊥) → SomeSpot w is cs a t
+    some-step a x g p k = record { F = x .F; spot = step-spot (x .F) a (x .spot) g p k }
+
+    pub back-none : d < 4 → t ≡ 65535 → (F : Field) → Spot F w is cs c s → true ≡ goodBack F s d
+    unfolding goodBack _or_
+    back-none g z F v = rw (near-con F (v .reached) s d (v .stands .span) g (sym (near-spot F v) ∙ z))
+
+    pub back-some : (a u : ℕ) → d < 4 → a ≡ cellTo w c d → (t ≡ 65535 → ⊥)
+        → ((F : Field) → Spot F w is cs a t → u ≡ near F t ((d + 2) % 4)) → (F : Field) → Spot F w is cs c s → eqb u s ≡ goodBack F s d
+    unfolding goodBack _or_
+    back-some a u g p k m F v =
+        let q = near-spot F v in
+        let f : eqb (conOf F s d) 255 ≡ false = ne-eqb (conOf F s d) 255 (λ z. k (q ∙ near-none F s d z)) in
+        let b : u ≡ near F (near F s d) ((d + 2) % 4) = m F (step-spot F a v g p k) ∙ ap (λ (x : ℕ). near F x ((d + 2) % 4)) q in
+        rw (f, ← b)
+
+-- the corner neighbour is a neighbour of the neighbour
+pub corner-is : (w : ℕ) (is cs : List ℕ) (a t d r : ℕ) → ((F : Field) → Spot F w is cs a t → r ≡ near F t ((d + 1) % 4))
+    → (F : Field) (s : ℕ) → Spot F w is cs a t → t ≡ near F s d → r ≡ corner F s d
+unfolding corner
+corner-is w is cs a t d r n F s v e = n F v ∙ ap (λ (x : ℕ). near F x ((d + 1) % 4)) e
+
+pub turned : (d k : ℕ) → (d + k) % 4 < 4
+turned d k = mod-lt (d + k) (omega arith)
+
+-- ---------------------------------------------------------------- the grid
+
+-- the cell across is in the grid where the way does not leave it
+pub across-in : (w h c d : ℕ) → c < w * h → d < 4 → leaves w h c d ≡ false → cellTo w c d < w * h
+unfolding leaves cellTo
+across-in w h c zero g l e = omega arith
+across-in w h c (suc zero) g l e =
+    let p = wide-pos w h c g in
+    let q : c / w + 1 < h = omega tests in
+    let z : (c / w + 1) * w + c % w < h * w = digits-lt q (mod-lt c p) in
+    let y : (c / w + 1) * w ≡ c / w * w + w = rw add-one (suc-mul (c / w) w) in
+    omega (arith, div-add-mod' c w, mul-comm h w)
+across-in w h c (suc (suc zero)) g l e =
+    let p = wide-pos w h c g in
+    let q : c % w + 1 < w = omega tests in
+    let y : c / w < h = div-lt-iff-lt-mul p .1 (rw (mul-comm h w) g) in
+    let z : c / w * w + (c % w + 1) < h * w = digits-lt y q in
+    omega (arith, div-add-mod' c w, mul-comm h w)
+across-in w h c (suc (suc (suc zero))) g l e = omega arith
+across-in w h c (suc (suc (suc (suc d)))) g l e = absurd (omega arith)

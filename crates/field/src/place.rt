@@ -1,0 +1,133 @@
+// Spans, layers and cells: where a connection leads.
+use crate::read::at32;
+ghost use mathlib.Core.Path.{_≡_};
+ghost use mathlib.Core.Bool.{Bool};
+ghost use Prim.Native.Nat.{ℕ, _+_, _-_, _*_, _%_, _<_, _≤_};
+ghost use lib.ListN.{length, getD};
+ghost use Rattle.rules.specs.Field.{Field, cellTo, leaves, near, none};
+ghost use Rattle.rules.specs.Field as rules;
+ghost use Rattle.field.specs.Lent.{consAt, Spot, Leaf, SomeSpot, SomeLeaf};
+
+// A span's number.
+pub struct SpanIx(pub usize);
+
+// A span's layer within its cell: not a span's number.
+pub struct Layer(pub u8);
+
+// A span and the cell that it stands in.
+pub struct Place {
+    pub cell: usize,
+    pub span: SpanIx,
+}
+
+// No span: a number past every list.
+pub const NO_SPAN: usize = 65535;
+
+// No layer.
+pub const NO_LAYER: u8 = 255;
+
+// The four connections of a span, as one value.
+pub fn connections(con: &[u8], s: SpanIx) -> [u8; 4]
+    requires { ⌜ 4 * (s .0) + 3 < length (now con) ⌝ }
+    ensures { λ r. ⌜ r ≡ consAt (now (con .entry)) (s .0) ⌝ }
+{
+    let k = 4 * s.0;
+    [con[k], con[k + 1], con[k + 2], con[k + 3]]
+}
+
+// a - b, not below 0.
+fn minus(a: usize, b: usize) -> usize
+    ensures { λ r. ⌜ r ≡ a - b ⌝ }
+{
+    if a < b {
+        return 0;
+    }
+    a - b
+}
+
+// The cell across from cell c in direction d; some other cell where that leaves the grid.
+pub fn cell_across(w: usize, c: usize, d: usize) -> usize
+    requires { ⌜ (w ≤ 256) × (c < 65536) × (d < 4) ⌝ }
+    ensures { λ r. ⌜ r ≡ cellTo w c d ⌝ }
+{
+    if d == 0 {
+        return minus(c, 1);
+    }
+    if d == 1 {
+        return c + w;
+    }
+    if d == 2 {
+        return c + 1;
+    }
+    minus(c, w)
+}
+
+// There is no cell across.
+pub fn leaves_grid(w: usize, h: usize, c: usize, d: usize) -> bool
+    requires { ⌜ (0 < w) × (c < 65536) × (d < 4) ⌝ }
+    ensures { λ r. ⌜ r ≡ leaves w h c d ⌝ }
+{
+    if d == 0 {
+        return c % w == 0;
+    }
+    if d == 1 {
+        return h <= c / w + 1;
+    }
+    if d == 2 {
+        return w <= c % w + 1;
+    }
+    c / w == 0
+}
+
+// The span in a layer of cell c: the one place where a layer becomes a span.
+fn span_at(index: &[u32], c: usize, l: Layer) -> SpanIx
+    requires { ⌜ c < length (now index) ⌝ }
+    ensures { λ r. ⌜ r .0 ≡ getD (now (index .entry)) c 0 + l .0 ⌝ }
+{
+    SpanIx(at32(index, c) + l.0 as usize)
+}
+
+// Where the connection in direction d leads, of a span in cell c that has the connections cons.
+pub fn step(w: usize, index: &[u32], cons: [u8; 4], c: usize, d: usize) -> Place
+    requires { ⌜ SomeLeaf w (now index) cons c × (d < 4) ⌝ }
+    ensures { λ r. ⌜ ((F : Field) (s : ℕ) → Leaf F w (now (index .entry)) cons c s → r .span .0 ≡ near F s d) × (r .cell ≡ cellTo w c d) ⌝ }
+{
+    let cell = cell_across(w, c, d);
+    let k = cons[d];
+    if k == NO_LAYER {
+        return Place {
+            cell,
+            span: SpanIx(NO_SPAN),
+        };
+    }
+    let span = span_at(index, cell, Layer(k));
+    Place { cell, span }
+}
+
+// The neighbour in direction d of a span in cell c that has the connections cons, or NO_SPAN.
+pub fn neighbour(w: usize, index: &[u32], cons: [u8; 4], c: usize, d: usize) -> SpanIx
+    requires { ⌜ SomeLeaf w (now index) cons c × (d < 4) ⌝ }
+    ensures { λ r. ⌜ ((F : Field) (s : ℕ) → Leaf F w (now (index .entry)) cons c s → r .0 ≡ near F s d) ⌝ }
+{
+    let p = step(w, index, cons, c, d);
+    p.span
+}
+
+// Where the connection in direction d of the span at place p leads.
+pub fn step_from(w: usize, index: &[u32], con: &[u8], p: Place, d: usize) -> Place
+    requires { ⌜ SomeSpot w (now index) (now con) (p .cell) (p .span .0) × (d < 4) ⌝ }
+    ensures { λ r. ⌜ ((F : Field) → Spot F w (now (index .entry)) (now (con .entry)) (p .cell) (p .span .0) → r .span .0 ≡ near F (p .span .0) d) × (r .cell ≡ cellTo w (p .cell) d) ⌝ }
+{
+    let s = p.span;
+    let cons = connections(con, s);
+    step(w, index, cons, p.cell, d)
+}
+
+// The corner neighbour in direction d of a span whose neighbour in direction d is at place p, or NO_SPAN.
+pub fn corner(w: usize, index: &[u32], con: &[u8], p: Place, d: usize) -> SpanIx
+    requires { ⌜ SomeSpot w (now index) (now con) (p .cell) (p .span .0) × (d < 4) ⌝ }
+    ensures { λ r. ⌜ ((F : Field) (s : ℕ) → Spot F w (now (index .entry)) (now (con .entry)) (p .cell) (p .span .0) → p .span .0 ≡ near F s d → r .0 ≡ rules.corner F s d) ⌝ }
+{
+    let q = step_from(w, index, con, p, (d + 1) % 4);
+    q.span
+}

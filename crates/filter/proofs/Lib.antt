@@ -1,0 +1,3 @@
+pub mod GroupLaws
+pub mod RemoveLaws
+pub mod FilterLaws

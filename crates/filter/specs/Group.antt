@@ -1,0 +1,68 @@
+-- The filter, as the code goes through it. A group under way lies in the spare columns: who waits at 5m, last in last, and who is found at 6m.
+-- The tables of parts stand at 7m (lists) and 11m (floors).
+use Prim.Native.Nat.{ℕ, suc, _+_, _-_, _*_, _≤_, _<_}
+use mathlib.Core.Path.{_≡_}
+use mathlib.Core.Bool.{Bool, not}
+use mathlib.Core.List.{List, [], _∷_, _++_}
+use lib.ListN.{length, getD, set}
+use lib.Dec.{eqb, ltb}
+use Rattle.rules.specs.Base.{_and_, _or_, if_then_else_, any}
+use Rattle.rules.specs.Growth.{flagged}
+use Rattle.rules.specs.Records.{Rec, at}
+use Rattle.rules.specs.Filter.{seen, Gather, gather, total, removeAll}
+use Rattle.laws.proofs.FilterEnds.{ahead}
+use Rattle.space.specs.Space.{stackAt}
+use Rattle.table.specs.View.{part, recsOf, Held}
+
+-- one entry of a neighbour list
+unfoldable pub reachOne : ℕ → Gather → Gather
+reachOne r g =
+    let q = at (g .recs) r in
+    if flagged r or q .visited or eqb (q .id) 0 then g
+    else record { todo = q .id ∷ g .todo; recs = set (g .recs) r (seen q); found = g .found }
+
+unfoldable pub groupAt : List ℕ → ℕ → ℕ → ℕ → Gather
+groupAt ws m top f = record { todo = stackAt ws (5 * m) top; recs = recsOf ws m; found = part (6 * m) (6 * m + f) ws }
+
+-- those that wait are records, and there is room for those not visited
+pub record Waiting (m top : ℕ) (ws : List ℕ) : Type 0 where
+  pub held : Held m (7 * m) (11 * m) ws
+  pub fits : top ≤ m
+  pub room : ahead (stackAt ws (5 * m) top) (recsOf ws m) ≤ m
+  pub waits : (x : ℕ) → x < top → getD ws (5 * m + x) 0 < m
+  pub blank : (x : ℕ) → top ≤ x → x < m → getD ws (5 * m + x) 0 ≡ 0
+
+pub record Found (m f : ℕ) (ws : List ℕ) : Type 0 where
+  pub found : (x : ℕ) → x < f → getD ws (6 * m + x) 0 < m
+  pub blank : (x : ℕ) → f ≤ x → x < m → getD ws (6 * m + x) 0 ≡ 0
+
+-- before and after each group
+pub record Calm (m : ℕ) (ws : List ℕ) : Type 0 where
+  pub held : Held m (7 * m) (11 * m) ws
+  pub blank : (x : ℕ) → x < 2 * m → getD ws (5 * m + x) 0 ≡ 0
+
+-- the first that waits is found
+pub record Popped (m top f r : ℕ) (ws ws′ : List ℕ) : Type 0 where
+  pub waited : stackAt ws (5 * m) top ≡ r ∷ stackAt ws′ (5 * m) (top - 1)
+  pub recs : recsOf ws′ m ≡ recsOf ws m
+  pub found : part (6 * m) (6 * m + (f + 1)) ws′ ≡ part (6 * m) (6 * m + f) ws ++ (r ∷ [])
+
+unfoldable pub listsFlagged : List ℕ → Bool
+listsFlagged l = any flagged l
+
+unfoldable pub anyFlagged : List Rec → List ℕ → Bool
+anyFlagged rs l = any (λ j. any flagged (at rs j .list)) l
+
+-- "A group under the least area that lists no flagged id"
+unfoldable pub small : ℕ → List Rec → List ℕ → Bool
+small least rs l = ltb (total rs l) least and not (anyFlagged rs l)
+
+-- "gets id 0 and count 0"
+unfoldable pub removeSmall : ℕ → List Rec → List ℕ → List Rec
+removeSmall least rs l = if small least rs l then removeAll l rs else rs
+
+-- the group of record i, gathered and judged
+unfoldable pub filterGroup : ℕ → ℕ → List Rec → List Rec
+filterGroup least i rs =
+    let g = gather (suc (length rs)) (i ∷ []) (set rs i (seen (at rs i))) [] in
+    if small least rs (g .found) then removeAll (g .found) (g .recs) else g .recs

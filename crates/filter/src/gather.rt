@@ -1,0 +1,107 @@
+// A group: the records that can be reached from one through neighbour lists.
+use table::at;
+use table::end_of;
+use table::start_of;
+ghost use mathlib.Core.Path.{_≡_};
+ghost use mathlib.Core.List.{List, [], _∷_};
+ghost use Prim.Native.Nat.{ℕ, suc, _+_, _-_, _*_, _≤_, _<_};
+ghost use lib.ListN.{length, getD, set};
+ghost use Rattle.rules.specs.Records.{at as recOf};
+ghost use Rattle.rules.specs.Filter.{seen, Gather, reach, gather};
+ghost use Rattle.space.specs.Space.{Frame, stackAt};
+ghost use Rattle.table.specs.View.{recsOf, part, listAt};
+ghost use Rattle.filter.specs.Group.{reachOne, groupAt, Waiting, Found, Calm, Popped};
+
+// One entry r of a neighbour list: a live record not yet visited waits its turn. Gives how many wait.
+fn reach_one(ws: &mut [u16], m: usize, r: u16, top: usize) -> usize
+    requires { ⌜ Waiting m top (now ws) ⌝ }
+    requires { ⌜ (r < 32768 → r < m) ⌝ }
+    ensures { λ n. ⌜ Waiting m n (now (ws .exit)) ⌝ }
+    ensures { λ n. ⌜ ((f : ℕ) → groupAt (now (ws .exit)) m n f ≡ reachOne r (groupAt (now (ws .entry)) m top f)) ⌝ }
+    ensures { λ _. ⌜ Frame (4 * m) (6 * m) (now (ws .entry)) (now (ws .exit)) ⌝ }
+{
+    if 32768 <= r {
+        return top;
+    }
+    let q = r as usize;
+    if ws[4 * m + q] != 0 {
+        return top;
+    }
+    if ws[q] == 0 {
+        return top;
+    }
+    ws[5 * m + top] = ws[q];
+    ws[4 * m + q] = 1;
+    top + 1
+}
+
+// All entries of record i's list.
+fn reach(ws: &mut [u16], m: usize, i: usize, top: usize) -> usize
+    requires { ⌜ Waiting m top (now ws) ⌝ }
+    requires { ⌜ i < m ⌝ }
+    ensures { λ n. ⌜ Waiting m n (now (ws .exit)) ⌝ }
+    ensures { λ n. ⌜ ((f : ℕ) → groupAt (now (ws .exit)) m n f ≡ reach (listAt (now (ws .entry)) m (7 * m) i) (groupAt (now (ws .entry)) m top f)) ⌝ }
+    ensures { λ _. ⌜ Frame (4 * m) (6 * m) (now (ws .entry)) (now (ws .exit)) ⌝ }
+{
+    let e = end_of(ws, m, 7 * m, i);
+    let mut k = start_of(ws, m, 7 * m, i);
+    let mut n = top;
+    while k < e {
+        let r = ws[k];
+        n = reach_one(ws, m, r, n);
+        k += 1;
+    }
+    n
+}
+
+// Record i is visited and waits alone.
+pub(crate) fn enter(ws: &mut [u16], m: usize, i: usize)
+    requires { ⌜ Calm m (now ws) ⌝ }
+    requires { ⌜ i < m ⌝ }
+    requires { ⌜ getD (now ws) (4 * m + i) 0 ≡ 0 ⌝ }
+    ensures { λ _. ⌜ Waiting m 1 (now (ws .exit)) ⌝ }
+    ensures { λ _. ⌜ Found m 0 (now (ws .exit)) ⌝ }
+    ensures { λ _. ⌜ groupAt (now (ws .exit)) m 1 0 ≡ record { todo = i ∷ []; recs = set (recsOf (now (ws .entry)) m) i (seen (recOf (recsOf (now (ws .entry)) m) i)); found = [] } ⌝ }
+    ensures { λ _. ⌜ Frame (4 * m) (6 * m) (now (ws .entry)) (now (ws .exit)) ⌝ }
+{
+    ws[5 * m] = i as u16;
+    ws[4 * m + i] = 1;
+}
+
+// The record that came last is found.
+fn pop(ws: &mut [u16], m: usize, top: usize, f: usize) -> usize
+    requires { ⌜ Waiting m top (now ws) ⌝ }
+    requires { ⌜ Found m f (now ws) ⌝ }
+    requires { ⌜ 0 < top ⌝ }
+    requires { ⌜ f < m ⌝ }
+    ensures { λ r. ⌜ Popped m top f r (now (ws .entry)) (now (ws .exit)) ⌝ }
+    ensures { λ r. ⌜ r < m ⌝ }
+    ensures { λ _. ⌜ Waiting m (top - 1) (now (ws .exit)) ⌝ }
+    ensures { λ _. ⌜ Found m (f + 1) (now (ws .exit)) ⌝ }
+    ensures { λ _. ⌜ Frame (5 * m) (7 * m) (now (ws .entry)) (now (ws .exit)) ⌝ }
+{
+    let r = ws[5 * m + (top - 1)];
+    ws[5 * m + (top - 1)] = 0;
+    ws[6 * m + f] = r;
+    r as usize
+}
+
+// The whole group of the one that waits. Gives how many are found.
+pub(crate) fn gather(ws: &mut [u16], m: usize) -> usize
+    requires { ⌜ Waiting m 1 (now ws) ⌝ }
+    requires { ⌜ Found m 0 (now ws) ⌝ }
+    ensures { λ f. ⌜ groupAt (now (ws .exit)) m 0 f ≡ gather (suc m) (stackAt (now (ws .entry)) (5 * m) 1) (recsOf (now (ws .entry)) m) [] ⌝ }
+    ensures { λ f. ⌜ f ≤ m ⌝ }
+    ensures { λ _. ⌜ Waiting m 0 (now (ws .exit)) ⌝ }
+    ensures { λ f. ⌜ Found m f (now (ws .exit)) ⌝ }
+    ensures { λ _. ⌜ Frame (4 * m) (7 * m) (now (ws .entry)) (now (ws .exit)) ⌝ }
+{
+    let mut top = 1;
+    let mut f = 0;
+    while 0 < top {
+        let i = pop(ws, m, top, f);
+        top = reach(ws, m, i, top - 1);
+        f += 1;
+    }
+    f
+}

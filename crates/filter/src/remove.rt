@@ -1,0 +1,136 @@
+// What is done with a group once it is found.
+use space::clear;
+use table::at;
+use table::list_of;
+ghost use mathlib.Core.Path.{_≡_};
+ghost use Prim.Native.Nat.{ℕ, _+_, _-_, _*_, _≤_, _<_};
+ghost use lib.ListN.{length, getD, set};
+ghost use Rattle.rules.specs.Base.{any};
+ghost use Rattle.rules.specs.Growth.{flagged};
+ghost use Rattle.rules.specs.Records.{at as recOf};
+ghost use Rattle.rules.specs.Filter.{removed, total, removeAll};
+ghost use Rattle.space.specs.Space.{Frame};
+ghost use Rattle.table.specs.View.{part, recsOf, Held};
+ghost use Rattle.filter.specs.Group.{listsFlagged, anyFlagged, small, removeSmall, Waiting, Found, Calm};
+
+// The spans of the f found.
+fn total(ws: &[u16], m: usize, f: usize) -> usize
+    requires { ⌜ Held m (7 * m) (11 * m) (now ws) ⌝ }
+    requires { ⌜ Found m f (now ws) ⌝ }
+    requires { ⌜ f ≤ m ⌝ }
+    ensures { λ r. ⌜ r ≡ total (recsOf (now (ws .entry)) m) (part (6 * m) (6 * m + f) (now (ws .entry))) ⌝ }
+{
+    let mut sum = 0;
+    let mut k = 0;
+    while k < f {
+        let i = at(ws, 6 * m + k);
+        sum += at(ws, m + i);
+        k += 1;
+    }
+    sum
+}
+
+// Does the list hold a flagged id?
+fn lists_flagged(l: &[u16]) -> bool
+    ensures { λ r. ⌜ r ≡ listsFlagged (now (l .entry)) ⌝ }
+{
+    let mut i = 0;
+    while i < l.len() {
+        if 32768 <= l[i] {
+            return true;
+        }
+        i += 1;
+    }
+    false
+}
+
+// Does one of the f found list a flagged id?
+fn any_flagged(ws: &[u16], m: usize, f: usize) -> bool
+    requires { ⌜ Held m (7 * m) (11 * m) (now ws) ⌝ }
+    requires { ⌜ Found m f (now ws) ⌝ }
+    requires { ⌜ f ≤ m ⌝ }
+    ensures { λ r. ⌜ r ≡ anyFlagged (recsOf (now (ws .entry)) m) (part (6 * m) (6 * m + f) (now (ws .entry))) ⌝ }
+{
+    let mut k = 0;
+    while k < f {
+        let i = at(ws, 6 * m + k);
+        if lists_flagged(list_of(ws, m, 7 * m, i)) {
+            return true;
+        }
+        k += 1;
+    }
+    false
+}
+
+// Is the group to go?
+fn small(ws: &[u16], m: usize, f: usize, least: u16) -> bool
+    requires { ⌜ Held m (7 * m) (11 * m) (now ws) ⌝ }
+    requires { ⌜ Found m f (now ws) ⌝ }
+    requires { ⌜ f ≤ m ⌝ }
+    ensures { λ r. ⌜ r ≡ small least (recsOf (now (ws .entry)) m) (part (6 * m) (6 * m + f) (now (ws .entry))) ⌝ }
+{
+    if least as usize <= total(ws, m, f) {
+        return false;
+    }
+    if any_flagged(ws, m, f) {
+        return false;
+    }
+    true
+}
+
+// Record i gets id 0 and count 0.
+fn remove_one(ws: &mut [u16], m: usize, i: usize)
+    requires { ⌜ Held m (7 * m) (11 * m) (now ws) ⌝ }
+    requires { ⌜ i < m ⌝ }
+    ensures { λ _. ⌜ recsOf (now (ws .exit)) m ≡ set (recsOf (now (ws .entry)) m) i (removed (recOf (recsOf (now (ws .entry)) m) i)) ⌝ }
+    ensures { λ _. ⌜ Held m (7 * m) (11 * m) (now (ws .exit)) ⌝ }
+    ensures { λ _. ⌜ Frame 0 (2 * m) (now (ws .entry)) (now (ws .exit)) ⌝ }
+{
+    ws[m + i] = 0;
+    ws[i] = 0;
+}
+
+// All f found.
+fn remove_all(ws: &mut [u16], m: usize, f: usize)
+    requires { ⌜ Held m (7 * m) (11 * m) (now ws) ⌝ }
+    requires { ⌜ Found m f (now ws) ⌝ }
+    requires { ⌜ f ≤ m ⌝ }
+    ensures { λ _. ⌜ recsOf (now (ws .exit)) m ≡ removeAll (part (6 * m) (6 * m + f) (now (ws .entry))) (recsOf (now (ws .entry)) m) ⌝ }
+    ensures { λ _. ⌜ Held m (7 * m) (11 * m) (now (ws .exit)) ⌝ }
+    ensures { λ _. ⌜ Frame 0 (2 * m) (now (ws .entry)) (now (ws .exit)) ⌝ }
+{
+    let mut k = 0;
+    while k < f {
+        let i = at(ws, 6 * m + k);
+        remove_one(ws, m, i);
+        k += 1;
+    }
+}
+
+// A small group is removed.
+pub(crate) fn remove_small(ws: &mut [u16], m: usize, f: usize, least: u16)
+    requires { ⌜ Held m (7 * m) (11 * m) (now ws) ⌝ }
+    requires { ⌜ Found m f (now ws) ⌝ }
+    requires { ⌜ f ≤ m ⌝ }
+    ensures { λ _. ⌜ recsOf (now (ws .exit)) m ≡ removeSmall least (recsOf (now (ws .entry)) m) (part (6 * m) (6 * m + f) (now (ws .entry))) ⌝ }
+    ensures { λ _. ⌜ Held m (7 * m) (11 * m) (now (ws .exit)) ⌝ }
+    ensures { λ _. ⌜ Frame 0 (2 * m) (now (ws .entry)) (now (ws .exit)) ⌝ }
+{
+    if small(ws, m, f, least) {
+        remove_all(ws, m, f);
+    }
+}
+
+// The spare columns are zeros again.
+pub(crate) fn forget(ws: &mut [u16], m: usize, f: usize)
+    requires { ⌜ Held m (7 * m) (11 * m) (now ws) ⌝ }
+    requires { ⌜ Found m f (now ws) ⌝ }
+    requires { ⌜ f ≤ m ⌝ }
+    requires { ⌜ ((x : ℕ) → x < m → getD (now ws) (5 * m + x) 0 ≡ 0) ⌝ }
+    ensures { λ _. ⌜ recsOf (now (ws .exit)) m ≡ recsOf (now (ws .entry)) m ⌝ }
+    ensures { λ _. ⌜ Calm m (now (ws .exit)) ⌝ }
+    ensures { λ _. ⌜ Frame (5 * m) (7 * m) (now (ws .entry)) (now (ws .exit)) ⌝ }
+{
+    let a = 6 * m;
+    clear(&mut ws[a..a + f]);
+}

@@ -1,0 +1,6 @@
+-- Laws of the flood.
+pub mod Goods
+pub mod Sight
+pub mod Pushes
+pub mod Visits
+pub mod Floods

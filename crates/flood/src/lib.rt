@@ -1,0 +1,3 @@
+// Rule 4: the flood of one region.
+mod flow;
+mod look;

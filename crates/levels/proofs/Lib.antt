@@ -1,0 +1,5 @@
+pub mod LevelLaws
+pub mod CarryLaws
+pub mod SortLaws
+pub mod TurnLaws
+pub mod AppendLaws

@@ -1,0 +1,239 @@
+-- Sorting span by span is the rule's `sorted`.
+-- Span i comes last in scan order, so it is one more entry at the end of its stack, or nothing changes.
+use Prim.Native.Nat.{ℕ, zero, suc, _+_, _-_, _*_, _/_, _≤_, _<_}
+use native.Mathlib.Omega.{arith}
+use native.Mathlib.Nat.{le-refl, zero-add, add-zero}
+use native.Mathlib.Numerals.{add-one}
+use native.Mathlib.Decide.{decLt}
+use mathlib.Core.Path.{_≡_, refl, sym, ap, _∙_}
+use mathlib.Core.Bool.{Bool, true, false, not}
+use mathlib.Core.Logic.{⊎-elim}
+use mathlib.Core.List.{List, [], _∷_, _++_, append-nil}
+use lib.ListN.{length, getD, set, replicate}
+use lib.Dec.{eqb}
+use borrow.Author.Tests.{eqb-true, eq-eqb, ne-eqb}
+use Rattle.rules.specs.Base.{_and_, if_then_else_, tab, keep}
+use Rattle.rules.specs.Field.{Field, spans, areaOf}
+use Rattle.rules.specs.Growth.{Marks, idOf, walkable, blank, sorted, loaded}
+use Rattle.laws.proofs.Basics.{if-ind, both, All, All-map, keep-all, tab-each, tab-all, and-no, tab-at, length-tab}
+use Rattle.laws.proofs.Grows.{loaded-inside}
+use Rattle.space.proofs.Laws.{getD-any, cases}
+use Rattle.levels.specs.Levels.{levelsAt, Fills, joined, total, Stacked, sortedTo, Moved}
+use Rattle.levels.proofs.LevelLaws.{fill-is, moved-none}
+use Rattle.levels.proofs.CarryLaws.{total-joined, one-of-total}
+
+-- ---------------------------------------------------------------- lists made and kept
+
+if-append : (b : Bool) (x : ℕ) (l r : List ℕ) → (if b then x ∷ (l ++ r) else (l ++ r)) ≡ (if b then x ∷ l else l) ++ r
+unfolding if_then_else_
+if-append true x l r = refl
+if-append false x l r = refl
+
+pub keep-append : (p : ℕ → Bool) (xs ys : List ℕ) → keep p (xs ++ ys) ≡ keep p xs ++ keep p ys
+unfolding keep
+keep-append p [] ys = refl
+keep-append p (x ∷ xs) ys = rw (keep-append p xs ys) (if-append (p x) x (keep p xs) (keep p ys))
+
+pub keep-one : (p : ℕ → Bool) (x : ℕ) → p x ≡ true → keep p (x ∷ []) ≡ x ∷ []
+unfolding keep if_then_else_
+keep-one p x e = rw e
+
+pub keep-no : (p : ℕ → Bool) (x : ℕ) → p x ≡ false → keep p (x ∷ []) ≡ []
+unfolding keep if_then_else_
+keep-no p x e = rw e
+
+tab-last : (n at : ℕ) (f : ℕ → ℕ) → tab (suc n) at f ≡ tab n at f ++ (f (at + n) ∷ [])
+unfolding tab
+tab-last zero at f = rw (add-zero at)
+tab-last (suc n) at f = let e : suc at + n ≡ at + suc n = omega arith in ap (λ (l : List ℕ). f at ∷ l) (tab-last n (suc at) f ∙ rw e)
+
+module _ (f g : ℕ → List ℕ) where
+  tab-same : (n at : ℕ) → ((j : ℕ) → at ≤ j → j < at + n → g j ≡ f j) → tab n at g ≡ tab n at f
+  unfolding tab
+  tab-same zero at h = refl
+  tab-same (suc n) at h = rw (h at (le-refl at) (omega arith), tab-same n (suc at) (λ j l u. h j (omega arith) (omega arith)))
+
+  -- only at k is it another
+  tab-set : (n at k : ℕ) → k < n → ((j : ℕ) → (j ≡ at + k → ⊥) → g j ≡ f j) → tab n at g ≡ set (tab n at f) k (g (at + k))
+  unfolding tab
+  tab-set zero at k h e = absurd (omega arith)
+  tab-set (suc n) at zero h e = rw (add-zero at, tab-same n (suc at) (λ j l _. e j (λ q. omega arith)))
+  tab-set (suc n) at (suc k) h e =
+      let q : suc at + k ≡ at + suc k = omega arith in
+      rw (e at (λ q. omega arith), tab-set n (suc at) k (omega arith) (λ j l. e j (λ r. l (omega arith))), q)
+
+-- ---------------------------------------------------------------- one more span
+
+module _ (area dist ids : List ℕ) (level i : ℕ) where
+  abbrev free : ℕ → Bool
+  free s = not (eqb (getD area s 256) 0) and eqb (getD ids s 0) 0
+
+  abbrev its : ℕ → ℕ
+  its s = level / 2 - getD dist s 0 / 2
+
+  abbrev stack : ℕ → ℕ → List ℕ
+  stack i j = keep (λ s. eqb (its s) j) (keep free (tab i 0 (λ s. s)))
+
+  more : (j : ℕ) → stack (suc i) j ≡ stack i j ++ keep (λ s. eqb (its s) j) (keep free (i ∷ []))
+  more j = rw (tab-last i 0 (λ s. s), zero-add i, keep-append free (tab i 0 (λ s. s)) (i ∷ []), keep-append (λ s. eqb (its s) j) (keep free (tab i 0 (λ s. s))) (keep free (i ∷ [])))
+
+  same-at : (j : ℕ) → keep (λ s. eqb (its s) j) (keep free (i ∷ [])) ≡ [] → stack (suc i) j ≡ stack i j
+  same-at j e = more j ∙ rw (e, append-nil (stack i j))
+
+  not-free : free i ≡ false → sortedTo area dist ids level (i + 1) ≡ sortedTo area dist ids level i
+  unfolding sortedTo keep
+  not-free e = rw (add-one i) (tab-same (stack i) (stack (suc i)) 8 0 (λ j _ _. same-at j (rw (keep-no free i e))))
+
+  none-at : (j : ℕ) → (its i ≡ j → ⊥) → keep (λ s. eqb (its s) j) (keep free (i ∷ [])) ≡ []
+  unfolding keep
+  none-at j h = if-ind (λ (l : List ℕ). keep (λ s. eqb (its s) j) l ≡ []) (free i) (λ _. keep-no (λ s. eqb (its s) j) i (ne-eqb _ _ h)) (λ _. refl)
+
+  -- its stack is past the eight
+  too-high : 8 ≤ its i → sortedTo area dist ids level (i + 1) ≡ sortedTo area dist ids level i
+  unfolding sortedTo
+  too-high h = rw (add-one i) (tab-same (stack i) (stack (suc i)) 8 0 (λ j _ l. same-at j (none-at j (λ e. omega arith))))
+
+  goes : free i ≡ true → its i < 8 → sortedTo area dist ids level (i + 1) ≡ joined (its i) (i ∷ []) (sortedTo area dist ids level i)
+  unfolding sortedTo joined
+  goes e h =
+      let t = its i in
+      let one : stack (suc i) (0 + t) ≡ getD (tab 8 0 (stack i)) t [] ++ (i ∷ []) =
+      rw (tab-at 8 0 (stack i) t [] h) (more (0 + t) ∙ rw (keep-one free i e, keep-one (λ s. eqb (its s) (0 + t)) i (eq-eqb t (0 + t) (omega arith)))) in
+      rw (add-one i) (tab-set (stack i) (stack (suc i)) 8 0 t h (λ j l. same-at j (none-at j (λ q. l (omega arith)))) ∙ ap (set (tab 8 0 (stack i)) t) one)
+
+-- ---------------------------------------------------------------- a span as the code takes it
+
+module _ (area dist ids : List ℕ) (level i : ℕ) where
+  pub skip-area : i < length area → getD area i 0 ≡ 0 → sortedTo area dist ids level (i + 1) ≡ sortedTo area dist ids level i
+  unfolding _and_
+  skip-area h e = not-free area dist ids level i (rw (getD-any area i 256 0 h, eq-eqb _ 0 e))
+
+  pub skip-id : (getD ids i 0 ≡ 0 → ⊥) → sortedTo area dist ids level (i + 1) ≡ sortedTo area dist ids level i
+  skip-id h = not-free area dist ids level i (rw (ne-eqb _ 0 h) (and-no _))
+
+  pub skip-high : (t : ℕ) → t ≡ level / 2 - getD dist i 0 / 2 → 8 ≤ t → sortedTo area dist ids level (i + 1) ≡ sortedTo area dist ids level i
+  skip-high t e h = too-high area dist ids level i (rw e at h)
+
+  pub sort-put : (t : ℕ) → i < length area → (getD area i 0 ≡ 0 → ⊥) → getD ids i 0 ≡ 0 → t ≡ level / 2 - getD dist i 0 / 2 → t < 8
+      → sortedTo area dist ids level (i + 1) ≡ joined t (i ∷ []) (sortedTo area dist ids level i)
+  unfolding _and_
+  sort-put t h a z e l = rw e (goes area dist ids level i (rw (getD-any area i 256 0 h, ne-eqb _ 0 a, eq-eqb _ 0 z)) (rw e at l))
+
+-- ---------------------------------------------------------------- no more entries than spans
+
+total-none : (area dist ids : List ℕ) (level : ℕ) → total (sortedTo area dist ids level 0) ≡ 0
+unfolding total sortedTo tab keep
+total-none area dist ids level = refl
+
+total-more : (area dist ids : List ℕ) (level i : ℕ) → total (sortedTo area dist ids level (i + 1)) ≤ total (sortedTo area dist ids level i) + 1
+total-more area dist ids level i =
+    elim (decLt (level / 2 - getD dist i 0 / 2) 8) [
+      | yes h ↦ ⊎-elim
+          (λ (e : (not (eqb (getD area i 256) 0) and eqb (getD ids i 0) 0) ≡ true). rw (goes area dist ids level i e h) (total-joined (level / 2 - getD dist i 0 / 2) (i ∷ []) (sortedTo area dist ids level i)))
+          (λ (e : (not (eqb (getD area i 256) 0) and eqb (getD ids i 0) 0) ≡ false). rw (not-free area dist ids level i e) (omega arith))
+          (cases (not (eqb (getD area i 256) 0) and eqb (getD ids i 0) 0))
+      | no h ↦ rw (too-high area dist ids level i (omega arith)) (omega arith)
+    ]
+
+total-sorted : (area dist ids : List ℕ) (level i : ℕ) → total (sortedTo area dist ids level i) ≤ i
+total-sorted area dist ids level zero = omega (arith, total-none area dist ids level)
+total-sorted area dist ids level (suc i) = rw (← add-one i) (omega (arith, total-sorted area dist ids level i, total-more area dist ids level i))
+
+-- so there is room for one more
+pub sort-room : (area dist ids : List ℕ) (level i : ℕ) (ws : List ℕ) (n base : ℕ) (fs : List ℕ) (k : ℕ) → Fills n fs → base + 8 * n ≤ length ws
+    → levelsAt ws base n fs ≡ sortedTo area dist ids level i → k < 8 → i < n → getD fs k 0 < n
+sort-room area dist ids level i ws n base fs k f l e h g =
+    let a = fill-is ws n base fs k f l h in
+    let b = one-of-total (levelsAt ws base n fs) k in
+    let c : total (levelsAt ws base n fs) ≤ i = rw e (total-sorted area dist ids level i) in
+    omega arith
+
+-- ---------------------------------------------------------------- the rule
+
+-- the rule reads the areas and the ids only
+pub sorted-is : (area dist ids : List ℕ) (level : ℕ) (F : Field) (m : Marks) → F .area ≡ area → m .ids ≡ ids → sortedTo area dist ids level (length area) ≡ sorted F dist m level
+unfolding sorted blank walkable areaOf sortedTo
+sorted-is area dist ids level F m a e = rw (← a, ← e)
+
+sorted-eight : (area dist ids : List ℕ) (level i : ℕ) → length (sortedTo area dist ids level i) ≡ 8
+unfolding sortedTo
+sorted-eight area dist ids level i = length-tab 8 0 _
+
+pub sorted-stacked : (F : Field) (dist : List ℕ) (m : Marks) (level : ℕ) → Stacked (spans F) (sorted F dist m level) 0
+unfolding loaded if_then_else_
+sorted-stacked F dist m level =
+    let e = sorted-is (F .area) dist (m .ids) level F m refl refl in
+    record {
+      eight = rw (← e) (sorted-eight (F .area) dist (m .ids) level (spans F));
+      room = rw (← e) (total-sorted (F .area) dist (m .ids) level (spans F));
+      inside = loaded-inside F dist level 0 (record { marks = m; stacks = []; next = 0 }) (λ i. tt);
+    }
+
+keep-each : (P : ℕ → Type 0) (p : ℕ → Bool) (xs : List ℕ) → All P xs → All (λ x. P x × (p x ≡ true)) (keep p xs)
+unfolding keep
+keep-each P p [] h = tt
+keep-each P p (x ∷ xs) h = if-ind (All (λ x. P x × (p x ≡ true))) (p x) (λ e. ((h .0, e), keep-each P p xs (h .1))) (λ _. keep-each P p xs (h .1))
+
+-- an entry as sorted: a walkable span of id 0
+abbrev pub Fresh : Field → Marks → ℕ → Type 0
+Fresh F m e = (e < spans F) × (walkable F e ≡ true) × (idOf m e ≡ 0)
+
+blank-fresh : (F : Field) (m : Marks) → All (Fresh F m) (blank F m)
+unfolding blank
+blank-fresh F m =
+    let p : ℕ → Bool = λ s. walkable F s and eqb (idOf m s) 0 in
+    All-map {P = λ e. (e < spans F) × (p e ≡ true)} {Q = Fresh F m} (keep p (tab (spans F) 0 (λ s. s)))
+    (λ e h. let b = both (walkable F e) (eqb (idOf m e) 0) (h .1) in (h .0, b .0, eqb-true (idOf m e) 0 (b .1)))
+    (keep-each (λ e. e < spans F) p (tab (spans F) 0 (λ s. s)) (tab-all (λ e. e < spans F) (spans F) 0 (λ i g. omega arith)))
+
+pub sorted-fresh : (F : Field) (dist : List ℕ) (m : Marks) (level k : ℕ) → All (Fresh F m) (getD (sorted F dist m level) k [])
+unfolding sorted
+sorted-fresh F dist m level k = tab-each (All (Fresh F m)) 8 0 _ [] k tt (λ j. keep-all (Fresh F m) _ (blank F m) (blank-fresh F m))
+
+-- ---------------------------------------------------------------- one span of the workspace's sort
+
+module _ (area dist ids : List ℕ) (level i : ℕ) (ws : List ℕ) (base : ℕ) (fs : List ℕ) where
+  moved-skip : Fills (length area) fs → levelsAt ws base (length area) fs ≡ sortedTo area dist ids level i → sortedTo area dist ids level (i + 1) ≡ sortedTo area dist ids level i
+      → Moved (length area) base ws fs ws fs (sortedTo area dist ids level (i + 1))
+  moved-skip f s e = moved-none ws (length area) base fs _ f (s ∙ sym e)
+
+  pub moved-skip-area : i < length area → Fills (length area) fs → levelsAt ws base (length area) fs ≡ sortedTo area dist ids level i → getD area i 0 ≡ 0
+      → Moved (length area) base ws fs ws fs (sortedTo area dist ids level (i + 1))
+  moved-skip-area h f s e = moved-skip f s (skip-area area dist ids level i h e)
+
+  pub moved-skip-id : Fills (length area) fs → levelsAt ws base (length area) fs ≡ sortedTo area dist ids level i → (getD ids i 0 ≡ 0 → ⊥)
+      → Moved (length area) base ws fs ws fs (sortedTo area dist ids level (i + 1))
+  moved-skip-id f s e = moved-skip f s (skip-id area dist ids level i e)
+
+  pub moved-skip-high : (t : ℕ) → Fills (length area) fs → levelsAt ws base (length area) fs ≡ sortedTo area dist ids level i → t ≡ level / 2 - getD dist i 0 / 2 → 8 ≤ t
+      → Moved (length area) base ws fs ws fs (sortedTo area dist ids level (i + 1))
+  moved-skip-high t f s e h = moved-skip f s (skip-high area dist ids level i t e h)
+
+  pub moved-put : (t : ℕ) (ws′ fs′ : List ℕ) → i < length area → levelsAt ws base (length area) fs ≡ sortedTo area dist ids level i
+      → (getD area i 0 ≡ 0 → ⊥) → getD ids i 0 ≡ 0 → t ≡ level / 2 - getD dist i 0 / 2 → t < 8
+      → Moved (length area) base ws fs ws′ fs′ (joined t (i ∷ []) (levelsAt ws base (length area) fs))
+      → Moved (length area) base ws fs ws′ fs′ (sortedTo area dist ids level (i + 1))
+  moved-put t ws′ fs′ h s a z e l m = rw (sort-put area dist ids level i t h a z e l) (rw s at m)
+
+-- ---------------------------------------------------------------- the loop
+
+module _ (area dist ids : List ℕ) (level : ℕ) (ws₀ : List ℕ) (base : ℕ) where
+  -- all stacks are emptied
+  pub sort-start : Moved (length area) base ws₀ (replicate 8 0) ws₀ (replicate 8 0) (sortedTo area dist ids level 0)
+  unfolding levelsAt sortedTo tab keep
+  sort-start = moved-none ws₀ (length area) base (replicate 8 0) _ (record { eight = refl; most = λ k. omega (arith, zeros-at 8 k) }) refl
+    where
+      zeros-at : (m k : ℕ) → _≡_ {A = ℕ} (getD (replicate m 0) k 0) 0
+      zeros-at zero k = refl
+      zeros-at (suc m) zero = refl
+      zeros-at (suc m) (suc k) = zeros-at m k
+
+  module _ (i : ℕ) (fs₀ ws fs : List ℕ) (m : Moved (length area) base ws₀ fs₀ ws fs (sortedTo area dist ids level i)) (a : i ≤ length area) (b : length area ≤ i) where
+    pub sort-done : (F : Field) (mk : Marks) → F .area ≡ area → mk .ids ≡ ids → levelsAt ws base (length area) fs ≡ sorted F dist mk level
+    sort-done F mk e g = let q : i ≡ length area = omega arith in m .same ∙ rw q (sorted-is area dist ids level F mk e g)
+
+    pub sort-stacked : Stacked (length area) (levelsAt ws base (length area) fs) 0
+    sort-stacked =
+        let F : Field = record { w = 0; h = 0; index = []; count = []; area = area; con = [] } in
+        let mk : Marks = record { ids = ids; src = [] } in
+        rw (sort-done F mk refl refl) (sorted-stacked F dist mk level)

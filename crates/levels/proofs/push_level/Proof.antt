@@ -1,0 +1,70 @@
+-- A push is a store at the fill of its stack, which lies within the stacks since the fill is below n.
+-- No other stack is touched: each has its own n places.
+use Rattle.levels.proofs.LevelLaws.{slot, moved-push}
+use Prim.Native.Nat.{_+_, _*_, _<_}
+use lib.ListN.{getD}
+use native.Mathlib.Omega.{arith}
+use borrow.Author.Needs.{needs}
+use Rattle.levels.proofs.push_level.Statement.{statement}
+use Rattle.levels.proofs.push_level.Tie as tie
+
+-- the entry's place is within the stacks
+low : (c : tie.After-f) → c .before .args .k * c .before .args .n + getD (c .before .args .t4 .fills) (c .before .args .k) 0 < 8 * c .before .args .n
+low c = slot _ _ _ _ (c .before .pre .0) (c .before .pre .2)
+
+mul-f : tie.Need-mul-f
+mul-f c = search needs
+
+element-copy-out-f : tie.Need-element-copy-out-f
+element-copy-out-f c = search needs
+
+mul-ws : tie.Need-mul-ws
+mul-ws c = omega (arith, low c)
+
+cast-ws : tie.Need-cast-ws
+cast-ws c = search needs
+
+add-ws : tie.Need-add-ws
+add-ws c = omega (arith, low c)
+
+add-ws-2 : tie.Need-add-ws-2
+add-ws-2 c = omega (arith, low c)
+
+mul-ws-2 : tie.Need-mul-ws-2
+mul-ws-2 c = omega (arith, low c)
+
+slice-write-ws : tie.Need-slice-write-ws
+slice-write-ws c = omega (arith, low c)
+
+add-out : tie.Need-add-out
+add-out c = search needs
+
+mul-out : tie.Need-mul-out
+mul-out c = search needs
+
+element-write-out : tie.Need-element-write-out
+element-write-out c = search needs
+
+same-length : tie.Need-same-length
+same-length c = search needs
+
+returns : tie.Need-returns
+returns c = (search (needs, moved-push), search needs)
+
+pub push-level-spec : {M : Type 1} → statement M
+push-level-spec =
+    tie.close
+    (tie.spec
+    mul-f
+    element-copy-out-f
+    mul-ws
+    cast-ws
+    add-ws
+    add-ws-2
+    mul-ws-2
+    slice-write-ws
+    add-out
+    mul-out
+    element-write-out
+    same-length
+    returns)

@@ -1,0 +1,4 @@
+pub mod PutLaws
+pub mod CellLaws
+pub mod BorderLaws
+pub mod FillLaws

@@ -1,0 +1,187 @@
+// The border's painting (flood and expansion rule 1), and the cell of each span.
+ghost use mathlib.Core.Path.{_≡_};
+ghost use mathlib.Core.List.{_++_};
+ghost use Prim.Native.Nat.{ℕ, _+_, _*_, _<_, _≤_, min};
+ghost use lib.ListN.{length, getD, take, drop, replicate};
+ghost use Rattle.rules.specs.Base.{tab};
+ghost use Rattle.rules.specs.Field.{Field, cellOf};
+ghost use Rattle.rules.specs.Growth.{painted, firstId};
+ghost use Rattle.space.specs.Space.{Frame};
+ghost use Rattle.paint.specs.Paint.{Plot, putIf, walkIn, between, spanIs, inCell, inRect};
+
+// Span i, if walkable.
+fn paint_span(area: &[u8], ids: &mut [u16], i: usize, region: u16)
+    requires { ⌜ (i < length (now area)) × (length (now ids) ≡ length (now area)) ⌝ }
+    ensures { λ _. ⌜ now (ids .exit) ≡ putIf (walkIn (now (area .entry)) (spanIs i)) region (now (ids .entry)) ⌝ }
+{
+    if area[i] == 0 {
+        return;
+    }
+    ids[i] = region;
+}
+
+fn wide32(x: u32) -> usize
+    ensures { λ r. ⌜ (r ≡ x) × (r ≤ 4294967295) ⌝ }
+{
+    x as usize
+}
+
+fn wide16(x: u16) -> usize
+    ensures { λ r. ⌜ (r ≡ x) × (r ≤ 65535) ⌝ }
+{
+    x as usize
+}
+
+fn wide8(x: u8) -> usize
+    ensures { λ r. ⌜ (r ≡ x) × (r ≤ 255) ⌝ }
+{
+    x as usize
+}
+
+// A cell's index: its first span, if it has any.
+fn first_span(index: &[u32], c: usize) -> usize
+    requires { ⌜ c < length (now index) ⌝ }
+    ensures { λ r. ⌜ (r ≡ getD (now (index .entry)) c 0) × (r ≤ 4294967295) ⌝ }
+{
+    wide32(index[c])
+}
+
+fn span_count(count: &[u8], c: usize) -> usize
+    requires { ⌜ c < length (now count) ⌝ }
+    ensures { λ r. ⌜ (r ≡ getD (now (count .entry)) c 0) × (r ≤ 255) ⌝ }
+{
+    wide8(count[c])
+}
+
+// The walkable spans of cell c.
+fn paint_cell(index: &[u32], count: &[u8], area: &[u8], ids: &mut [u16], c: usize, region: u16)
+    requires { ⌜ (c < length (now count)) × (length (now ids) ≡ length (now area)) × Plot (now index) (now count) (length (now area)) ⌝ }
+    ensures { λ _. ⌜ now (ids .exit) ≡ putIf (walkIn (now (area .entry)) (inCell (now (count .entry)) c)) region (now (ids .entry)) ⌝ }
+{
+    let first = first_span(index, c);
+    let last = first + span_count(count, c);
+    let mut i = first;
+    while i < last {
+        paint_span(area, ids, i, region);
+        i += 1;
+    }
+}
+
+// The cells of row z with min_x ≤ x < max_x.
+fn paint_row(
+    w: usize,
+    index: &[u32],
+    count: &[u8],
+    area: &[u8],
+    ids: &mut [u16],
+    min_x: usize,
+    max_x: usize,
+    z: usize,
+    region: u16,
+)
+    requires { ⌜ («min_x» ≤ «max_x») × («max_x» ≤ w) × ((z + 1) * w ≤ length (now count)) × (length (now ids) ≡ length (now area)) × Plot (now index) (now count) (length (now area)) ⌝ }
+    ensures { λ _. ⌜ now (ids .exit) ≡ putIf (walkIn (now (area .entry)) (inRect w (now (count .entry)) «min_x» «max_x» z (z + 1))) region (now (ids .entry)) ⌝ }
+{
+    let mut x = min_x;
+    while x < max_x {
+        paint_cell(index, count, area, ids, z * w + x, region);
+        x += 1;
+    }
+}
+
+// The walkable spans of the cells with min_x ≤ x < max_x and min_z ≤ z < max_z.
+pub fn paint_rect_region(
+    w: usize,
+    index: &[u32],
+    count: &[u8],
+    area: &[u8],
+    ids: &mut [u16],
+    min_x: usize,
+    max_x: usize,
+    min_z: usize,
+    max_z: usize,
+    region: u16,
+)
+    requires { ⌜ («min_x» ≤ «max_x») × («max_x» ≤ w) × («min_z» ≤ «max_z») × («max_z» * w ≤ length (now count)) × (length (now ids) ≡ length (now area)) × Plot (now index) (now count) (length (now area)) ⌝ }
+    ensures { λ _. ⌜ now (ids .exit) ≡ putIf (walkIn (now (area .entry)) (inRect w (now (count .entry)) «min_x» «max_x» «min_z» «max_z»)) region (now (ids .entry)) ⌝ }
+{
+    let mut z = min_z;
+    while z < max_z {
+        paint_row(w, index, count, area, ids, min_x, max_x, z, region);
+        z += 1;
+    }
+}
+
+fn smaller(a: usize, b: usize) -> usize
+    ensures { λ r. ⌜ r ≡ min a b ⌝ }
+{
+    if a < b {
+        return a;
+    }
+    b
+}
+
+// "If border size is above 0, walkable spans are painted with 0x8000 plus 1 (left columns), 2 (right), 3 (low rows), 4 (high rows),
+// later paint over earlier, each strip clipped to the field; next id is then 5." Returns the next id.
+pub fn paint_border(
+    w: usize,
+    h: usize,
+    index: &[u32],
+    count: &[u8],
+    area: &[u8],
+    ids: &mut [u16],
+    border_size: u16,
+) -> u16
+    requires { ⌜ (length (now count) ≡ w * h) × (length (now ids) ≡ length (now area)) × (now ids ≡ replicate (length (now area)) 0) × Plot (now index) (now count) (length (now area)) ⌝ }
+    ensures { λ _. ⌜ ((F : Field) → F .w ≡ w → F .h ≡ h → F .count ≡ now (count .entry) → F .area ≡ now (area .entry) → now (ids .exit) ≡ painted F «border_size» .ids) ⌝ }
+    ensures { λ r. ⌜ r ≡ firstId «border_size» ⌝ }
+{
+    if border_size == 0 {
+        return 1;
+    }
+    let b = wide16(border_size);
+    let border_width = smaller(b, w);
+    let border_height = smaller(b, h);
+    let right = w - border_width;
+    let high = h - border_height;
+    paint_rect_region(w, index, count, area, ids, 0, border_width, 0, h, 0x8001);
+    paint_rect_region(w, index, count, area, ids, right, w, 0, h, 0x8002);
+    paint_rect_region(w, index, count, area, ids, 0, w, 0, border_height, 0x8003);
+    paint_rect_region(w, index, count, area, ids, 0, w, high, h, 0x8004);
+    5
+}
+
+// The spans of cell c, from first to below last, get its number.
+fn fill_cell(cells: &mut [u16], first: usize, last: usize, c: u16)
+    requires { ⌜ (first ≤ last) × ((i : ℕ) → first ≤ i → i < last → i < length (now cells)) ⌝ }
+    ensures { λ _. ⌜ now (cells .exit) ≡ putIf (between first last) c (now (cells .entry)) ⌝ }
+{
+    let mut i = first;
+    while i < last {
+        cells[i] = c;
+        i += 1;
+    }
+}
+
+fn fill_part(index: &[u32], count: &[u8], cells: &mut [u16])
+    requires { ⌜ Plot (now index) (now count) (length (now cells)) ⌝ }
+    ensures { λ _. ⌜ now (cells .exit) ≡ tab (length (now (cells .entry))) 0 (cellOf (now (count .entry))) ⌝ }
+{
+    let mut c = 0;
+    while c < count.len() {
+        let first = first_span(index, c);
+        let last = first + span_count(count, c);
+        fill_cell(cells, first, last, c as u16);
+        c += 1;
+    }
+}
+
+// The cell of each of the n spans, from base on.
+pub fn fill_cells(index: &[u32], count: &[u8], ws: &mut [u16], base: usize, n: usize)
+    requires { ⌜ (base + n ≤ length (now ws)) × Plot (now index) (now count) n ⌝ }
+    ensures { λ _. ⌜ now (ws .exit) ≡ take base (now (ws .entry)) ++ (tab n 0 (cellOf (now (count .entry))) ++ drop (base + n) (now (ws .entry))) ⌝ }
+    ensures { λ _. ⌜ Frame base (base + n) (now (ws .entry)) (now (ws .exit)) ⌝ }
+{
+    let end = base + n;
+    fill_part(index, count, &mut ws[base..end]);
+}

@@ -1,3 +1,3 @@
 // Rule 4: the flood of one region.
-mod flow;
+pub mod flow;
 mod look;

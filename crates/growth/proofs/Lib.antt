@@ -1,0 +1,2 @@
+-- Laws of the growth.
+pub mod SeaLaws

@@ -1,0 +1,2 @@
+// Flood and expansion, rules 1 to 5.
+mod floods;

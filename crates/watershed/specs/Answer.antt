@@ -1,0 +1,25 @@
+-- Document 01's numbers for the answer of each entry, and the promise that uses them.
+use Prim.Native.Nat.{ℕ}
+use mathlib.Core.Path.{_≡_}
+use mathlib.Core.List.{List}
+use Rattle.rules.specs.Outcomes.{DistanceOutcome}
+use Rattle.field.specs.Answer.{numberOf}
+use Rattle.watershed.specs.declared.DistanceAnswer.{DistanceAnswer}
+use Rattle.watershed.specs.declared.DistanceAnswer.the-variants.{Refused, Done}
+
+-- the refusal number, 0 for none
+abbrev pub refusedBy : DistanceAnswer → ℕ
+refusedBy (Refused r) = numberOf r
+refusedBy (Done m) = 0
+
+-- max_distance: "A refusal returns its number with zero for each other number"
+abbrev pub mostIn : DistanceAnswer → ℕ
+mostIn (Refused r) = 0
+mostIn (Done m) = m
+
+-- an answer, with l and m the two lists at exit, is the outcome
+pub record Answers (o : DistanceOutcome) (r : DistanceAnswer) (l m : List ℕ) : Type 0 where
+  pub refused : refusedBy r ≡ o .refused
+  pub most : mostIn r ≡ o .most
+  pub raw : l ≡ o .raw
+  pub blurred : m ≡ o .blurred

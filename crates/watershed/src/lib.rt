@@ -1,0 +1,50 @@
+// The public entries.
+use distance::blur::box_blur;
+use distance::blur::greatest;
+use distance::distances::calculate_distance_field;
+use field::check::Refusal;
+use field::check::Verdict;
+use field::check::check;
+ghost use Rattle.rules.specs.Outcomes.{distanceOutcome};
+ghost use Rattle.field.specs.Lent.{lent};
+ghost use Rattle.watershed.specs.Answer.{Answers};
+
+// What the distance entry gives: the refusal, or max_distance.
+pub enum DistanceAnswer {
+    Refused(Refusal),
+    Done(u16),
+}
+
+// Raw and blurred distances of any lists: a field that is refused leaves both as they were.
+pub fn build_distance_field(
+    w: u16,
+    h: u16,
+    index: &[u32],
+    count: &[u8],
+    area: &[u8],
+    con: &[u8],
+    raw: &mut [u16],
+    blurred: &mut [u16],
+) -> DistanceAnswer
+    ensures { λ r. ⌜ Answers (distanceOutcome (lent w h (now (index .entry)) (now (count .entry)) (now (area .entry)) (now (con .entry))) (now (raw .entry)) (now (blurred .entry))) r (now (raw .exit)) (now (blurred .exit)) ⌝ }
+{
+    let width = w as usize;
+    let height = h as usize;
+    match check(
+        width,
+        height,
+        index,
+        count,
+        area,
+        con,
+        raw.len(),
+        blurred.len(),
+    ) {
+        Verdict::Refused(r) => DistanceAnswer::Refused(r),
+        Verdict::Sound => {
+            calculate_distance_field(width, height, index, count, area, con, raw);
+            box_blur(width, height, index, count, area, con, raw, blurred);
+            DistanceAnswer::Done(greatest(raw))
+        }
+    }
+}

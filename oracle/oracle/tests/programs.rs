@@ -171,3 +171,16 @@ fn mistakes_are_told() {
         assert!(told.starts_with(message), "{told}");
     }
 }
+
+#[test]
+fn limits_prints_what_the_repository_stores_for_the_proved_program() {
+    let stored = concat!(env!("CARGO_MANIFEST_DIR"), "/../../crates/limits/stdout");
+    let printed = Command::new(env!("CARGO_BIN_EXE_limits"))
+        .output()
+        .expect("limits runs")
+        .stdout;
+    assert_eq!(
+        String::from_utf8(printed).expect("text"),
+        fs::read_to_string(stored).expect("the stored output")
+    );
+}

@@ -9,7 +9,7 @@ use lib.ListN.{length, getD, set, drop, drop-of-length-le, List·getD-eq-default
 use lib.Seq.{drop-cons}
 use borrow.Author.Tests.{le-leb, lt-leb}
 use Rattle.rules.specs.Base.{if_then_else_, upto}
-use Rattle.rules.specs.Field.{Field, spans, near, corner, cellTo}
+use Rattle.rules.specs.Field.{Field, near, corner, cellTo}
 use Rattle.rules.specs.Distance.{greatest, term, blurAt}
 use Rattle.field.specs.Lent.{Reached, Spot, SomeSpot, Leaf, consAt, lent}
 use Rattle.field.proofs.Loops.{upto-go}

@@ -1,23 +1,22 @@
 -- No sum of a pass exceeds 65,535. Pass 1: a span that starts above 0 has a neighbour 0, which stands one column before it and is already passed,
 -- so a span in column x comes to at most 2·x, and what a span reads stands in cells before its own. Pass 2 only lowers.
-use Prim.Native.Nat.{ℕ, zero, suc, _+_, _*_, _-_, _/_, _%_, _≤_, _<_, min}
+use Prim.Native.Nat.{ℕ, _+_, _*_, _-_, _/_, _%_, _≤_, _<_}
 use native.Mathlib.Omega.{arith}
 use native.Mathlib.Nat.{mod-lt, mod-le, div-le-self, div-eq-of-lt, mul-suc, mul-zero, zero-add}
 use native.Mathlib.Numerals.{add-one}
 use native.Mathlib.Decide.{decLt, ℕ-discrete}
 use mathlib.Core.Path.{_≡_, refl, sym, ap, _∙_}
-use mathlib.Core.Bool.{Bool, true, false}
+use mathlib.Core.Bool.{false}
 use mathlib.Core.List.{List}
 use lib.ListN.{length, getD, set, length-set, List·getD-eq-default}
-use lib.Dec.{eqb}
 use borrow.Author.Tests.{eqb-true, eqb-false, ltb-false}
-use Rattle.rules.specs.Base.{if_then_else_, upto}
+use Rattle.rules.specs.Base.{upto}
 use Rattle.rules.specs.Field.{Field, spans, areaOf, near, cellOf, cellTo, leaves, conOf}
 use Rattle.rules.specs.Distance.{same, start, far, lower}
 use Rattle.laws.proofs.Basics.{if-ind, tests, tab-at, length-tab, getD-set-at}
 use Rattle.laws.proofs.Cells.{near-none, before, cellOf-in}
 use Rattle.laws.proofs.Passes.{wide-pos, mod-pred, same-le}
-use Rattle.field.specs.Lent.{Stands, Celled, Reached, Spot, lent}
+use Rattle.field.specs.Lent.{Stands, Reached, Spot, lent}
 use Rattle.field.proofs.Places.{getD-any, cell-is, sum-is, stands-in, reaches, near-stands}
 use Rattle.field.proofs.Checks.{layer-spot}
 use Rattle.field.proofs.Loops.{upto-go}

@@ -2,12 +2,12 @@
 -- since where there is no span the rule reads 65,535 and adds to it.
 use Prim.Native.Nat.{ℕ, _+_, _*_, _≤_, _<_, min}
 use native.Mathlib.Omega.{arith}
-use mathlib.Core.Path.{_≡_, refl, sym, ap, _∙_}
+use mathlib.Core.Path.{_≡_, sym, ap, _∙_}
 use mathlib.Core.List.{List}
 use lib.ListN.{length, getD, List·getD-eq-default}
 use Rattle.rules.specs.Field.{Field, spans, near, cellTo}
 use Rattle.rules.specs.Distance.{far}
-use Rattle.field.specs.Lent.{Reached, Spot, SomeSpot, Leaf, SomeLeaf, consAt}
+use Rattle.field.specs.Lent.{Spot, SomeSpot, Leaf, SomeLeaf, consAt}
 use Rattle.field.proofs.Places.{getD-any, near-stands, near-spot, step-spot}
 use Rattle.distance.specs.Value.{side, least, Sized, Room}
 use Rattle.distance.proofs.Values.{none-near, sized-con, sized-in, sized-leaf}

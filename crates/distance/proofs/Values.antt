@@ -1,21 +1,19 @@
 -- What a stage reads at a span and at its neighbours is what the rule reads: a neighbour that is there stands in its cell and has a value,
 -- and one that is not is past the list, where the rule reads its default.
-use Prim.Native.Nat.{ℕ, zero, suc, _+_, _*_, _-_, _/_, _%_, _≤_, _<_, min}
+use Prim.Native.Nat.{ℕ, _+_, _*_, _≤_, _<_}
 use native.Mathlib.Omega.{arith}
 use mathlib.Core.Path.{_≡_, refl, sym, ap, _∙_}
-use mathlib.Core.Bool.{Bool, true, false}
 use mathlib.Core.List.{List}
 use lib.ListN.{length, getD, set, List·getD-eq-default}
-use lib.Dec.{eqb, leb, ltb}
 use borrow.Author.Tests.{eq-eqb, ne-eqb, lt-ltb, le-ltb}
 use Rattle.rules.specs.Base.{if_then_else_, upto}
-use Rattle.rules.specs.Field.{Field, spans, near, corner, areaOf, cellTo, conOf}
-use Rattle.rules.specs.Distance.{same, far, term, blurAt}
+use Rattle.rules.specs.Field.{Field, spans, near, areaOf, cellTo, conOf}
+use Rattle.rules.specs.Distance.{same}
 use Rattle.laws.proofs.Cells.{near-none}
-use Rattle.field.specs.Lent.{Reached, Stands, Spot, SomeSpot, Leaf, SomeLeaf, consAt, lent}
-use Rattle.field.proofs.Places.{getD-any, near-stands, spot-leaf, spot-con, some-leaf, near-spot, step-spot, some-step, turned}
+use Rattle.field.specs.Lent.{Reached, Spot, SomeSpot, Leaf, SomeLeaf, consAt, lent}
+use Rattle.field.proofs.Places.{getD-any, near-stands, spot-leaf, spot-con, some-leaf, step-spot}
 use Rattle.field.proofs.Checks.{layer-spot}
-use Rattle.distance.specs.Value.{startAt, startTo, side, least, Sized, SizedLeaf, Room}
+use Rattle.distance.specs.Value.{startAt, startTo, Sized, SizedLeaf}
 use Rattle.field.proofs.Loops.{upto-go}
 
 -- ---------------------------------------------------------------- no span

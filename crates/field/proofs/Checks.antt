@@ -1,4 +1,5 @@
--- The turns of the checks' loops, and the order of the refusals. Assumes nothing.
+-- The turns of the checks' loops: what is passed so far holds, the first failure decides the whole, and the end is the rule.
+-- The spans of the cells in order are all spans in order, since a nonempty cell's index is the number of the spans before it.
 use Prim.Native.Nat.{ℕ, zero, suc, _+_, _*_, _≤_, _<_}
 use native.Mathlib.Omega.{arith}
 use native.Mathlib.Numerals.{add-one}

@@ -1,4 +1,5 @@
--- Loops that test or step through every number below a bound, as a port's code has them. Assumes nothing.
+-- Loops that test or step through every number below a bound, as a port's code has them: a turn, a way out, the end.
+-- The rules count down to the first step, the code counts up from it; a + k steps are a steps and the k that follow.
 use Prim.Native.Nat.{ℕ, zero, suc, _+_, _*_, _<_, _≤_}
 use native.Mathlib.Omega.{arith}
 use native.Mathlib.Nat.{le-trans, mul-le-mul-left}

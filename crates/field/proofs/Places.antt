@@ -1,4 +1,5 @@
--- Cells, spans and connections of a field that refusals 1 to 4, or 1 to 5, leave. Assumes nothing.
+-- Cells, spans and connections of a field that refusals 1 to 4, or 1 to 5, leave: a span stands in one cell, and a connection leads into the grid.
+-- Then the same as the code has it: what is lent is enough to say where a connection leads in every field that fits it.
 use Prim.Native.Nat.{ℕ, zero, suc, _+_, _*_, _-_, _/_, _%_, _≤_, _<_}
 use native.Mathlib.Omega.{arith}
 use native.Mathlib.Nat.{mod-lt, suc-mul, mul-comm, div-add-mod', div-lt-iff-lt-mul}
@@ -91,7 +92,7 @@ module _ (F : Field) (ok : Celled F) where
   pub stands-small : (c s : ℕ) → Stands F c s → c < 65536
   stands-small c s h = omega (arith, stands-in c s h, ok .grid)
 
--- the spans in the cells before c
+-- the spans in the cells before c, cell by cell as the loops add them up (the laws' `before` is shut)
 unfoldable pub firstOf : List ℕ → ℕ → ℕ
 firstOf ks zero = 0
 firstOf ks (suc c) = firstOf ks c + getD ks c 0
@@ -135,6 +136,7 @@ con-at F ok s (suc (suc zero)) h g = getD-any (F .con) (4 * s + 2) 255 0 (omega 
 con-at F ok s (suc (suc (suc zero))) h g = getD-any (F .con) (4 * s + 3) 255 0 (omega (arith, ok .linked))
 con-at F ok s (suc (suc (suc (suc d)))) h g = absurd (omega arith)
 
+-- the laws have `leads` from all six refusals; refusal 6's own check has five
 module _ (F : Field) (ok : Reached F) where
   pub reaches : (s d : ℕ) → s < spans F → d < 4 → (conOf F s d ≡ 255 → ⊥) → Leads F s d
   unfolding goodCon

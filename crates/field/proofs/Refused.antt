@@ -1,17 +1,18 @@
--- The order of the refusals: the first test that fails gives its number, and the tests that pass leave a field of use. Assumes nothing.
+-- The order of the refusals: the first test that fails gives its number, and the tests that pass leave a field of use.
+-- Each module adds what the code knows after one more test has passed.
 use Prim.Native.Nat.{ℕ, _*_, _≤_, _<_}
 use native.Mathlib.Omega.{arith}
 use mathlib.Core.Path.{_≡_, sym, ap, _∙_}
 use mathlib.Core.Bool.{Bool, true, false, not}
 use mathlib.Core.List.{List, [], _∷_}
 use lib.ListN.{length}
-use borrow.Author.Tests.{eqb-true, ltb-false, lt-ltb, le-ltb, not-false}
-use Rattle.rules.specs.Base.{_or_, if_then_else_, every}
+use borrow.Author.Tests.{eqb-true, eq-eqb, ltb-false, lt-ltb, le-ltb, not-false}
+use Rattle.rules.specs.Base.{_and_, _or_, if_then_else_, every}
 use Rattle.rules.specs.Field.{Field, spans}
 use Rattle.rules.specs.Refusals.{goodCells, goodCon, tooWide, tooMany, wrongLength, wrongCells, wrongReach, wrongBack, refusal}
 use Rattle.laws.proofs.Basics.{both, neither, every-at}
 use Rattle.laws.proofs.Cells.{passed}
-use Rattle.field.specs.Lent.{Celled, Reached, lent, reachAt, backAt}
+use Rattle.field.specs.Lent.{Celled, Reached, Sound, lent, reachAt, backAt}
 use Rattle.field.proofs.Loops.{product-small}
 
 not-wide : (F : Field) → F .w ≤ 256 → F .h ≤ 256 → tooWide F ≡ false
@@ -66,6 +67,26 @@ reached-of F lens e =
       celled = celled-of F lens (ltb-false _ _ (w .0)) (ltb-false _ _ (w .1)) (ltb-false _ _ (v .many)) (v .lengths) (not-false _ (v .cells));
       reach = λ s d h g. every-at 4 (goodCon F s) (every-at (spans F) (λ s. every 4 (goodCon F s)) (not-false _ (v .reach)) s h) d g;
     }
+
+-- what an entry's own lists are does not make the field unsound
+pub sound-of : (F : Field) (lens : List ℕ) → refusal F lens ≡ 0 → Sound F
+unfolding refusal if_then_else_ wrongLength _and_ every
+sound-of F lens e =
+    let v = passed F lens e in
+    let l = lengths F lens (v .lengths) in
+    rw (
+      v .wide,
+      v .many,
+      eq-eqb (length (F .index)) (F .w * F .h) (l .indexed),
+      eq-eqb (length (F .count)) (F .w * F .h) (l .counted),
+      eq-eqb (length (F .con)) (4 * spans F) (l .linked),
+      v .cells,
+      v .reach,
+      v .back,
+    )
+
+pub sound-reached : (F : Field) → Sound F → Reached F
+sound-reached F e = reached-of F [] e
 
 -- the entry's own two lists hold a number for each span
 pub own-lengths : (F : Field) (a b : ℕ) → refusal F (a ∷ b ∷ []) ≡ 0 → (a ≡ spans F) × (b ≡ spans F)

@@ -1,9 +1,9 @@
 -- Document 01's numbers for the answers.
 use Prim.Native.Nat.{ℕ}
-use Rattle.field.specs.declared.check.Refusal.{Refusal}
-use Rattle.field.specs.declared.check.Refusal.the-variants.{TooWide, TooMany, WrongLength, WrongCells, WrongReach, WrongBack, TooShort, TooFar}
-use Rattle.field.specs.declared.check.Verdict.{Verdict}
-use Rattle.field.specs.declared.check.Verdict.the-variants.{Sound, Refused}
+use Rattle.field.specs.declared.checker.Refusal.{Refusal}
+use Rattle.field.specs.declared.checker.Refusal.the-variants.{TooWide, TooMany, WrongLength, WrongCells, WrongReach, WrongBack, TooShort, TooFar}
+use Rattle.field.specs.declared.checker.Verdict.{Verdict}
+use Rattle.field.specs.declared.checker.Verdict.the-variants.{Sound, Refused}
 
 -- the table of the refusal numbers
 abbrev pub numberOf : Refusal → ℕ

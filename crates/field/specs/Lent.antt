@@ -73,7 +73,7 @@ pub record SomeLeaf (w : ℕ) (index cons : List ℕ) (c : ℕ) : Type 0 where
 unfoldable pub names : ℕ → ℕ → List ℕ → ℕ → ℕ → ℕ → Bool
 names w h count c k d = eqb k 255 or (not (leaves w h c d) and ltb k (getD count (cellTo w c d) 0))
 
--- the same of the four connections of a span in cell c, up to direction d
+-- the same of the connection in direction d of those that a span in cell c has
 unfoldable pub namesAt : ℕ → ℕ → List ℕ → ℕ → List ℕ → ℕ → Bool
 namesAt w h count c cons d = names w h count c (getD cons d 0) d
 

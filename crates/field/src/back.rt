@@ -8,7 +8,7 @@ use crate::place::step_from;
 use crate::read::at8;
 use crate::read::at32;
 ghost use mathlib.Core.Path.{_≡_};
-ghost use Prim.Native.Nat.{_*_, _<_, _≤_};
+ghost use Prim.Native.Nat.{_<_};
 ghost use lib.ListN.{length};
 ghost use Rattle.rules.specs.Base.{every};
 ghost use Rattle.rules.specs.Field.{Field, spans};

@@ -1,10 +1,9 @@
 // Spans, layers and cells: where a connection leads.
 use crate::read::at32;
 ghost use mathlib.Core.Path.{_≡_};
-ghost use mathlib.Core.Bool.{Bool};
 ghost use Prim.Native.Nat.{ℕ, _+_, _-_, _*_, _%_, _<_, _≤_};
 ghost use lib.ListN.{length, getD};
-ghost use Rattle.rules.specs.Field.{Field, cellTo, leaves, near, none};
+ghost use Rattle.rules.specs.Field.{Field, cellTo, leaves, near};
 ghost use Rattle.rules.specs.Field as rules;
 ghost use Rattle.field.specs.Lent.{consAt, Spot, Leaf, SomeSpot, SomeLeaf};
 

@@ -1,5 +1,5 @@
 // A call of the entry, and what it gave.
-use field::check::Refusal;
+use field::checker::Refusal;
 use watershed::DistanceAnswer;
 use watershed::build_distance_field;
 

@@ -1,6 +1,6 @@
 -- The distance entry's two ways out are the two cases of its outcome, and an outcome has one answer:
 -- a refusal's number is never 0, and no two refusals have the same.
-use Prim.Native.Nat.{ℕ, _≤_, _<_}
+use Prim.Native.Nat.{ℕ, _<_}
 use native.Mathlib.Omega.{arith}
 use mathlib.Core.Path.{_≡_, refl, sym, ap, _∙_}
 use mathlib.Core.Bool.{true, false}
@@ -9,17 +9,17 @@ use lib.ListN.{length, getD}
 use lib.Dec.{eqb}
 use borrow.Author.Tests.{eq-eqb, ne-eqb}
 use Rattle.rules.specs.Base.{if_then_else_}
-use Rattle.rules.specs.Field.{Field, spans}
+use Rattle.rules.specs.Field.{Field}
 use Rattle.rules.specs.Refusals.{refusal}
 use Rattle.rules.specs.Distance.{raw, greatest, blur}
 use Rattle.rules.specs.Outcomes.{DistanceOutcome, distanceOutcome}
 use Rattle.laws.proofs.Lengths.{raw-length}
 use Rattle.field.specs.Lent.{Reached, lent}
 use Rattle.field.specs.Answer.{numberOf, verdictNumber}
-use Rattle.field.specs.declared.check.Refusal.{Refusal}
-use Rattle.field.specs.declared.check.Refusal.the-variants.{TooWide, TooMany, WrongLength, WrongCells, WrongReach, WrongBack, TooShort, TooFar}
-use Rattle.field.specs.declared.check.Verdict.{Verdict}
-use Rattle.field.specs.declared.check.Verdict.the-variants as verdict
+use Rattle.field.specs.declared.checker.Refusal.{Refusal}
+use Rattle.field.specs.declared.checker.Refusal.the-variants.{TooWide, TooMany, WrongLength, WrongCells, WrongReach, WrongBack, TooShort, TooFar}
+use Rattle.field.specs.declared.checker.Verdict.{Verdict}
+use Rattle.field.specs.declared.checker.Verdict.the-variants as verdict
 use Rattle.field.proofs.Refused.{reached-of, own-lengths}
 use Rattle.watershed.specs.declared.DistanceAnswer.{DistanceAnswer}
 use Rattle.watershed.specs.declared.DistanceAnswer.the-variants.{Refused, Done}

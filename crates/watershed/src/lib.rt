@@ -2,9 +2,9 @@
 use distance::blur::box_blur;
 use distance::blur::greatest;
 use distance::distances::calculate_distance_field;
-use field::check::Refusal;
-use field::check::Verdict;
-use field::check::check;
+use field::checker::Refusal;
+use field::checker::Verdict;
+use field::checker::check;
 ghost use Rattle.rules.specs.Outcomes.{distanceOutcome};
 ghost use Rattle.field.specs.Lent.{lent};
 ghost use Rattle.watershed.specs.Answer.{Answers};

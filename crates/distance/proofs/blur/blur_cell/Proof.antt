@@ -1,3 +1,5 @@
+-- Invariant: the layers below j are blurred. Layer j is span i + j, which stands in cell c.
+-- Assumes nothing.
 use Prim.Native.Nat.{_≤_, _-_, _+_}
 use mathlib.Core.Path.{_≡_}
 use lib.ListN.{length}
@@ -8,14 +10,8 @@ use Rattle.distance.proofs.Walks.{cell-end}
 use Rattle.distance.proofs.Values.{layer-sized, layer-in}
 use Rattle.distance.proofs.Blurs.{blur-go}
 use borrow.Author.Needs.{needs}
-use native.Mathlib.Omega.{arith}
 use Rattle.distance.proofs.blur.blur_cell.Statement.{statement}
 use Rattle.distance.proofs.blur.blur_cell.Tie as tie
-use Rattle.distance.proofs.blur.blur_cell.Reads as reads
-use Rattle.distance.proofs.blur.blur_cell.Lts as lts
-use Rattle.distance.proofs.blur.blur_span.Reads as blur-span-reads
-use Rattle.field.proofs.read.at32.Reads as at32-reads
-use Rattle.field.proofs.read.at8.Reads as at8-reads
 
 abbrev Inv-loop : tie.InvT-loop
 Inv-loop w h index count area con raw blurred₀ c i k j₀ blurred j = (j ≤ k) × (length blurred ≡ length area) × (blurred ≡ upto j (λ t. blurTo (lent w h index count area con) raw (i + t)) blurred₀)
@@ -23,52 +19,40 @@ Inv-loop w h index count area con raw blurred₀ c i k j₀ blurred j = (j ≤ k
 abbrev μ-loop : tie.MeasureT-loop
 μ-loop w h index count area con raw blurred₀ c i k j₀ blurred j = k - j
 
--- src/blur.rt:105:9
 at32-requires : tie.Need-at32-requires Inv-loop μ-loop
 at32-requires c κs = search needs
 
--- src/blur.rt:106:9
 at8-requires : tie.Need-at8-requires Inv-loop μ-loop
 at8-requires c κs = search needs
 
--- src/blur.rt:107:5
 loop-holds : tie.Need-loop-holds Inv-loop μ-loop
 unfolding upto
 loop-holds c = search needs
 
--- src/blur.rt:108:17
 add-s : tie.Need-add-s Inv-loop μ-loop
 add-s c = search needs
 
--- src/blur.rt:113:22
 blur-span-requires : tie.Need-blur-span-requires Inv-loop μ-loop
 blur-span-requires c κs = search (needs, layer-sized)
 
--- src/blur.rt:113:9
 mul-blurred : tie.Need-mul-blurred Inv-loop μ-loop
 mul-blurred c = search needs
 
--- src/blur.rt:113:9
 slice-write-blurred : tie.Need-slice-write-blurred Inv-loop μ-loop
 slice-write-blurred c = search (needs, layer-in)
 
--- src/blur.rt:107:9
 add-j : tie.Need-add-j Inv-loop μ-loop
 add-j c = search needs
 
--- src/blur.rt:107:5
 loop-less : tie.Need-loop-less Inv-loop μ-loop
 loop-less c = search needs
 
--- src/blur.rt:107:5
 loop-again : tie.Need-loop-again Inv-loop μ-loop
 loop-again c = (search needs, search needs, blur-go _ _ _ _ _ _ _ _ _ _ _ _ _ _ (c .before .before .before .before .before .before .before .before .before .before .before .pre .0) (c .before .before .before .before .at32 .ensures .0) (c .before .before .before .at8 .ensures .0) (c .before .loop-test .taken) (c .before .before .loop .inv .2) (c .blur-span .ensures))
 
--- src/blur.rt:91:1
 same-length : tie.Need-same-length Inv-loop μ-loop
 same-length c = search needs
 
--- src/blur.rt:91:1
 returns : tie.Need-returns Inv-loop μ-loop
 returns c = search (needs, cell-end)
 

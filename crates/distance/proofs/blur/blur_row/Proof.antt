@@ -1,4 +1,6 @@
-use Prim.Native.Nat.{_≤_, _-_, _+_, _*_}
+-- Invariant: the columns below x are blurred. The row's first cell is w·y, and w·y + x is in the grid.
+-- Assumes nothing.
+use Prim.Native.Nat.{_≤_, _-_, _*_}
 use mathlib.Core.Path.{_≡_}
 use lib.ListN.{length}
 use Rattle.rules.specs.Base.{upto}
@@ -7,12 +9,8 @@ use Rattle.distance.specs.Walk.{column}
 use Rattle.distance.specs.Value.{blurTo}
 use Rattle.distance.proofs.Walks.{row-go, row-end, row-fits, column-fits, column-in}
 use borrow.Author.Needs.{needs}
-use native.Mathlib.Omega.{arith}
 use Rattle.distance.proofs.blur.blur_row.Statement.{statement}
 use Rattle.distance.proofs.blur.blur_row.Tie as tie
-use Rattle.distance.proofs.blur.blur_row.Reads as reads
-use Rattle.distance.proofs.blur.blur_row.Lts as lts
-use Rattle.distance.proofs.blur.blur_cell.Reads as blur-cell-reads
 
 abbrev Inv-loop : tie.InvT-loop
 Inv-loop w h index count area con raw blurred₀ y first x₀ blurred x = (x ≤ w) × (first ≡ w * y) × (length blurred ≡ length area) × (blurred ≡ upto x (column (lent w h index count area con) (blurTo (lent w h index count area con) raw) y) blurred₀)
@@ -20,40 +18,31 @@ Inv-loop w h index count area con raw blurred₀ y first x₀ blurred x = (x ≤
 abbrev μ-loop : tie.MeasureT-loop
 μ-loop w h index count area con raw blurred₀ y first x₀ blurred x = w - x
 
--- src/blur.rt:132:17
 mul-first : tie.Need-mul-first Inv-loop μ-loop
 mul-first c = search (needs, row-fits)
 
--- src/blur.rt:133:5
 loop-holds : tie.Need-loop-holds Inv-loop μ-loop
 unfolding upto
 loop-holds c = search needs
 
--- src/blur.rt:134:64
 add-blur-cell : tie.Need-add-blur-cell Inv-loop μ-loop
 add-blur-cell c = search (needs, column-fits)
 
--- src/blur.rt:134:9
 blur-cell-requires : tie.Need-blur-cell-requires Inv-loop μ-loop
 blur-cell-requires c κs = (search needs, search needs, search needs, search (needs, column-in))
 
--- src/blur.rt:133:9
 add-x : tie.Need-add-x Inv-loop μ-loop
 add-x c = search needs
 
--- src/blur.rt:133:5
 loop-less : tie.Need-loop-less Inv-loop μ-loop
 loop-less c = search needs
 
--- src/blur.rt:133:5
 loop-again : tie.Need-loop-again Inv-loop μ-loop
 loop-again c = (search needs, search needs, search needs, search (needs, row-go))
 
--- src/blur.rt:118:1
 same-length : tie.Need-same-length Inv-loop μ-loop
 same-length c = search needs
 
--- src/blur.rt:118:1
 returns : tie.Need-returns Inv-loop μ-loop
 returns c = search (needs, row-end)
 

@@ -1,3 +1,5 @@
+-- Invariant: the rows below y are blurred. The rows in order are all spans in order, and a list stored to at each place is the rule's list.
+-- Assumes nothing.
 use Prim.Native.Nat.{_≤_, _-_}
 use mathlib.Core.Path.{_≡_}
 use lib.ListN.{length}
@@ -8,12 +10,8 @@ use Rattle.distance.specs.Walk.{rowUp}
 use Rattle.distance.specs.Value.{blurTo}
 use Rattle.distance.proofs.Walks.{blur-end}
 use borrow.Author.Needs.{needs}
-use native.Mathlib.Omega.{arith}
 use Rattle.distance.proofs.blur.box_blur.Statement.{statement}
 use Rattle.distance.proofs.blur.box_blur.Tie as tie
-use Rattle.distance.proofs.blur.box_blur.Reads as reads
-use Rattle.distance.proofs.blur.box_blur.Lts as lts
-use Rattle.distance.proofs.blur.blur_row.Reads as blur-row-reads
 
 abbrev Inv-loop : tie.InvT-loop
 Inv-loop w h index count area con raw blurred₀ y₀ blurred y = (y ≤ h) × (length blurred ≡ length area) × (blurred ≡ upto y (rowUp (lent w h index count area con) (blurTo (lent w h index count area con) raw)) blurred₀)
@@ -21,32 +19,25 @@ Inv-loop w h index count area con raw blurred₀ y₀ blurred y = (y ≤ h) × (
 abbrev μ-loop : tie.MeasureT-loop
 μ-loop w h index count area con raw blurred₀ y₀ blurred y = h - y
 
--- src/blur.rt:152:5
 loop-holds : tie.Need-loop-holds Inv-loop μ-loop
 unfolding upto
 loop-holds c = search needs
 
--- src/blur.rt:153:9
 blur-row-requires : tie.Need-blur-row-requires Inv-loop μ-loop
 blur-row-requires c κs = search needs
 
--- src/blur.rt:152:9
 add-y : tie.Need-add-y Inv-loop μ-loop
 add-y c = search needs
 
--- src/blur.rt:152:5
 loop-less : tie.Need-loop-less Inv-loop μ-loop
 loop-less c = search needs
 
--- src/blur.rt:152:5
 loop-again : tie.Need-loop-again Inv-loop μ-loop
 loop-again c = (search needs, search needs, search (needs, upto-go))
 
--- src/blur.rt:139:1
 same-length : tie.Need-same-length Inv-loop μ-loop
 same-length c = search needs
 
--- src/blur.rt:139:1
 returns : tie.Need-returns Inv-loop μ-loop
 returns c = search (needs, blur-end)
 

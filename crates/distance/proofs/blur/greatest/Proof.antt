@@ -1,15 +1,13 @@
+-- Invariant: the greatest of all is the greater of `best` and the greatest from i on.
+-- Assumes nothing.
 use Prim.Native.Nat.{_≤_, _-_, max}
 use mathlib.Core.Path.{_≡_}
 use lib.ListN.{length, drop}
 use Rattle.rules.specs.Distance.{greatest}
 use Rattle.distance.proofs.Blurs.{greatest-go, greatest-end}
 use borrow.Author.Needs.{needs}
-use native.Mathlib.Omega.{arith}
 use Rattle.distance.proofs.blur.greatest.Statement.{statement}
 use Rattle.distance.proofs.blur.greatest.Tie as tie
-use Rattle.distance.proofs.blur.greatest.Reads as reads
-use Rattle.distance.proofs.blur.greatest.Lts as lts
-use Rattle.distance.proofs.blur.larger.Reads as larger-reads
 
 abbrev Inv-loop : tie.InvT-loop
 Inv-loop raw best₀ i₀ i-end best i = (i ≤ length raw) × (i-end ≡ length raw) × (greatest raw ≡ max best (greatest (drop i raw)))
@@ -17,35 +15,27 @@ Inv-loop raw best₀ i₀ i-end best i = (i ≤ length raw) × (i-end ≡ length
 abbrev μ-loop : tie.MeasureT-loop
 μ-loop raw best₀ i₀ i-end best i = length raw - i
 
--- src/blur.rt:37:5
 loop-holds : tie.Need-loop-holds Inv-loop μ-loop
 loop-holds c = search needs
 
--- src/blur.rt:38:29
 mul-larger : tie.Need-mul-larger Inv-loop μ-loop
 mul-larger c = search needs
 
--- src/blur.rt:38:29
 shared-slice-read-larger : tie.Need-shared-slice-read-larger Inv-loop μ-loop
 shared-slice-read-larger c = search needs
 
--- src/blur.rt:38:9
 larger-requires : tie.Need-larger-requires Inv-loop μ-loop
 larger-requires c κs = search needs
 
--- src/blur.rt:37:9
 add-i : tie.Need-add-i Inv-loop μ-loop
 add-i c = search needs
 
--- src/blur.rt:37:5
 loop-less : tie.Need-loop-less Inv-loop μ-loop
 loop-less c = search needs
 
--- src/blur.rt:37:5
 loop-again : tie.Need-loop-again Inv-loop μ-loop
 loop-again c = (search needs, search needs, search (needs, greatest-go))
 
--- src/blur.rt:33:1
 returns : tie.Need-returns Inv-loop μ-loop
 returns c = search (needs, greatest-end)
 

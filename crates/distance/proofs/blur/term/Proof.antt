@@ -1,52 +1,38 @@
+-- `term` is the rule's two terms: a neighbour or a corner that is missing is past the list, where the rule reads v.
+-- Assumes nothing.
 use Rattle.distance.proofs.Values.{sized-leaf}
 use Rattle.distance.proofs.Blurs.{term-none, term-spot, term-in, corner-in, term-one, term-two}
-use native.Mathlib.Omega.{arith}
 use borrow.Author.Needs.{needs}
 use Rattle.distance.proofs.blur.term.Statement.{statement}
 use Rattle.distance.proofs.blur.term.Tie as tie
-use Rattle.distance.proofs.blur.term.Reads as reads
-use Rattle.distance.proofs.blur.term.Lts as lts
-use Rattle.field.proofs.place.corner.Reads as corner-reads
-use Rattle.field.proofs.place.step.Reads as step-reads
-use Rattle.field.proofs.read.at16.Reads as at16-reads
 
--- src/blur.rt:57:9
 step-requires : tie.Need-step-requires
 step-requires c κs = (search (needs, sized-leaf), search needs)
 
--- src/blur.rt:60:16
 mul-result : tie.Need-mul-result
 mul-result c = search needs
 
--- src/blur.rt:60:9
 returns : tie.Need-returns
 returns c = (search (needs, term-none), search needs)
 
--- src/blur.rt:62:9
 at16-requires : tie.Need-at16-requires
 at16-requires c κs = search (needs, term-in)
 
--- src/blur.rt:63:9
 corner-requires : tie.Need-corner-requires
 corner-requires c κs = (search (needs, term-spot), search needs)
 
--- src/blur.rt:66:16
 add-result : tie.Need-add-result
 add-result c = search needs
 
--- src/blur.rt:66:9
 returns-2 : tie.Need-returns-2
 returns-2 c = (search (needs, term-one), search needs)
 
--- src/blur.rt:68:9
 at16-requires-2 : tie.Need-at16-requires-2
 at16-requires-2 c κs = corner-in _ _ _ _ _ _ _ _ (c .before .before .before .before .before .before .before .before .args .v) (c .before .before .before .before .before .before .before .before .pre .0) (c .before .before .before .before .before .before .before .before .pre .1) (c .before .before .before .before .before .before .before .before .pre .2) _ _ (c .before .before .before .before .step .ensures .0) (c .before .before .before .before .step .ensures .1) (c .before .before .before .if1 .left) _ (c .before .corner .ensures) (c .if2 .left)
 
--- src/blur.rt:68:5
 add-result-2 : tie.Need-add-result-2
 add-result-2 c = search needs
 
--- src/blur.rt:44:1
 returns-3 : tie.Need-returns-3
 returns-3 c = (search (needs, term-two), search needs)
 

@@ -1,3 +1,5 @@
+-- Invariant: pass 1 has gone through the rows below y. At the end every span holds at most twice its column, that is 510.
+-- Assumes nothing.
 use Prim.Native.Nat.{_≤_, _-_, _*_}
 use mathlib.Core.Path.{_≡_}
 use Rattle.rules.specs.Base.{upto}
@@ -9,12 +11,8 @@ use Rattle.distance.specs.Value.{Passing}
 use Rattle.distance.proofs.Walks.{pass1-end}
 use Rattle.distance.proofs.Bounds.{row-first, row-last}
 use borrow.Author.Needs.{needs}
-use native.Mathlib.Omega.{arith}
 use Rattle.distance.proofs.pass.pass1.Statement.{statement}
 use Rattle.distance.proofs.pass.pass1.Tie as tie
-use Rattle.distance.proofs.pass.pass1.Reads as reads
-use Rattle.distance.proofs.pass.pass1.Lts as lts
-use Rattle.distance.proofs.pass.pass1_row.Reads as pass1-row-reads
 
 abbrev Inv-loop : tie.InvT-loop
 Inv-loop w h index count area con raw₀ y₀ raw y = (y ≤ h) × (raw ≡ upto y (rowUp (lent w h index count area con) (lower (lent w h index count area con) 0 3 3 2)) raw₀) × Passing (lent w h index count area con) (w * y) raw
@@ -22,32 +20,25 @@ Inv-loop w h index count area con raw₀ y₀ raw y = (y ≤ h) × (raw ≡ upto
 abbrev μ-loop : tie.MeasureT-loop
 μ-loop w h index count area con raw₀ y₀ raw y = h - y
 
--- src/pass.rt:143:5
 loop-holds : tie.Need-loop-holds Inv-loop μ-loop
 unfolding upto
 loop-holds c = (search needs, search needs, search (needs, row-first))
 
--- src/pass.rt:144:9
 pass1-row-requires : tie.Need-pass1-row-requires Inv-loop μ-loop
 pass1-row-requires c κs = search needs
 
--- src/pass.rt:143:9
 add-y : tie.Need-add-y Inv-loop μ-loop
 add-y c = search needs
 
--- src/pass.rt:143:5
 loop-less : tie.Need-loop-less Inv-loop μ-loop
 loop-less c = search needs
 
--- src/pass.rt:143:5
 loop-again : tie.Need-loop-again Inv-loop μ-loop
 loop-again c = (search needs, search (needs, upto-go), search needs)
 
--- src/pass.rt:131:1
 same-length : tie.Need-same-length Inv-loop μ-loop
 same-length c = search needs
 
--- src/pass.rt:131:1
 returns : tie.Need-returns Inv-loop μ-loop
 returns c = (search (needs, pass1-end), search (needs, row-last))
 

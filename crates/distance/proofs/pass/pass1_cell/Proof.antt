@@ -1,3 +1,5 @@
+-- Invariant: pass 1 has gone through the layers below j, each of which came to at most twice its column; the cells before c did before.
+-- What a span reads stands in cells before its own, so it is at most 510.
 use Prim.Native.Nat.{ℕ, _≤_, _<_, _-_, _+_, _*_, _%_}
 use mathlib.Core.Path.{_≡_}
 use Rattle.rules.specs.Base.{upto}
@@ -10,11 +12,6 @@ use borrow.Author.Needs.{needs}
 use native.Mathlib.Omega.{arith}
 use Rattle.distance.proofs.pass.pass1_cell.Statement.{statement}
 use Rattle.distance.proofs.pass.pass1_cell.Tie as tie
-use Rattle.distance.proofs.pass.pass1_cell.Reads as reads
-use Rattle.distance.proofs.pass.pass1_cell.Lts as lts
-use Rattle.distance.proofs.pass.lowered.Reads as lowered-reads
-use Rattle.field.proofs.read.at32.Reads as at32-reads
-use Rattle.field.proofs.read.at8.Reads as at8-reads
 
 abbrev Inv-loop : tie.InvT-loop
 Inv-loop w h index count area con raw₀ c i k j₀ raw j = (j ≤ k) × (raw ≡ upto j (λ t. lower (lent w h index count area con) 0 3 3 2 (i + t)) raw₀) × Passing (lent w h index count area con) c raw × ((t : ℕ) → t < j → far raw (i + t) ≤ 2 * (c % w))
@@ -22,52 +19,40 @@ Inv-loop w h index count area con raw₀ c i k j₀ raw j = (j ≤ k) × (raw �
 abbrev μ-loop : tie.MeasureT-loop
 μ-loop w h index count area con raw₀ c i k j₀ raw j = k - j
 
--- src/pass.rt:98:9
 at32-requires : tie.Need-at32-requires Inv-loop μ-loop
 at32-requires c κs = search needs
 
--- src/pass.rt:99:9
 at8-requires : tie.Need-at8-requires Inv-loop μ-loop
 at8-requires c κs = search needs
 
--- src/pass.rt:100:5
 loop-holds : tie.Need-loop-holds Inv-loop μ-loop
 unfolding upto
 loop-holds c = (search needs, search needs, search needs, λ t h. absurd (omega arith))
 
--- src/pass.rt:101:17
 add-s : tie.Need-add-s Inv-loop μ-loop
 add-s c = search needs
 
--- src/pass.rt:106:18
 lowered-requires : tie.Need-lowered-requires Inv-loop μ-loop
 lowered-requires c κs = (search (needs, room-left), search (needs, room-up), search needs, search needs, search needs, search needs)
 
--- src/pass.rt:106:9
 mul-raw : tie.Need-mul-raw Inv-loop μ-loop
 mul-raw c = search needs
 
--- src/pass.rt:106:9
 slice-write-raw : tie.Need-slice-write-raw Inv-loop μ-loop
 slice-write-raw c = search (needs, passing-in)
 
--- src/pass.rt:100:9
 add-j : tie.Need-add-j Inv-loop μ-loop
 add-j c = search needs
 
--- src/pass.rt:100:5
 loop-less : tie.Need-loop-less Inv-loop μ-loop
 loop-less c = search needs
 
--- src/pass.rt:100:5
 loop-again : tie.Need-loop-again Inv-loop μ-loop
 loop-again c = (search needs, pass-go _ _ _ _ _ _ _ _ _ _ _ (c .before .before .before .before .before .before .before .before .before .before .before .pre .0) (c .before .before .before .before .before .at32 .ensures .0) (c .before .before .before .before .at8 .ensures .0) (c .before .before .loop-test .taken) _ _ _ _ _ (c .lowered .ensures) _ (c .before .before .before .loop .inv .1), passing-go _ _ _ _ _ _ _ _ _ _ _ (c .before .before .before .before .before .before .before .before .before .before .before .pre .0) (c .before .before .before .before .before .at32 .ensures .0) (c .before .before .before .before .at8 .ensures .0) (c .before .before .loop-test .taken) _ (c .lowered .ensures) (c .before .before .before .loop .inv .2), layers-go _ _ _ _ _ _ _ _ _ _ _ (c .before .before .before .before .before .before .before .before .before .before .before .pre .0) (c .before .before .before .before .before .at32 .ensures .0) (c .before .before .before .before .at8 .ensures .0) (c .before .before .loop-test .taken) _ (c .lowered .ensures) (c .before .before .before .loop .inv .2) (c .before .before .before .loop .inv .3))
 
--- src/pass.rt:85:1
 same-length : tie.Need-same-length Inv-loop μ-loop
 same-length c = search needs
 
--- src/pass.rt:85:1
 returns : tie.Need-returns Inv-loop μ-loop
 returns c = (search (needs, cell-end), search (needs, passing-end))
 

@@ -1,3 +1,5 @@
+-- Invariant: pass 1 has gone through the columns below x of row y, and so through the cells before w·y + x.
+-- Assumes nothing.
 use Prim.Native.Nat.{_≤_, _-_, _+_, _*_}
 use mathlib.Core.Path.{_≡_}
 use Rattle.rules.specs.Base.{upto}
@@ -8,12 +10,8 @@ use Rattle.distance.specs.Value.{Passing}
 use Rattle.distance.proofs.Walks.{row-go, row-end, row-fits, column-fits, column-in}
 use Rattle.distance.proofs.Bounds.{column-first, column-next, column-last}
 use borrow.Author.Needs.{needs}
-use native.Mathlib.Omega.{arith}
 use Rattle.distance.proofs.pass.pass1_row.Statement.{statement}
 use Rattle.distance.proofs.pass.pass1_row.Tie as tie
-use Rattle.distance.proofs.pass.pass1_row.Reads as reads
-use Rattle.distance.proofs.pass.pass1_row.Lts as lts
-use Rattle.distance.proofs.pass.pass1_cell.Reads as pass1-cell-reads
 
 abbrev Inv-loop : tie.InvT-loop
 Inv-loop w h index count area con raw₀ y first x₀ raw x = (x ≤ w) × (first ≡ w * y) × (raw ≡ upto x (column (lent w h index count area con) (lower (lent w h index count area con) 0 3 3 2) y) raw₀) × Passing (lent w h index count area con) (first + x) raw
@@ -21,40 +19,31 @@ Inv-loop w h index count area con raw₀ y first x₀ raw x = (x ≤ w) × (firs
 abbrev μ-loop : tie.MeasureT-loop
 μ-loop w h index count area con raw₀ y first x₀ raw x = w - x
 
--- src/pass.rt:124:17
 mul-first : tie.Need-mul-first Inv-loop μ-loop
 mul-first c = search (needs, row-fits)
 
--- src/pass.rt:125:5
 loop-holds : tie.Need-loop-holds Inv-loop μ-loop
 unfolding upto
 loop-holds c = (search needs, search needs, search needs, search (needs, column-first))
 
--- src/pass.rt:126:56
 add-pass1-cell : tie.Need-add-pass1-cell Inv-loop μ-loop
 add-pass1-cell c = search (needs, column-fits)
 
--- src/pass.rt:126:9
 pass1-cell-requires : tie.Need-pass1-cell-requires Inv-loop μ-loop
 pass1-cell-requires c κs = (search needs, search (needs, column-in), search needs)
 
--- src/pass.rt:125:9
 add-x : tie.Need-add-x Inv-loop μ-loop
 add-x c = search needs
 
--- src/pass.rt:125:5
 loop-less : tie.Need-loop-less Inv-loop μ-loop
 loop-less c = search needs
 
--- src/pass.rt:125:5
 loop-again : tie.Need-loop-again Inv-loop μ-loop
 loop-again c = (search needs, search needs, search (needs, row-go), search (needs, column-next))
 
--- src/pass.rt:111:1
 same-length : tie.Need-same-length Inv-loop μ-loop
 same-length c = search needs
 
--- src/pass.rt:111:1
 returns : tie.Need-returns Inv-loop μ-loop
 returns c = (search (needs, row-end), search (needs, column-last))
 

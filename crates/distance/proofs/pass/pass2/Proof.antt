@@ -1,3 +1,5 @@
+-- Invariant: the pass as a whole equals the y rows that are to go, done to the list as it is. A turn does the last of them.
+-- Assumes nothing.
 use Prim.Native.Nat.{_≤_}
 use mathlib.Core.Path.{_≡_}
 use Rattle.rules.specs.Distance.{lower}
@@ -6,12 +8,8 @@ use Rattle.distance.specs.Walk.{rowDown, downto}
 use Rattle.distance.specs.Value.{Low}
 use Rattle.distance.proofs.Walks.{down-go, pass2-end}
 use borrow.Author.Needs.{needs}
-use native.Mathlib.Omega.{arith}
 use Rattle.distance.proofs.pass.pass2.Statement.{statement}
 use Rattle.distance.proofs.pass.pass2.Tie as tie
-use Rattle.distance.proofs.pass.pass2.Reads as reads
-use Rattle.distance.proofs.pass.pass2.Lts as lts
-use Rattle.distance.proofs.pass.pass2_row.Reads as pass2-row-reads
 
 abbrev Inv-loop : tie.InvT-loop
 Inv-loop w h index count area con raw₀ y₀ raw y = (y ≤ h) × (downto h (rowDown (lent w h index count area con) (lower (lent w h index count area con) 2 1 1 0)) raw₀ ≡ downto y (rowDown (lent w h index count area con) (lower (lent w h index count area con) 2 1 1 0)) raw) × Low (lent w h index count area con) raw
@@ -19,31 +17,24 @@ Inv-loop w h index count area con raw₀ y₀ raw y = (y ≤ h) × (downto h (ro
 abbrev μ-loop : tie.MeasureT-loop
 μ-loop w h index count area con raw₀ y₀ raw y = y
 
--- src/pass.rt:210:5
 loop-holds : tie.Need-loop-holds Inv-loop μ-loop
 loop-holds c = search needs
 
--- src/pass.rt:211:9
 sub-y : tie.Need-sub-y Inv-loop μ-loop
 sub-y c = search needs
 
--- src/pass.rt:212:9
 pass2-row-requires : tie.Need-pass2-row-requires Inv-loop μ-loop
 pass2-row-requires c κs = search needs
 
--- src/pass.rt:210:5
 loop-less : tie.Need-loop-less Inv-loop μ-loop
 loop-less c = search needs
 
--- src/pass.rt:210:5
 loop-again : tie.Need-loop-again Inv-loop μ-loop
 loop-again c = (search needs, search (needs, down-go), search needs)
 
--- src/pass.rt:197:1
 same-length : tie.Need-same-length Inv-loop μ-loop
 same-length c = search needs
 
--- src/pass.rt:197:1
 returns : tie.Need-returns Inv-loop μ-loop
 returns c = (search (needs, pass2-end), search needs)
 

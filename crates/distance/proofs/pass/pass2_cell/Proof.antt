@@ -1,3 +1,5 @@
+-- Invariant: pass 2 has gone through the layers below j. It only lowers, so every value stays at most 510.
+-- Assumes nothing.
 use Prim.Native.Nat.{_≤_, _-_, _+_}
 use mathlib.Core.Path.{_≡_}
 use Rattle.rules.specs.Base.{upto}
@@ -7,14 +9,8 @@ use Rattle.distance.specs.Value.{Low}
 use Rattle.distance.proofs.Walks.{cell-end}
 use Rattle.distance.proofs.Bounds.{room-low, low-in, pass-go, low-go}
 use borrow.Author.Needs.{needs}
-use native.Mathlib.Omega.{arith}
 use Rattle.distance.proofs.pass.pass2_cell.Statement.{statement}
 use Rattle.distance.proofs.pass.pass2_cell.Tie as tie
-use Rattle.distance.proofs.pass.pass2_cell.Reads as reads
-use Rattle.distance.proofs.pass.pass2_cell.Lts as lts
-use Rattle.distance.proofs.pass.lowered.Reads as lowered-reads
-use Rattle.field.proofs.read.at32.Reads as at32-reads
-use Rattle.field.proofs.read.at8.Reads as at8-reads
 
 abbrev Inv-loop : tie.InvT-loop
 Inv-loop w h index count area con raw₀ c i k j₀ raw j = (j ≤ k) × (raw ≡ upto j (λ t. lower (lent w h index count area con) 2 1 1 0 (i + t)) raw₀) × Low (lent w h index count area con) raw
@@ -22,52 +18,40 @@ Inv-loop w h index count area con raw₀ c i k j₀ raw j = (j ≤ k) × (raw �
 abbrev μ-loop : tie.MeasureT-loop
 μ-loop w h index count area con raw₀ c i k j₀ raw j = k - j
 
--- src/pass.rt:162:9
 at32-requires : tie.Need-at32-requires Inv-loop μ-loop
 at32-requires c κs = search needs
 
--- src/pass.rt:163:9
 at8-requires : tie.Need-at8-requires Inv-loop μ-loop
 at8-requires c κs = search needs
 
--- src/pass.rt:164:5
 loop-holds : tie.Need-loop-holds Inv-loop μ-loop
 unfolding upto
 loop-holds c = search needs
 
--- src/pass.rt:165:17
 add-s : tie.Need-add-s Inv-loop μ-loop
 add-s c = search needs
 
--- src/pass.rt:170:18
 lowered-requires : tie.Need-lowered-requires Inv-loop μ-loop
 lowered-requires c κs = (search (needs, room-low), search (needs, room-low), search needs, search needs, search needs, search needs)
 
--- src/pass.rt:170:9
 mul-raw : tie.Need-mul-raw Inv-loop μ-loop
 mul-raw c = search needs
 
--- src/pass.rt:170:9
 slice-write-raw : tie.Need-slice-write-raw Inv-loop μ-loop
 slice-write-raw c = search (needs, low-in)
 
--- src/pass.rt:164:9
 add-j : tie.Need-add-j Inv-loop μ-loop
 add-j c = search needs
 
--- src/pass.rt:164:5
 loop-less : tie.Need-loop-less Inv-loop μ-loop
 loop-less c = search needs
 
--- src/pass.rt:164:5
 loop-again : tie.Need-loop-again Inv-loop μ-loop
 loop-again c = (search needs, pass-go _ _ _ _ _ _ _ _ _ _ _ (c .before .before .before .before .before .before .before .before .before .before .before .pre .0) (c .before .before .before .before .before .at32 .ensures .0) (c .before .before .before .before .at8 .ensures .0) (c .before .before .loop-test .taken) _ _ _ _ _ (c .lowered .ensures) _ (c .before .before .before .loop .inv .1), low-go _ _ _ _ _ _ _ _ _ _ _ (c .before .before .before .before .before .before .before .before .before .before .before .pre .0) (c .before .before .before .before .before .at32 .ensures .0) (c .before .before .before .before .at8 .ensures .0) (c .before .before .loop-test .taken) _ _ _ _ _ (c .lowered .ensures) (c .before .before .before .loop .inv .2))
 
--- src/pass.rt:149:1
 same-length : tie.Need-same-length Inv-loop μ-loop
 same-length c = search needs
 
--- src/pass.rt:149:1
 returns : tie.Need-returns Inv-loop μ-loop
 returns c = (search (needs, cell-end), search needs)
 

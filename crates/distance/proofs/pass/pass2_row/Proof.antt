@@ -1,4 +1,6 @@
-use Prim.Native.Nat.{_≤_, _-_, _+_, _*_}
+-- Invariant: the row as a whole equals the x columns that are to go, done to the list as it is. A turn does the last of them.
+-- Assumes nothing.
+use Prim.Native.Nat.{_≤_, _*_}
 use mathlib.Core.Path.{_≡_}
 use Rattle.rules.specs.Distance.{lower}
 use Rattle.field.specs.Lent.{lent}
@@ -6,12 +8,8 @@ use Rattle.distance.specs.Walk.{column, downto}
 use Rattle.distance.specs.Value.{Low}
 use Rattle.distance.proofs.Walks.{row-down, row-bottom, row-fits, last-fits, last-in}
 use borrow.Author.Needs.{needs}
-use native.Mathlib.Omega.{arith}
 use Rattle.distance.proofs.pass.pass2_row.Statement.{statement}
 use Rattle.distance.proofs.pass.pass2_row.Tie as tie
-use Rattle.distance.proofs.pass.pass2_row.Reads as reads
-use Rattle.distance.proofs.pass.pass2_row.Lts as lts
-use Rattle.distance.proofs.pass.pass2_cell.Reads as pass2-cell-reads
 
 abbrev Inv-loop : tie.InvT-loop
 Inv-loop w h index count area con raw₀ y first x₀ raw x = (x ≤ w) × (first ≡ w * y) × (downto w (column (lent w h index count area con) (lower (lent w h index count area con) 2 1 1 0) y) raw₀ ≡ downto x (column (lent w h index count area con) (lower (lent w h index count area con) 2 1 1 0) y) raw) × Low (lent w h index count area con) raw
@@ -19,39 +17,30 @@ Inv-loop w h index count area con raw₀ y first x₀ raw x = (x ≤ w) × (firs
 abbrev μ-loop : tie.MeasureT-loop
 μ-loop w h index count area con raw₀ y first x₀ raw x = x
 
--- src/pass.rt:188:17
 mul-first : tie.Need-mul-first Inv-loop μ-loop
 mul-first c = search (needs, row-fits)
 
--- src/pass.rt:190:5
 loop-holds : tie.Need-loop-holds Inv-loop μ-loop
 loop-holds c = search needs
 
--- src/pass.rt:191:9
 sub-x : tie.Need-sub-x Inv-loop μ-loop
 sub-x c = search needs
 
--- src/pass.rt:192:56
 add-pass2-cell : tie.Need-add-pass2-cell Inv-loop μ-loop
 add-pass2-cell c = search (needs, last-fits)
 
--- src/pass.rt:192:9
 pass2-cell-requires : tie.Need-pass2-cell-requires Inv-loop μ-loop
 pass2-cell-requires c κs = (search needs, search (needs, last-in), search needs)
 
--- src/pass.rt:190:5
 loop-less : tie.Need-loop-less Inv-loop μ-loop
 loop-less c = search needs
 
--- src/pass.rt:190:5
 loop-again : tie.Need-loop-again Inv-loop μ-loop
 loop-again c = (search needs, search needs, search (needs, row-down), search needs)
 
--- src/pass.rt:175:1
 same-length : tie.Need-same-length Inv-loop μ-loop
 same-length c = search needs
 
--- src/pass.rt:175:1
 returns : tie.Need-returns Inv-loop μ-loop
 returns c = (search (needs, row-bottom), search needs)
 

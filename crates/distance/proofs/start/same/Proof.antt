@@ -1,33 +1,26 @@
+-- `same` is the rule's 1 or 0: a neighbour that is there has an area to compare, and where there is none the rule reads 256, which no byte is.
+-- Assumes nothing.
 use Rattle.distance.proofs.Values.{four-leaf, four-in, four-near, same-none, same-yes, same-not}
 use native.Mathlib.Omega.{arith}
 use borrow.Author.Needs.{needs}
 use Rattle.distance.proofs.start.same.Statement.{statement}
 use Rattle.distance.proofs.start.same.Tie as tie
-use Rattle.distance.proofs.start.same.Reads as reads
-use Rattle.distance.proofs.start.same.Lts as lts
-use Rattle.field.proofs.place.step.Reads as step-reads
 
--- src/start.rt:24:15
 shared-slice-read-own : tie.Need-shared-slice-read-own
 shared-slice-read-own c = search (needs, four-in)
 
--- src/start.rt:25:9
 step-requires : tie.Need-step-requires
 step-requires c κs = (search (needs, four-leaf), search needs)
 
--- src/start.rt:28:9
 returns : tie.Need-returns
 returns c = (same-none _ _ _ _ _ _ _ _ (c .before .before .before .before .before .pre .1) (c .before .step .ensures .0) (c .if1 .taken) (omega (arith, c .before .before .shared-slice-known3 .given (c .before .before .before .before .before .args .p .span .0))), search needs)
 
--- src/start.rt:30:8
 shared-slice-read-if2 : tie.Need-shared-slice-read-if2
 shared-slice-read-if2 c = search (needs, four-near)
 
--- src/start.rt:31:9
 returns-2 : tie.Need-returns-2
 returns-2 c = (search (needs, same-yes), search needs)
 
--- src/start.rt:19:1
 returns-3 : tie.Need-returns-3
 returns-3 c = (same-not _ _ _ _ _ _ _ _ (c .before .before .before .before .before .before .before .pre .1) (c .before .before .before .step .ensures .0) (c .before .before .if1 .left) (c .if2 .left), search needs)
 

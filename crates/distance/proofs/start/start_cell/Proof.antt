@@ -1,3 +1,5 @@
+-- Invariant: the layers below j have their start. Layer j is span i + j, which stands in cell c.
+-- Assumes nothing.
 use Prim.Native.Nat.{_≤_, _-_, _+_}
 use mathlib.Core.Path.{_≡_}
 use lib.ListN.{length}
@@ -7,14 +9,8 @@ use Rattle.distance.specs.Value.{startTo}
 use Rattle.distance.proofs.Walks.{cell-end}
 use Rattle.distance.proofs.Values.{layer-sized, layer-in, start-go}
 use borrow.Author.Needs.{needs}
-use native.Mathlib.Omega.{arith}
 use Rattle.distance.proofs.start.start_cell.Statement.{statement}
 use Rattle.distance.proofs.start.start_cell.Tie as tie
-use Rattle.distance.proofs.start.start_cell.Reads as reads
-use Rattle.distance.proofs.start.start_cell.Lts as lts
-use Rattle.distance.proofs.start.start_span.Reads as start-span-reads
-use Rattle.field.proofs.read.at32.Reads as at32-reads
-use Rattle.field.proofs.read.at8.Reads as at8-reads
 
 abbrev Inv-loop : tie.InvT-loop
 Inv-loop w h index count area con raw₀ c i k j₀ raw j = (j ≤ k) × (length raw ≡ length area) × (raw ≡ upto j (λ t. startTo (lent w h index count area con) (i + t)) raw₀)
@@ -22,52 +18,40 @@ Inv-loop w h index count area con raw₀ c i k j₀ raw j = (j ≤ k) × (length
 abbrev μ-loop : tie.MeasureT-loop
 μ-loop w h index count area con raw₀ c i k j₀ raw j = k - j
 
--- src/start.rt:66:9
 at32-requires : tie.Need-at32-requires Inv-loop μ-loop
 at32-requires c κs = search needs
 
--- src/start.rt:67:9
 at8-requires : tie.Need-at8-requires Inv-loop μ-loop
 at8-requires c κs = search needs
 
--- src/start.rt:68:5
 loop-holds : tie.Need-loop-holds Inv-loop μ-loop
 unfolding upto
 loop-holds c = search needs
 
--- src/start.rt:69:17
 add-s : tie.Need-add-s Inv-loop μ-loop
 add-s c = search needs
 
--- src/start.rt:74:18
 start-span-requires : tie.Need-start-span-requires Inv-loop μ-loop
 start-span-requires c κs = search (needs, layer-sized)
 
--- src/start.rt:74:9
 mul-raw : tie.Need-mul-raw Inv-loop μ-loop
 mul-raw c = search needs
 
--- src/start.rt:74:9
 slice-write-raw : tie.Need-slice-write-raw Inv-loop μ-loop
 slice-write-raw c = search (needs, layer-in)
 
--- src/start.rt:68:9
 add-j : tie.Need-add-j Inv-loop μ-loop
 add-j c = search needs
 
--- src/start.rt:68:5
 loop-less : tie.Need-loop-less Inv-loop μ-loop
 loop-less c = search needs
 
--- src/start.rt:68:5
 loop-again : tie.Need-loop-again Inv-loop μ-loop
 loop-again c = (search needs, search needs, start-go _ _ _ _ _ _ _ _ _ _ _ _ _ (c .before .before .before .before .before .before .before .before .before .before .pre .0) (c .before .before .before .before .at32 .ensures .0) (c .before .before .before .at8 .ensures .0) (c .before .loop-test .taken) (c .before .before .loop .inv .2) (c .start-span .ensures))
 
--- src/start.rt:53:1
 same-length : tie.Need-same-length Inv-loop μ-loop
 same-length c = search needs
 
--- src/start.rt:53:1
 returns : tie.Need-returns Inv-loop μ-loop
 returns c = search (needs, cell-end)
 

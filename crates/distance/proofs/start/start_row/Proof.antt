@@ -1,19 +1,17 @@
+-- Invariant: the columns below x have their start. The row's first cell is w·y, and w·y + x is in the grid.
+-- Assumes nothing.
 use Rattle.distance.proofs.Walks.{row-fits, column-fits, column-in}
-use Prim.Native.Nat.{_≤_, _-_, _+_, _*_}
+use Prim.Native.Nat.{_≤_, _-_, _*_}
 use mathlib.Core.Path.{_≡_}
 use lib.ListN.{length}
 use Rattle.rules.specs.Base.{upto}
 use Rattle.field.specs.Lent.{lent}
 use Rattle.distance.specs.Walk.{column}
 use Rattle.distance.specs.Value.{startTo}
-use Rattle.distance.proofs.Walks.{row-go, row-end, cell-in}
+use Rattle.distance.proofs.Walks.{row-go, row-end}
 use borrow.Author.Needs.{needs}
-use native.Mathlib.Omega.{arith}
 use Rattle.distance.proofs.start.start_row.Statement.{statement}
 use Rattle.distance.proofs.start.start_row.Tie as tie
-use Rattle.distance.proofs.start.start_row.Reads as reads
-use Rattle.distance.proofs.start.start_row.Lts as lts
-use Rattle.distance.proofs.start.start_cell.Reads as start-cell-reads
 
 abbrev Inv-loop : tie.InvT-loop
 Inv-loop w h index count area con raw₀ y first x₀ raw x = (x ≤ w) × (first ≡ w * y) × (length raw ≡ length area) × (raw ≡ upto x (column (lent w h index count area con) (startTo (lent w h index count area con)) y) raw₀)
@@ -21,40 +19,31 @@ Inv-loop w h index count area con raw₀ y first x₀ raw x = (x ≤ w) × (firs
 abbrev μ-loop : tie.MeasureT-loop
 μ-loop w h index count area con raw₀ y first x₀ raw x = w - x
 
--- src/start.rt:92:17
 mul-first : tie.Need-mul-first Inv-loop μ-loop
 mul-first c = search (needs, row-fits)
 
--- src/start.rt:93:5
 loop-holds : tie.Need-loop-holds Inv-loop μ-loop
 unfolding upto
 loop-holds c = search needs
 
--- src/start.rt:94:56
 add-start-cell : tie.Need-add-start-cell Inv-loop μ-loop
 add-start-cell c = search (needs, column-fits)
 
--- src/start.rt:94:9
 start-cell-requires : tie.Need-start-cell-requires Inv-loop μ-loop
 start-cell-requires c κs = (search needs, search (needs, column-in), search needs)
 
--- src/start.rt:93:9
 add-x : tie.Need-add-x Inv-loop μ-loop
 add-x c = search needs
 
--- src/start.rt:93:5
 loop-less : tie.Need-loop-less Inv-loop μ-loop
 loop-less c = search needs
 
--- src/start.rt:93:5
 loop-again : tie.Need-loop-again Inv-loop μ-loop
 loop-again c = (search needs, search needs, search needs, search (needs, row-go))
 
--- src/start.rt:79:1
 same-length : tie.Need-same-length Inv-loop μ-loop
 same-length c = search needs
 
--- src/start.rt:79:1
 returns : tie.Need-returns Inv-loop μ-loop
 returns c = search (needs, row-end)
 

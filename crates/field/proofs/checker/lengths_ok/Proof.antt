@@ -7,8 +7,8 @@ use Rattle.rules.specs.Refusals.{wrongLength}
 use Rattle.field.proofs.Loops.{product-small}
 use native.Mathlib.Omega.{arith}
 use borrow.Author.Needs.{needs}
-use Rattle.field.proofs.check.lengths_ok.Statement.{statement}
-use Rattle.field.proofs.check.lengths_ok.Tie as tie
+use Rattle.field.proofs.checker.lengths_ok.Statement.{statement}
+use Rattle.field.proofs.checker.lengths_ok.Tie as tie
 
 mul-if1 : tie.Need-mul-if1
 mul-if1 c = omega (arith, product-small (c .args .w) (c .args .h) (omega arith) (omega arith))

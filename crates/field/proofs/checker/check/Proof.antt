@@ -2,8 +2,8 @@
 -- Assumes nothing.
 use Rattle.field.proofs.Refused.{refused-w, refused-h, refused-2, refused-3, same-cells, few-cells, refused-4, checked-cells, refused-5, checked-reach, refused-6, refused-none}
 use borrow.Author.Needs.{needs}
-use Rattle.field.proofs.check.check.Statement.{statement}
-use Rattle.field.proofs.check.check.Tie as tie
+use Rattle.field.proofs.checker.check.Statement.{statement}
+use Rattle.field.proofs.checker.check.Tie as tie
 
 returns : tie.Need-returns
 returns c = search (needs, refused-w)

@@ -1,0 +1,4 @@
+pub mod Room
+pub mod EdgeLaws
+pub mod PoolLaws
+pub mod WalkLaws

@@ -1,0 +1,12 @@
+-- What the exported functions promise: each number is the outcome's, and so is each lent list at exit.
+use Prim.Native.Nat.{ℕ}
+use mathlib.Core.Path.{_≡_}
+use mathlib.Core.List.{List}
+use Rattle.rules.specs.Outcomes.{DistanceOutcome}
+use Rattle.gussetraft.specs.declared.Distances.{Distances}
+
+pub record Gives (o : DistanceOutcome) (r : Distances) (raw blurred : List ℕ) : Type 0 where
+  pub refusal : r .refusal ≡ o .refused
+  pub most : r .«max_distance» ≡ o .most
+  pub first : raw ≡ o .raw
+  pub second : blurred ≡ o .blurred

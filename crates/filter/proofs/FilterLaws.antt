@@ -1,6 +1,6 @@
 -- The filter's loop: a record's turn is the group's, and leaves the spare columns as they were.
 -- The group's total and lists are read after the gathering, which writes neither counts nor lists.
-use Prim.Native.Nat.{ℕ, zero, suc, _+_, _-_, _*_, _≤_, _<_}
+use Prim.Native.Nat.{ℕ, suc, _+_, _-_, _*_, _≤_, _<_}
 use native.Mathlib.Omega.{arith}
 use native.Mathlib.Decide.{decLt}
 use mathlib.Core.Path.{_≡_, refl, sym, ap, _∙_}
@@ -8,10 +8,9 @@ use mathlib.Core.Bool.{Bool, true, false, not}
 use mathlib.Core.List.{List, [], _∷_}
 use lib.ListN.{length, getD, set, drop, length-drop, List·getD-eq-default}
 use lib.Seq.{ext-getD, getD-drop}
-use lib.Dec.{eqb, ltb}
+use lib.Dec.{eqb}
 use borrow.Author.Tests.{eq-eqb, ne-eqb}
-use Rattle.rules.specs.Base.{_and_, _or_, if_then_else_, any, upto}
-use Rattle.rules.specs.Growth.{flagged}
+use Rattle.rules.specs.Base.{_or_, if_then_else_, any, upto}
 use Rattle.rules.specs.Records.{Rec, fresh, at}
 use Rattle.rules.specs.Filter.{seen, Gather, gather, total, removeAll, filterOne, filtered}
 use Rattle.laws.proofs.Basics.{upto-next}
@@ -20,7 +19,7 @@ use Rattle.space.proofs.Laws.{frame-then, frame-wider, getD-before, getD-after}
 use Rattle.table.specs.View.{part, recAt, recsOf, Held}
 use Rattle.table.proofs.ViewLaws.{list-past}
 use Rattle.filter.specs.Group.{groupAt, anyFlagged, small, removeSmall, filterGroup, Waiting, Found, Calm}
-use Rattle.filter.proofs.GroupLaws.{recs-length, recs-at, part-before, part-after}
+use Rattle.filter.proofs.GroupLaws.{recs-length, recs-at}
 
 -- ---- records that agree in counts and lists
 

@@ -2,25 +2,23 @@
 -- a record that waits is visited, so there is always room for one more.
 use Prim.Native.Nat.{ℕ, zero, suc, _+_, _-_, _*_, _≤_, _<_}
 use native.Mathlib.Omega.{arith}
-use native.Mathlib.Numerals.{add-one}
 use native.Mathlib.Decide.{ℕ-discrete}
 use mathlib.Core.Path.{_≡_, refl, sym, ap, _∙_}
 use mathlib.Core.Logic.{⊎-elim, _⊎_, inl, inr}
 use mathlib.Core.Bool.{Bool, true, false, not}
 use mathlib.Core.List.{List, [], _∷_, _++_}
-use lib.ListN.{length, getD, set, take, drop, length-set, length-drop}
+use lib.ListN.{length, getD, set, drop, length-set, length-drop}
 use lib.Seq.{getD-set-same, getD-set-other, take-suc, getD-drop}
-use lib.Dec.{eqb, ltb, leb}
+use lib.Dec.{eqb}
 use borrow.Author.Tests.{eq-eqb, ne-eqb, le-leb, lt-leb}
-use Rattle.rules.specs.Base.{_and_, _or_, if_then_else_, any}
-use Rattle.rules.specs.Growth.{flagged}
+use Rattle.rules.specs.Base.{_or_, if_then_else_}
 use Rattle.rules.specs.Records.{Rec, fresh, at}
 use Rattle.rules.specs.Filter.{seen, Gather, reach, gather}
-use Rattle.laws.proofs.Basics.{tally, tally-le, tally-set}
+use Rattle.laws.proofs.Basics.{tally-le, tally-set}
 use Rattle.laws.proofs.FilterEnds.{unvisited, ahead, reach-ahead}
-use Rattle.space.specs.Space.{Frame, sec, stackAt}
-use Rattle.space.proofs.Laws.{frame-none, frame-then, frame-set, frame-wider, getD-before, getD-after, sec-before, sec-after, length-stackAt, stackAt-set, stackAt-push, stackAt-pop, stackAt-sec}
-use Rattle.table.specs.View.{recsOf, part, startOf, endOf, listAt, recAt, view, Parts, Under, Held}
+use Rattle.space.specs.Space.{Frame, stackAt}
+use Rattle.space.proofs.Laws.{frame-then, frame-set, frame-wider, getD-before, getD-after, sec-before, sec-after, length-stackAt, stackAt-set, stackAt-push, stackAt-pop}
+use Rattle.table.specs.View.{recsOf, part, startOf, endOf, listAt, recAt, Held}
 use Rattle.table.proofs.ViewLaws.{view-length, view-at, view-same, view-set, list-past, held-past, rec-past, part-cons, part-none, part-at, part-length}
 use Rattle.filter.specs.Group.{reachOne, groupAt, Waiting, Found, Calm, Popped}
 

@@ -1,29 +1,26 @@
 -- Laws of what is done with a group that is found, and of the whole filter. A removal writes the columns 0 to 2m only;
 -- that a group's total and lists are read after the gathering and not before makes no difference, since that writes neither.
-use Prim.Native.Nat.{ℕ, zero, suc, _+_, _-_, _*_, _≤_, _<_}
+use Prim.Native.Nat.{ℕ, _+_, _-_, _*_, _≤_, _<_}
 use native.Mathlib.Omega.{arith}
 use native.Mathlib.Numerals.{add-one}
 use native.Mathlib.Decide.{ℕ-discrete, decLt}
 use mathlib.Core.Path.{_≡_, refl, sym, ap, _∙_}
-use mathlib.Core.Logic.{⊎-elim, _⊎_, inl, inr}
-use mathlib.Core.Bool.{Bool, true, false, not}
-use mathlib.Core.List.{List, [], _∷_, _++_}
-use lib.ListN.{length, getD, set, take, drop, replicate, length-set, length-drop, drop-of-length-le, length-replicate, getD-replicate, List·getD-eq-default}
-use lib.Seq.{getD-set-same, getD-set-other, drop-cons, ext-getD, getD-drop}
-use lib.Dec.{eqb, ltb, leb}
-use borrow.Author.Tests.{eq-eqb, ne-eqb, le-leb, lt-leb, lt-ltb, le-ltb}
+use mathlib.Core.Bool.{Bool, true, false}
+use mathlib.Core.List.{List, _∷_}
+use lib.ListN.{length, getD, set, drop, replicate, length-set, drop-of-length-le, length-replicate, getD-replicate}
+use lib.Seq.{getD-set-same, getD-set-other, drop-cons}
+use borrow.Author.Tests.{le-leb, lt-leb, lt-ltb, le-ltb}
 use borrow.Rule.Slice.PartMut.{putMid, midOf}
-use Rattle.rules.specs.Base.{_and_, _or_, if_then_else_, any, upto}
+use Rattle.rules.specs.Base.{if_then_else_, _and_, _or_, any}
 use Rattle.rules.specs.Growth.{flagged}
-use Rattle.rules.specs.Records.{Rec, fresh, at}
-use Rattle.rules.specs.Filter.{seen, removed, Gather, gather, total, removeAll, filterOne, filtered}
-use Rattle.laws.proofs.Basics.{if-ind, upto-next}
-use Rattle.space.specs.Space.{Frame, sec, stackAt}
-use Rattle.space.proofs.Laws.{frame-none, frame-then, frame-set, frame-wider, frame-put, getD-before, getD-after, sec-put, length-sec, getD-sec}
-use Rattle.table.specs.View.{part, listAt, recAt, view, recsOf, Parts, Held}
-use Rattle.table.proofs.ViewLaws.{view-length, view-at, view-set, list-past, held-past, rec-past, part-cons, part-none}
-use Rattle.filter.specs.Group.{groupAt, listsFlagged, anyFlagged, small, removeSmall, Waiting, Found, Calm}
-use Rattle.filter.proofs.GroupLaws.{recs-length, recs-at, recs-spare, held-spare, part-after, part-before}
+use Rattle.rules.specs.Records.{Rec, at}
+use Rattle.rules.specs.Filter.{removed, total, removeAll}
+use Rattle.space.specs.Space.{Frame, sec}
+use Rattle.space.proofs.Laws.{frame-then, frame-set, frame-wider, frame-put, getD-before, getD-after, sec-put, length-sec, getD-sec}
+use Rattle.table.specs.View.{part, listAt, recAt, recsOf, Held}
+use Rattle.table.proofs.ViewLaws.{view-at, view-set, list-past, held-past, rec-past, part-cons, part-none}
+use Rattle.filter.specs.Group.{listsFlagged, anyFlagged, small, removeSmall, Found, Calm}
+use Rattle.filter.proofs.GroupLaws.{recs-at, recs-spare, held-spare, part-after}
 
 -- ---- the next of those found
 

@@ -3,13 +3,13 @@ use table::at;
 use table::end_of;
 use table::start_of;
 ghost use mathlib.Core.Path.{_≡_};
-ghost use mathlib.Core.List.{List, [], _∷_};
+ghost use mathlib.Core.List.{[], _∷_};
 ghost use Prim.Native.Nat.{ℕ, suc, _+_, _-_, _*_, _≤_, _<_};
-ghost use lib.ListN.{length, getD, set};
+ghost use lib.ListN.{getD, set};
 ghost use Rattle.rules.specs.Records.{at as recOf};
-ghost use Rattle.rules.specs.Filter.{seen, Gather, reach, gather};
+ghost use Rattle.rules.specs.Filter.{seen, reach, gather};
 ghost use Rattle.space.specs.Space.{Frame, stackAt};
-ghost use Rattle.table.specs.View.{recsOf, part, listAt};
+ghost use Rattle.table.specs.View.{recsOf, listAt};
 ghost use Rattle.filter.specs.Group.{reachOne, groupAt, Waiting, Found, Calm, Popped};
 
 // One entry r of a neighbour list: a live record not yet visited waits its turn. Gives how many wait.

@@ -3,15 +3,13 @@ use space::clear;
 use table::at;
 use table::list_of;
 ghost use mathlib.Core.Path.{_≡_};
-ghost use Prim.Native.Nat.{ℕ, _+_, _-_, _*_, _≤_, _<_};
-ghost use lib.ListN.{length, getD, set};
-ghost use Rattle.rules.specs.Base.{any};
-ghost use Rattle.rules.specs.Growth.{flagged};
+ghost use Prim.Native.Nat.{ℕ, _+_, _*_, _≤_, _<_};
+ghost use lib.ListN.{getD, set};
 ghost use Rattle.rules.specs.Records.{at as recOf};
 ghost use Rattle.rules.specs.Filter.{removed, total, removeAll};
 ghost use Rattle.space.specs.Space.{Frame};
 ghost use Rattle.table.specs.View.{part, recsOf, Held};
-ghost use Rattle.filter.specs.Group.{listsFlagged, anyFlagged, small, removeSmall, Waiting, Found, Calm};
+ghost use Rattle.filter.specs.Group.{listsFlagged, anyFlagged, small, removeSmall, Found, Calm};
 
 // The spans of the f found.
 fn total(ws: &[u16], m: usize, f: usize) -> usize

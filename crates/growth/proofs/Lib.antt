@@ -1,2 +1,3 @@
 -- Laws of the growth.
 pub mod SeaLaws
+pub mod TurnLaws

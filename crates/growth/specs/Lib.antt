@@ -1,1 +1,2 @@
 pub mod Seas
+pub mod Turns

@@ -1,2 +1,3 @@
 // Flood and expansion, rules 1 to 5.
-mod floods;
+pub mod floods;
+pub mod turns;

@@ -1,21 +1,20 @@
 -- Laws of the picking. Assumes nothing.
-use Prim.Native.Nat.{ℕ, zero, suc, _+_, _-_, _*_, _≤_, _<_}
+use Prim.Native.Nat.{ℕ, _+_, _-_, _*_, _≤_, _<_}
 use native.Mathlib.Omega.{arith}
 use native.Mathlib.Decide.{decLt}
 use native.Mathlib.Numerals.{add-one}
 use mathlib.Core.Path.{_≡_, refl, sym, ap, _∙_}
-use mathlib.Core.Bool.{Bool, true, false, not, true≢false, false≢true}
-use mathlib.Core.List.{List, [], _∷_, _++_, map}
-use lib.ListN.{drop-of-length-le, length, getD, set, take, drop}
+use mathlib.Core.Bool.{Bool, true, false}
+use mathlib.Core.List.{List, []}
+use lib.ListN.{drop-of-length-le, length, getD, drop}
 use lib.Seq.{drop-cons}
-use lib.Dec.{eqb, ltb, leb}
-use borrow.Author.Tests.{eq-eqb, ne-eqb, eqb-true, eqb-false, lt-ltb, le-ltb, le-leb, lt-leb}
-use Rattle.rules.specs.Base.{_and_, _or_, if_then_else_, any, many, tab}
-use Rattle.rules.specs.Records.{Rec, at, fresh}
+use borrow.Author.Tests.{eq-eqb, ne-eqb, lt-ltb, le-ltb, le-leb, lt-leb}
+use Rattle.rules.specs.Base.{if_then_else_, _and_}
+use Rattle.rules.specs.Records.{Rec, at}
 use Rattle.rules.specs.Merge.{Pick}
-use Rattle.merge.specs.View.{wide, startOf, endOf, listAt, recAt, view, Parts, Below, Under, Held}
-use Rattle.merge.specs.Fixed.{better, pickOne, pickedF, suitsF}
-use Rattle.merge.proofs.ViewLaws.{view-at}
+use Rattle.table.specs.View.{listAt, recAt, view, Under, Held}
+use Rattle.pool.specs.Fixed.{better, pickOne, pickedF, suitsF}
+use Rattle.table.proofs.ViewLaws.{view-at}
 
 rec-pick : (ws : List ℕ) (m s t r n : ℕ) → n ≡ getD ws (m + r) 0 → _≡_ {A = Pick} (record { size = n; id = getD ws r 0 }) (record { size = recAt ws m s t r .count; id = recAt ws m s t r .id })
 unfolding recAt
@@ -27,23 +26,23 @@ module _ (ws : List ℕ) (m s t i j size : ℕ) where
   better-dead e = rw (eq-eqb (getD ws j 0) 0 e)
 
   module _ (n : getD ws j 0 ≡ 0 → ⊥) where
-    pub better-over : (getD ws (m + m + m + j) 0 ≡ 0 → ⊥) → false ≡ better (view ws m s t) (recAt ws m s t i) (recAt ws m s t j) size
+    pub better-over : (getD ws (3 * m + j) 0 ≡ 0 → ⊥) → false ≡ better (view ws m s t) (recAt ws m s t i) (recAt ws m s t j) size
     unfolding better recAt _and_
-    better-over o = rw (ne-eqb (getD ws j 0) 0 n, ne-eqb (getD ws (m + m + m + j) 0) 0 o)
+    better-over o = rw (ne-eqb (getD ws j 0) 0 n, ne-eqb (getD ws (3 * m + j) 0) 0 o)
 
-    module _ (o : getD ws (m + m + m + j) 0 ≡ 0) (k : ℕ) (c : k ≡ getD ws (m + j) 0) where
+    module _ (o : getD ws (3 * m + j) 0 ≡ 0) (k : ℕ) (c : k ≡ getD ws (m + j) 0) where
       pub better-large : size ≤ k → false ≡ better (view ws m s t) (recAt ws m s t i) (recAt ws m s t j) size
       unfolding better recAt _and_
-      better-large l = rw (ne-eqb (getD ws j 0) 0 n, eq-eqb (getD ws (m + m + m + j) 0) 0 o, ← c, le-ltb k size l)
+      better-large l = rw (ne-eqb (getD ws j 0) 0 n, eq-eqb (getD ws (3 * m + j) 0) 0 o, ← c, le-ltb k size l)
 
       module _ (l : k < size) (x : Bool) (p : x ≡ suitsF (view ws m s t) (recAt ws m s t i) (recAt ws m s t j)) where
         pub better-unfit : x ≡ false → false ≡ better (view ws m s t) (recAt ws m s t i) (recAt ws m s t j) size
         unfolding better recAt _and_ suitsF
-        better-unfit z = rw (ne-eqb (getD ws j 0) 0 n, eq-eqb (getD ws (m + m + m + j) 0) 0 o, ← c, lt-ltb k size l, ← p, z) refl
+        better-unfit z = rw (ne-eqb (getD ws j 0) 0 n, eq-eqb (getD ws (3 * m + j) 0) 0 o, ← c, lt-ltb k size l, ← p, z) refl
 
         pub better-fit : x ≡ true → (y : Bool) → y ≡ suitsF (view ws m s t) (recAt ws m s t j) (recAt ws m s t i) → y ≡ better (view ws m s t) (recAt ws m s t i) (recAt ws m s t j) size
         unfolding better recAt _and_ suitsF
-        better-fit z y q = rw (ne-eqb (getD ws j 0) 0 n, eq-eqb (getD ws (m + m + m + j) 0) 0 o, ← c, lt-ltb k size l, ← p, z, ← q) refl
+        better-fit z y q = rw (ne-eqb (getD ws j 0) 0 n, eq-eqb (getD ws (3 * m + j) 0) 0 o, ← c, lt-ltb k size l, ← p, z, ← q) refl
 
 module _ (ws : List ℕ) (m s t i r : ℕ) (p : Pick) where
   pub pick-flagged : 32768 ≤ r → p ≡ pickOne (view ws m s t) (recAt ws m s t i) r (recAt ws m s t r) p
@@ -64,10 +63,10 @@ module _ (ws : List ℕ) (m s t r : ℕ) (held : Held m s t ws) (f : r < 32768 �
   pick-in = f h
 
   pub pick-in0 : r < length ws
-  pick-in0 = omega (arith, held .columns, f h)
+  pick-in0 = omega (arith, held .floors .room, held .floors .past, f h)
 
   pub pick-in1 : m + r < length ws
-  pick-in1 = omega (arith, held .columns, f h)
+  pick-in1 = omega (arith, held .floors .room, held .floors .past, f h)
 
   pub pick-id : getD ws r 0 < m
   pick-id = held .ids r (f h)

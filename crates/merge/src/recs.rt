@@ -1,35 +1,14 @@
 // The records, read from the workspace.
-use crate::lists::at;
-use crate::lists::many;
+use pool::many;
+use table::at;
+use table::list_of;
 ghost use mathlib.Core.Path.{_≡_};
-ghost use mathlib.Core.Bool.{Bool, true, false, not};
-ghost use mathlib.Core.List.{List, [], map};
-ghost use Prim.Native.Nat.{ℕ, _+_, _*_, _-_, _≤_, _<_};
-ghost use lib.ListN.{length, getD, take, drop};
+ghost use Prim.Native.Nat.{_<_};
+ghost use lib.ListN.{length};
 ghost use lib.Dec.{eqb};
 ghost use Rattle.rules.specs.Base.{_and_, any};
-ghost use Rattle.rules.specs.Records.{at as recOf};
-ghost use Rattle.merge.specs.View.{wide, startOf, endOf, listAt, recAt, view, Parts, Below, Held};
-ghost use Rattle.merge.specs.Fixed.{floorIs, floorIn, idsOf, suitsF};
-
-// A number in two halves, low at a, high m further on.
-fn wide(ws: &[u16], m: usize, a: usize) -> usize
-    requires { ⌜ a + m < length (now ws) ⌝ }
-    ensures { λ r. ⌜ (r ≡ wide (now (ws .entry)) m a) × (r < 4294967296) ⌝ }
-{
-    at(ws, a) + 65536 * at(ws, a + m)
-}
-
-// The neighbours of record r, with the table at s, or its floors, with that at t: the part itself.
-pub fn list_of(ws: &[u16], m: usize, s: usize, r: usize) -> &[u16]
-    requires { ⌜ Parts m s (now ws) ⌝ }
-    requires { ⌜ r < m ⌝ }
-    ensures { λ l. ⌜ now l ≡ listAt (now (ws .entry)) m s r ⌝ }
-{
-    let a = wide(ws, m, s + r);
-    let e = wide(ws, m, s + m + m + r);
-    &ws[a..e]
-}
+ghost use Rattle.table.specs.View.{recAt, view, Below, Held};
+ghost use Rattle.pool.specs.Fixed.{floorIs, floorIn, suitsF};
 
 // Does the list hold a record whose id is b?
 fn any_floor(ws: &[u16], l: &[u16], b: u16) -> bool
@@ -73,14 +52,14 @@ fn floor_in(ws: &[u16], m: usize, s: usize, t: usize, a: u16, b: u16) -> bool
     false
 }
 
-// can_merge_with: the same area, listed at most once, and not a floor.
-pub(crate) fn suits(ws: &[u16], m: usize, s: usize, t: usize, i: usize, j: usize) -> bool
+// The same area, listed at most once, and not a floor.
+pub(crate) fn can_merge_with(ws: &[u16], m: usize, s: usize, t: usize, i: usize, j: usize) -> bool
     requires { ⌜ Held m s t (now ws) ⌝ }
     requires { ⌜ i < m ⌝ }
     requires { ⌜ j < m ⌝ }
     ensures { λ r. ⌜ r ≡ suitsF (view (now (ws .entry)) m s t) (recAt (now (ws .entry)) m s t i) (recAt (now (ws .entry)) m s t j) ⌝ }
 {
-    if ws[m + m + i] != ws[m + m + j] {
+    if ws[2 * m + i] != ws[2 * m + j] {
         return false;
     }
     if 1 < many(list_of(ws, m, s, i), ws[j]) {

@@ -3,13 +3,13 @@
 use Prim.Native.Nat.{ℕ, _+_, _-_, _*_, _/_, _%_, _≤_, _<_}
 use native.Mathlib.Omega.{arith}
 use native.Mathlib.Nat.{div-add-mod'}
-use mathlib.Core.Path.{_≡_, refl, sym, ap, _∙_}
+use mathlib.Core.Path.{_≡_, _∙_}
 use mathlib.Core.List.{List}
 use lib.ListN.{length, getD, set, length-set}
 use lib.Seq.{getD-set-same, getD-set-other}
 use Rattle.space.specs.Space.{Frame}
 use Rattle.space.proofs.Laws.{frame-then, frame-set}
-use Rattle.table.specs.View.{wide, startOf, endOf, Placed}
+use Rattle.table.specs.View.{wide, Placed}
 use Rattle.table.proofs.ViewLaws.{wide-same}
 
 -- the stores of `set_wide`

@@ -5,17 +5,16 @@ use native.Mathlib.Omega.{arith}
 use native.Mathlib.Numerals.{add-one}
 use native.Mathlib.Decide.{ℕ-discrete}
 use mathlib.Core.Path.{_≡_, refl, sym, ap, _∙_}
-use mathlib.Core.Bool.{Bool, not}
-use mathlib.Core.List.{List, [], _∷_}
-use lib.ListN.{length, getD, set, take, drop, length-set, length-drop}
-use lib.Seq.{drop-cons, ext-getD, getD-set-same, getD-set-other, length-take-le, getD-take, getD-drop}
-use lib.Dec.{eqb}
+use mathlib.Core.Bool.{Bool}
+use mathlib.Core.List.{List, [], _∷_, map}
+use lib.ListN.{length, getD, set, take, drop, length-set}
+use lib.Seq.{drop-cons, ext-getD, getD-set-same, getD-set-other}
 use Rattle.rules.specs.Base.{tab}
 use Rattle.rules.specs.Records.{Rec, at, fresh}
 use Rattle.laws.proofs.Basics.{tab-at, length-tab}
 use Rattle.space.specs.Space.{Frame, sec}
 use Rattle.space.proofs.Laws.{getD-after, length-sec, getD-sec}
-use Rattle.table.specs.View.{part, wide, startOf, endOf, listAt, recAt, view, Parts, Below, Under, Held}
+use Rattle.table.specs.View.{part, wide, startOf, endOf, listAt, recAt, view, Parts, Held}
 
 pub wide-is : (ws : List ℕ) (m a x y : ℕ) → x ≡ getD ws a 0 → y ≡ getD ws (a + m) 0 → x + 65536 * y ≡ wide ws m a
 unfolding wide
@@ -57,6 +56,11 @@ unfolding part
 part-length a e ws h g = length-sec a (e - a) ws (omega arith)
 
 -- ---- the list of records
+
+pub map-tab : {A B : Type 0} (n k : ℕ) (f : ℕ → A) (g : A → B) → map g (tab n k f) ≡ tab n k (λ i. g (f i))
+unfolding tab
+map-tab zero k f g = refl
+map-tab (suc n) k f g = ap (λ (l : List _). g (f k) ∷ l) (map-tab n (suc k) f g)
 
 pub view-length : (ws : List ℕ) (m s t : ℕ) → length (view ws m s t) ≡ m
 unfolding view

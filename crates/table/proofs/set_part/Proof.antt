@@ -1,41 +1,30 @@
+-- `table::set_part` meets its contract. Two stores of two halves each, in four columns of the table: `placed`.
 use Rattle.table.proofs.PlaceLaws.{placed}
-use native.Mathlib.Omega.{arith}
 use borrow.Author.Needs.{needs}
 use Rattle.table.proofs.set_part.Statement.{statement}
 use Rattle.table.proofs.set_part.Tie as tie
-use Rattle.table.proofs.set_part.Reads as reads
-use Rattle.table.proofs.set_part.Lts as lts
-use Rattle.table.proofs.set_wide.Reads as set-wide-reads
 
--- src/lib.rt:72:21
 add-set-wide : tie.Need-add-set-wide
 add-set-wide c = search needs
 
--- src/lib.rt:72:5
 set-wide-requires : tie.Need-set-wide-requires
 set-wide-requires c κs = search needs
 
--- src/lib.rt:73:25
 mul-set-wide : tie.Need-mul-set-wide
 mul-set-wide c = search needs
 
--- src/lib.rt:73:21
 add-set-wide-2 : tie.Need-add-set-wide-2
 add-set-wide-2 c = search needs
 
--- src/lib.rt:73:21
 add-set-wide-3 : tie.Need-add-set-wide-3
 add-set-wide-3 c = search needs
 
--- src/lib.rt:73:5
 set-wide-requires-2 : tie.Need-set-wide-requires-2
 set-wide-requires-2 c κs = search needs
 
--- src/lib.rt:65:1
 same-length : tie.Need-same-length
 same-length c = search needs
 
--- src/lib.rt:65:1
 returns : tie.Need-returns
 returns c = search placed
 

@@ -1,48 +1,36 @@
+-- `filter::gather::enter` meets its contract. Straight line: one record is visited and waits alone.
 use Rattle.filter.proofs.GroupLaws.{enter-in, enter-waiting, enter-found, enter-group, enter-frame}
-use native.Mathlib.Omega.{arith}
 use borrow.Author.Needs.{needs}
 use Rattle.filter.proofs.gather.enter.Statement.{statement}
 use Rattle.filter.proofs.gather.enter.Tie as tie
-use Rattle.filter.proofs.gather.enter.Reads as reads
-use Rattle.filter.proofs.gather.enter.Lts as lts
 
--- src/gather.rt:67:17
 cast-ws : tie.Need-cast-ws
 cast-ws c = search needs
 
--- src/gather.rt:67:8
 mul-ws : tie.Need-mul-ws
 mul-ws c = search needs
 
--- src/gather.rt:67:5
 mul-ws-2 : tie.Need-mul-ws-2
 mul-ws-2 c = search needs
 
--- src/gather.rt:67:5
 slice-write-ws : tie.Need-slice-write-ws
 slice-write-ws c = search needs
 
--- src/gather.rt:68:8
 mul-ws-3 : tie.Need-mul-ws-3
 mul-ws-3 c = search needs
 
--- src/gather.rt:68:8
 add-ws : tie.Need-add-ws
 add-ws c = search needs
 
--- src/gather.rt:68:5
 mul-ws-4 : tie.Need-mul-ws-4
 mul-ws-4 c = search needs
 
--- src/gather.rt:68:5
 slice-write-ws-2 : tie.Need-slice-write-ws-2
 slice-write-ws-2 c = search (needs, enter-in)
 
--- src/gather.rt:58:1
 same-length : tie.Need-same-length
 same-length c = search needs
 
--- src/gather.rt:58:1
 returns : tie.Need-returns
 returns c = (search enter-waiting, (search enter-found, (search enter-group, search enter-frame)))
 

@@ -1,6 +1,8 @@
+-- `filter::gather::reach` meets its contract. The loop's invariant: to go on with the entries from k on gives what the whole list gives.
+-- The list lies past the columns, so the stores of a turn do not touch it.
 use Rattle.filter.proofs.GroupLaws.{reach-start, entry-in, entry-under, reach-go, reach-done, reach-from, reach-order}
 use lib.ListN.{length}
-use Prim.Native.Nat.{ℕ, _+_, _*_, _-_, _≤_}
+use Prim.Native.Nat.{ℕ, _*_, _-_, _≤_}
 use mathlib.Core.Path.{_≡_}
 use Rattle.rules.specs.Filter.{reach}
 use Rattle.space.specs.Space.{Frame}
@@ -8,14 +10,8 @@ use Rattle.space.proofs.Laws.{frame-none, frame-then}
 use Rattle.table.specs.View.{part, startOf, listAt}
 use Rattle.filter.specs.Group.{groupAt, Waiting}
 use borrow.Author.Needs.{needs}
-use native.Mathlib.Omega.{arith}
 use Rattle.filter.proofs.gather.reach.Statement.{statement}
 use Rattle.filter.proofs.gather.reach.Tie as tie
-use Rattle.filter.proofs.gather.reach.Reads as reads
-use Rattle.filter.proofs.gather.reach.Lts as lts
-use Rattle.filter.proofs.gather.reach_one.Reads as reach-one-reads
-use Rattle.table.proofs.end_of.Reads as end-of-reads
-use Rattle.table.proofs.start_of.Reads as start-of-reads
 
 abbrev Inv-loop : tie.InvT-loop
 Inv-loop ws₀ m i top e k₀ n₀ ws k n = (startOf ws₀ m (7 * m) i ≤ k) × (k ≤ e) × (length ws ≡ length ws₀) × Waiting m n ws × Frame (4 * m) (6 * m) ws₀ ws
@@ -24,47 +20,36 @@ Inv-loop ws₀ m i top e k₀ n₀ ws k n = (startOf ws₀ m (7 * m) i ≤ k) ×
 abbrev μ-loop : tie.MeasureT-loop
 μ-loop ws₀ m i top e k₀ n₀ ws k n = e - k
 
--- src/gather.rt:46:27
 mul-end-of : tie.Need-mul-end-of Inv-loop μ-loop
 mul-end-of c = search needs
 
--- src/gather.rt:46:9
 end-of-requires : tie.Need-end-of-requires Inv-loop μ-loop
 end-of-requires c κs = search needs
 
--- src/gather.rt:47:33
 mul-start-of : tie.Need-mul-start-of Inv-loop μ-loop
 mul-start-of c = search needs
 
--- src/gather.rt:47:9
 start-of-requires : tie.Need-start-of-requires Inv-loop μ-loop
 start-of-requires c κs = search needs
 
--- src/gather.rt:49:5
 loop-holds : tie.Need-loop-holds Inv-loop μ-loop
 loop-holds c = (search reach-from, search reach-order, search needs, search needs, search frame-none, search reach-start)
 
--- src/gather.rt:50:17
 mul-r : tie.Need-mul-r Inv-loop μ-loop
 mul-r c = search needs
 
--- src/gather.rt:50:17
 slice-read-r : tie.Need-slice-read-r Inv-loop μ-loop
 slice-read-r c = search entry-in
 
--- src/gather.rt:51:9
 reach-one-requires : tie.Need-reach-one-requires Inv-loop μ-loop
 reach-one-requires c κs = (search needs, search entry-under)
 
--- src/gather.rt:52:9
 add-k : tie.Need-add-k Inv-loop μ-loop
 add-k c = search needs
 
--- src/gather.rt:49:5
 loop-less : tie.Need-loop-less Inv-loop μ-loop
 loop-less c = search needs
 
--- src/gather.rt:49:5
 loop-again : tie.Need-loop-again Inv-loop μ-loop
 loop-again c = (
   search needs,
@@ -76,11 +61,9 @@ loop-again c = (
       reach-go _ _ _ _ _ _ _ (v .4) (v .2) (c .before .before .before .before .before .loop-test .taken) (c .before .before .before .before .before .before .before .before .before .end-of .ensures .0) (v .0) (c .before .before .before .before .before .before .before .before .before .before .before .before .pre .1) (c .before .before .before .before .before .before .before .before .before .before .before .before .pre .0) _ _ _ (v .5) (c .before .before .reach-one .ensures .1 .0) (c .before .before .reach-one .ensures .1 .1)),
 )
 
--- src/gather.rt:39:1
 same-length : tie.Need-same-length Inv-loop μ-loop
 same-length c = search needs
 
--- src/gather.rt:39:1
 returns : tie.Need-returns Inv-loop μ-loop
 returns c = (search needs, (search reach-done, search needs))
 

@@ -1,97 +1,74 @@
+-- `filter::gather::reach_one` meets its contract. Straight line, by cases on the entry. A record that is pushed was not visited, so fewer than m wait:
+-- `push-room`, from those that wait and those not visited together.
 use Rattle.space.proofs.Laws.{frame-none}
 use Rattle.filter.proofs.GroupLaws.{one-flagged, one-visited, one-dead, visit-in, live-in, push-in, push-in-2, push-waiting, push-group, push-frame}
-use native.Mathlib.Omega.{arith}
 use borrow.Author.Needs.{needs}
 use Rattle.filter.proofs.gather.reach_one.Statement.{statement}
 use Rattle.filter.proofs.gather.reach_one.Tie as tie
-use Rattle.filter.proofs.gather.reach_one.Reads as reads
-use Rattle.filter.proofs.gather.reach_one.Lts as lts
 
--- src/gather.rt:24:9
 returns : tie.Need-returns
 returns c = (search needs, (search one-flagged, search frame-none))
 
--- src/gather.rt:27:11
 mul-if2 : tie.Need-mul-if2
 mul-if2 c = search needs
 
--- src/gather.rt:27:11
 add-if2 : tie.Need-add-if2
 add-if2 c = search needs
 
--- src/gather.rt:27:8
 mul-if2-2 : tie.Need-mul-if2-2
 mul-if2-2 c = search needs
 
--- src/gather.rt:27:8
 slice-read-if2 : tie.Need-slice-read-if2
 slice-read-if2 c = search (needs, visit-in)
 
--- src/gather.rt:28:9
 returns-2 : tie.Need-returns-2
 returns-2 c = (search needs, (search one-visited, search frame-none))
 
--- src/gather.rt:30:8
 mul-if3 : tie.Need-mul-if3
 mul-if3 c = search needs
 
--- src/gather.rt:30:8
 slice-read-if3 : tie.Need-slice-read-if3
 slice-read-if3 c = search live-in
 
--- src/gather.rt:31:9
 returns-3 : tie.Need-returns-3
 returns-3 c = (search needs, (search one-dead, search frame-none))
 
--- src/gather.rt:33:23
 mul-ws : tie.Need-mul-ws
 mul-ws c = search needs
 
--- src/gather.rt:33:23
 slice-read-ws : tie.Need-slice-read-ws
 slice-read-ws c = search live-in
 
--- src/gather.rt:33:8
 mul-ws-2 : tie.Need-mul-ws-2
 mul-ws-2 c = search needs
 
--- src/gather.rt:33:8
 add-ws : tie.Need-add-ws
 add-ws c = search needs
 
--- src/gather.rt:33:5
 mul-ws-3 : tie.Need-mul-ws-3
 mul-ws-3 c = search needs
 
--- src/gather.rt:33:5
 slice-write-ws : tie.Need-slice-write-ws
 slice-write-ws c = search push-in
 
--- src/gather.rt:34:8
 mul-ws-4 : tie.Need-mul-ws-4
 mul-ws-4 c = search needs
 
--- src/gather.rt:34:8
 add-ws-2 : tie.Need-add-ws-2
 add-ws-2 c = search needs
 
--- src/gather.rt:34:5
 mul-ws-5 : tie.Need-mul-ws-5
 mul-ws-5 c = search needs
 
--- src/gather.rt:34:5
 slice-write-ws-2 : tie.Need-slice-write-ws-2
 slice-write-ws-2 c = search (needs, push-in-2)
 
--- src/gather.rt:35:5
 add-result : tie.Need-add-result
 add-result c = search needs
 
--- src/gather.rt:16:1
 same-length : tie.Need-same-length
 same-length c = search needs
 
--- src/gather.rt:16:1
 returns-4 : tie.Need-returns-4
 returns-4 c = (search push-waiting, (search push-group, search push-frame))
 

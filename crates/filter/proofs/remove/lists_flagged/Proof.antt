@@ -1,14 +1,12 @@
+-- `filter::remove::lists_flagged` meets its contract. The loop's invariant: the rest of the list answers for the whole, since no entry so far is flagged.
 use Prim.Native.Nat.{_≤_, _-_}
 use mathlib.Core.Path.{_≡_, refl}
 use lib.ListN.{length, drop}
 use Rattle.filter.specs.Group.{listsFlagged}
 use Rattle.filter.proofs.RemoveLaws.{list-here, list-next, list-none}
 use borrow.Author.Needs.{needs}
-use native.Mathlib.Omega.{arith}
 use Rattle.filter.proofs.remove.lists_flagged.Statement.{statement}
 use Rattle.filter.proofs.remove.lists_flagged.Tie as tie
-use Rattle.filter.proofs.remove.lists_flagged.Reads as reads
-use Rattle.filter.proofs.remove.lists_flagged.Lts as lts
 
 abbrev Inv-loop : tie.InvT-loop
 Inv-loop l i₀ i = (i ≤ length l) × (listsFlagged l ≡ listsFlagged (drop i l))
@@ -16,35 +14,27 @@ Inv-loop l i₀ i = (i ≤ length l) × (listsFlagged l ≡ listsFlagged (drop i
 abbrev μ-loop : tie.MeasureT-loop
 μ-loop l i₀ i = length l - i
 
--- src/remove.rt:38:5
 loop-holds : tie.Need-loop-holds Inv-loop μ-loop
 loop-holds c = (search needs, refl)
 
--- src/remove.rt:39:21
 mul-if1 : tie.Need-mul-if1 Inv-loop μ-loop
 mul-if1 c = search needs
 
--- src/remove.rt:39:21
 shared-slice-read-if1 : tie.Need-shared-slice-read-if1 Inv-loop μ-loop
 shared-slice-read-if1 c = search needs
 
--- src/remove.rt:40:13
 returns : tie.Need-returns Inv-loop μ-loop
 returns c = search list-here
 
--- src/remove.rt:42:9
 add-i : tie.Need-add-i Inv-loop μ-loop
 add-i c = search needs
 
--- src/remove.rt:38:5
 loop-less : tie.Need-loop-less Inv-loop μ-loop
 loop-less c = search needs
 
--- src/remove.rt:38:5
 loop-again : tie.Need-loop-again Inv-loop μ-loop
 loop-again c = (search needs, search list-next)
 
--- src/remove.rt:34:1
 returns-2 : tie.Need-returns-2 Inv-loop μ-loop
 returns-2 c = search list-none
 

@@ -1,3 +1,4 @@
+-- `filter::whole::filter` meets its contract. The loop's invariant: the records are the rule's after i turns.
 use Prim.Native.Nat.{_*_, _-_, _≤_}
 use mathlib.Core.Path.{_≡_}
 use lib.ListN.{length}
@@ -9,12 +10,8 @@ use Rattle.table.specs.View.{recsOf}
 use Rattle.filter.specs.Group.{Calm}
 use Rattle.filter.proofs.FilterLaws.{filter-start, filter-go, filter-done}
 use borrow.Author.Needs.{needs}
-use native.Mathlib.Omega.{arith}
 use Rattle.filter.proofs.whole.filter.Statement.{statement}
 use Rattle.filter.proofs.whole.filter.Tie as tie
-use Rattle.filter.proofs.whole.filter.Reads as reads
-use Rattle.filter.proofs.whole.filter.Lts as lts
-use Rattle.filter.proofs.whole.filter_one.Reads as filter-one-reads
 
 abbrev Inv-loop : tie.InvT-loop
 Inv-loop ws₀ m least i₀ ws i = (i ≤ m) × (length ws ≡ length ws₀) × Calm m ws × Frame 0 (5 * m) ws₀ ws × (recsOf ws m ≡ upto i (filterOne least) (recsOf ws₀ m))
@@ -22,31 +19,24 @@ Inv-loop ws₀ m least i₀ ws i = (i ≤ m) × (length ws ≡ length ws₀) × 
 abbrev μ-loop : tie.MeasureT-loop
 μ-loop ws₀ m least i₀ ws i = m - i
 
--- src/whole.rt:45:5
 loop-holds : tie.Need-loop-holds Inv-loop μ-loop
 loop-holds c = (search needs, search needs, search needs, search frame-none, search filter-start)
 
--- src/whole.rt:46:9
 filter-one-requires : tie.Need-filter-one-requires Inv-loop μ-loop
 filter-one-requires c κs = search needs
 
--- src/whole.rt:47:9
 add-i : tie.Need-add-i Inv-loop μ-loop
 add-i c = search needs
 
--- src/whole.rt:45:5
 loop-less : tie.Need-loop-less Inv-loop μ-loop
 loop-less c = search needs
 
--- src/whole.rt:45:5
 loop-again : tie.Need-loop-again Inv-loop μ-loop
 loop-again c = (search needs, search needs, search needs, search frame-then, search filter-go)
 
--- src/whole.rt:38:1
 same-length : tie.Need-same-length Inv-loop μ-loop
 same-length c = search needs
 
--- src/whole.rt:38:1
 returns : tie.Need-returns Inv-loop μ-loop
 returns c = (search filter-done, search needs)
 

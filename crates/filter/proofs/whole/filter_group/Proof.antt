@@ -1,36 +1,24 @@
+-- `filter::whole::filter_group` meets its contract. Four calls in a row: `group-done` puts their promises together, `turn-frame` what they leave alone.
 use Rattle.filter.proofs.FilterLaws.{group-done, turn-frame, found-after, blank-after}
-use native.Mathlib.Omega.{arith}
 use borrow.Author.Needs.{needs}
 use Rattle.filter.proofs.whole.filter_group.Statement.{statement}
 use Rattle.filter.proofs.whole.filter_group.Tie as tie
-use Rattle.filter.proofs.whole.filter_group.Reads as reads
-use Rattle.filter.proofs.whole.filter_group.Lts as lts
-use Rattle.filter.proofs.gather.enter.Reads as enter-reads
-use Rattle.filter.proofs.gather.gather.Reads as gather-reads
-use Rattle.filter.proofs.remove.forget.Reads as forget-reads
-use Rattle.filter.proofs.remove.remove_small.Reads as remove-small-reads
 
--- src/whole.rt:23:5
 enter-requires : tie.Need-enter-requires
 enter-requires c κs = search needs
 
--- src/whole.rt:24:9
 gather-requires : tie.Need-gather-requires
 gather-requires c κs = search needs
 
--- src/whole.rt:25:5
 remove-small-requires : tie.Need-remove-small-requires
 remove-small-requires c κs = search needs
 
--- src/whole.rt:26:5
 forget-requires : tie.Need-forget-requires
 forget-requires c κs = (search needs, (found-after _ _ _ _ (c .before .before .before .before .before .before .before .gather .ensures .1 .1 .1 .0) (c .before .before .before .remove-small .ensures .1 .1), (search needs, blank-after _ _ _ (c .before .before .before .remove-small .ensures .1 .1) (c .before .before .before .before .before .before .before .gather .ensures .1 .1 .0))))
 
--- src/whole.rt:15:1
 same-length : tie.Need-same-length
 same-length c = search needs
 
--- src/whole.rt:15:1
 returns : tie.Need-returns
 returns c = let e = c .before .before .before .before .before .before .before .before .before .before .before .before .before .before .enter in
     let g = c .before .before .before .before .before .before .before .before .before .before .gather in

@@ -1,0 +1,68 @@
+-- Each way out is the rule's look under what has been tested by then (Looks); a neighbour that is there is a span, so its area, id and source
+-- distance can be read, and the sum fits because source distances are bounded. Assumes nothing.
+use Prim.Native.Nat.{_<_}
+use borrow.Author.Needs.{needs}
+use denote.Ref.{now}
+use lib.ListN.{length}
+use Rattle.flood.proofs.Pushes.{pushed-inside}
+use Rattle.expand.proofs.Looks.{look-none, look-area, look-zero, look-flag, look-far, look-take, calm-in, calm-low}
+use Rattle.expand.proofs.look.look.Statement.{statement}
+use Rattle.expand.proofs.look.look.Tie as tie
+
+-- the neighbour is a span
+inside : (c : tie.Else1) → c .before .neighbour .result .0 < length (now (c .before .before .before .before .before .before .args .area))
+inside c =
+    let s = c .before .before .before .before .before .before in
+    pushed-inside _ _ _ _ _ _ _ (c .before .neighbour .ensures) (s .pre .0) (s .pre .1) (c .if1 .left)
+
+neighbour-requires : tie.Need-neighbour-requires
+neighbour-requires c κs = search needs
+
+returns : tie.Need-returns
+returns c = search (needs, look-none)
+
+at8-requires : tie.Need-at8-requires
+at8-requires c κs = search (needs, pushed-inside)
+
+returns-2 : tie.Need-returns-2
+returns-2 c = search (needs, look-area, pushed-inside)
+
+id-at-requires : tie.Need-id-at-requires
+id-at-requires c κs = search (needs, pushed-inside)
+
+returns-3 : tie.Need-returns-3
+returns-3 c = search (needs, look-zero, pushed-inside)
+
+returns-4 : tie.Need-returns-4
+returns-4 c = search (needs, look-flag, pushed-inside)
+
+farther-requires : tie.Need-farther-requires
+farther-requires c κs = (search (needs, calm-in, pushed-inside), search (needs, calm-low, pushed-inside))
+
+returns-5 : tie.Need-returns-5
+returns-5 c =
+    let f = c .before .before in
+    let e = f .before .before .before .before .before .before in
+    look-take _ _ _ _ _ _ _ _ _ _ _ _ (e .before .neighbour .ensures) (inside e) _ (f .farther .ensures) _ _ (f .before .before .before .before .before .at8 .ensures .0)
+    (f .before .before .before .before .if2 .left) (f .before .before .before .id-at .ensures) (f .before .before .if3 .left) (f .before .if4 .left) (c .if5 .taken)
+
+returns-6 : tie.Need-returns-6
+returns-6 c =
+    let f = c .before .before in
+    let e = f .before .before .before .before .before .before in
+    look-far _ _ _ _ _ _ _ _ _ _ _ _ (e .before .neighbour .ensures) (inside e) _ (f .farther .ensures) (c .if5 .left)
+
+pub look-spec : {M : Type 1} → statement M
+look-spec =
+    tie.close
+    (tie.spec
+    neighbour-requires
+    returns
+    at8-requires
+    returns-2
+    id-at-requires
+    returns-3
+    returns-4
+    farther-requires
+    returns-5
+    returns-6)

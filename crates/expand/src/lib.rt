@@ -1,0 +1,4 @@
+// Rule 3, the expansion of a stack, and rule 5, the last expansion.
+pub mod expand;
+mod look;
+mod round;

@@ -1,0 +1,48 @@
+-- `merge::merge::merge_all` meets its contract. The loop's invariant is `Rounds`: the rule from here gives what it gives from the start, with enough fuel.
+-- Each round that merges leaves fewer records that bear their own number: the measure.
+use mathlib.Core.Path.{_≡_}
+use lib.ListN.{length}
+use Rattle.table.specs.View.{recsOf}
+use Rattle.pool.specs.Pool.{Pool}
+use Rattle.pool.proofs.MergeLaws.{owners}
+use Rattle.merge.proofs.TurnLaws.{Rounds, rounds-start, rounds-go, rounds-falls, rounds-done, rounds-joined, pool-calm}
+use borrow.Author.Needs.{needs}
+use Rattle.merge.proofs.merge.merge_all.Statement.{statement}
+use Rattle.merge.proofs.merge.merge_all.Tie as tie
+
+abbrev Inv-loop : tie.InvT-loop
+Inv-loop ws₀ m p area h o now₀ other₀ ws now other = (length ws ≡ length ws₀) × Pool m p now other ws × Rounds area m ws₀ ws
+
+abbrev μ-loop : tie.MeasureT-loop
+μ-loop ws₀ m p area h o now₀ other₀ ws now other = owners m (recsOf ws m)
+
+loop-holds : tie.Need-loop-holds Inv-loop μ-loop
+loop-holds c = (search needs, search needs, search rounds-start)
+
+merge-round-requires : tie.Need-merge-round-requires Inv-loop μ-loop
+merge-round-requires c κs = (search needs, search rounds-joined)
+
+same-length : tie.Need-same-length Inv-loop μ-loop
+same-length c = search needs
+
+returns : tie.Need-returns Inv-loop μ-loop
+returns c = (search rounds-done, search pool-calm)
+
+loop-less : tie.Need-loop-less Inv-loop μ-loop
+loop-less c = search rounds-falls
+
+loop-again : tie.Need-loop-again Inv-loop μ-loop
+loop-again c = (search needs, search needs, search rounds-go)
+
+pub merge-all-spec : {M : Type 1} → statement M
+merge-all-spec =
+    tie.close
+    (tie.spec
+    Inv-loop
+    μ-loop
+    loop-holds
+    merge-round-requires
+    same-length
+    returns
+    loop-less
+    loop-again)

@@ -1,0 +1,75 @@
+-- `merge::merge::try_merge` meets its contract. By cases on the two places: each is past the list, or both list each other.
+use Rattle.merge.proofs.TurnLaws.{try-none, try-none-2, try-listed, try-some}
+use native.Mathlib.Omega.{arith}
+use borrow.Author.Needs.{needs}
+use Rattle.merge.proofs.merge.try_merge.Statement.{statement}
+use Rattle.merge.proofs.merge.try_merge.Tie as tie
+
+mul-a : tie.Need-mul-a
+mul-a c = search needs
+
+slice-read-a : tie.Need-slice-read-a
+slice-read-a c = search needs
+
+mul-b : tie.Need-mul-b
+mul-b c = search needs
+
+slice-read-b : tie.Need-slice-read-b
+slice-read-b c = search needs
+
+place-of-requires : tie.Need-place-of-requires
+place-of-requires c κs = search needs
+
+len-of-requires : tie.Need-len-of-requires
+len-of-requires c κs = search needs
+
+same-length : tie.Need-same-length
+same-length c = search needs
+
+returns : tie.Need-returns
+returns c = (try-none _ _ _ _ _ _ _ (c .before .before .before .before .before .before .before .before .pre .0) (c .before .before .before .before .before .before .before .before .pre .1 .0) (c .before .before .before .before .before .before .before .before .pre .1 .1 .0) _ _ _ (c .before .before .before .place-of .ensures) (c .before .len-of .ensures) (c .if1 .taken), (c .before .before .before .before .before .before .before .before .pre .0, search needs))
+
+place-of-requires-2 : tie.Need-place-of-requires-2
+place-of-requires-2 c κs = search needs
+
+len-of-requires-2 : tie.Need-len-of-requires-2
+len-of-requires-2 c κs = search needs
+
+same-length-2 : tie.Need-same-length-2
+same-length-2 c = search needs
+
+returns-2 : tie.Need-returns-2
+returns-2 c = (try-none-2 _ _ _ _ _ _ _ (c .before .before .before .before .before .before .before .before .before .before .before .before .before .pre .0) (c .before .before .before .before .before .before .before .before .before .before .before .before .before .pre .1 .0) (c .before .before .before .before .before .before .before .before .before .before .before .before .before .pre .1 .1 .0) _ _ _ (c .before .before .before .before .before .before .before .before .place-of .ensures) (c .before .before .before .before .before .before .len-of .ensures) (c .before .before .before .before .before .if1 .left) _ _ (c .before .before .before .place-of2 .ensures) (c .before .len-of2 .ensures) (c .if2 .taken), (c .before .before .before .before .before .before .before .before .before .before .before .before .before .pre .0, search needs))
+
+merge-regions-requires : tie.Need-merge-regions-requires
+merge-regions-requires c κs = (c .before .before .before .before .before .before .before .before .before .before .before .before .before .before .pre .0, try-listed _ _ _ _ _ _ _ (c .before .before .before .before .before .before .before .before .before .before .before .before .before .before .pre .0) (c .before .before .before .before .before .before .before .before .before .before .before .before .before .before .pre .1 .0) (c .before .before .before .before .before .before .before .before .before .before .before .before .before .before .pre .1 .1 .0) (c .before .before .before .before .before .before .before .before .before .before .before .before .before .before .args .g .merges) _ _ (c .before .before .before .before .before .before .before .before .before .place-of .ensures) (c .before .before .before .before .before .before .before .len-of .ensures) (c .before .before .before .before .before .before .if1 .left) _ _ (c .before .before .before .before .place-of2 .ensures) (c .before .before .len-of2 .ensures) (c .before .if2 .left) (c .before .before .before .before .before .before .before .before .before .before .before .before .before .before .pre .1 .1 .1 .0) (c .before .before .before .before .before .before .before .before .before .before .before .before .before .before .pre .1 .1 .1 .1 .0) (c .before .before .before .before .before .before .before .before .before .before .before .before .before .before .pre .1 .1 .1 .1 .1 .0))
+
+add-t13 : tie.Need-add-t13
+add-t13 c = omega (arith, c .before .before .before .before .before .before .before .before .before .before .before .before .before .before .before .before .before .before .pre .1 .1 .1 .1 .1 .1)
+
+same-length-3 : tie.Need-same-length-3
+same-length-3 c = search needs
+
+returns-3 : tie.Need-returns-3
+returns-3 c = (try-some _ _ _ _ _ _ _ (c .before .before .before .before .before .before .before .before .before .before .before .before .before .before .before .before .before .before .pre .0) (c .before .before .before .before .before .before .before .before .before .before .before .before .before .before .before .before .before .before .pre .1 .0) (c .before .before .before .before .before .before .before .before .before .before .before .before .before .before .before .before .before .before .pre .1 .1 .0) _ _ _ (c .before .before .before .before .before .before .before .before .before .before .before .before .before .place-of .ensures) (c .before .before .before .before .before .before .before .before .before .before .before .len-of .ensures) (c .before .before .before .before .before .before .before .before .before .before .if1 .left) _ _ (c .before .before .before .before .before .before .before .before .place-of2 .ensures) (c .before .before .before .before .before .before .len-of2 .ensures) (c .before .before .before .before .before .if2 .left) _ (c .before .before .before .merge-regions .ensures .0), (c .before .before .before .merge-regions .ensures .1, search needs))
+
+pub try-merge-spec : {M : Type 1} → statement M
+try-merge-spec =
+    tie.close
+    (tie.spec
+    mul-a
+    slice-read-a
+    mul-b
+    slice-read-b
+    place-of-requires
+    len-of-requires
+    same-length
+    returns
+    place-of-requires-2
+    len-of-requires-2
+    same-length-2
+    returns-2
+    merge-regions-requires
+    add-t13
+    same-length-3
+    returns-3)

@@ -1,0 +1,51 @@
+-- `merge::regions::merge_and_filter_regions` meets its contract. Three stages in a row. The filter leaves the pool in order (`filtered-pool`), the merge the spare columns (`Calm`),
+-- and the merge with floors that stay gives the rule's numbers (`numbered-top`).
+use Rattle.merge.proofs.TopLaws.{filtered-pool, filtered-joined, numbered-top, calm-column, calm-blank}
+use borrow.Author.Needs.{needs}
+use Rattle.merge.proofs.regions.merge_and_filter_regions.Statement.{statement}
+use Rattle.merge.proofs.regions.merge_and_filter_regions.Tie as tie
+
+filter-requires : tie.Need-filter-requires
+filter-requires c κs = search needs
+
+mul-h : tie.Need-mul-h
+mul-h c = search needs
+
+mul-p : tie.Need-mul-p
+mul-p c = search needs
+
+add-merge-all : tie.Need-add-merge-all
+add-merge-all c = search needs
+
+merge-all-requires : tie.Need-merge-all-requires
+merge-all-requires c κs = let f = c .before .before .before .filter in (
+  filtered-pool _ _ _ _ (c .before .before .before .before .before .before .before .pre) _ _ (f .ensures .0) (f .ensures .1 .0) (f .ensures .1 .1) (f .kept .0),
+  filtered-joined _ _ _ _ (c .before .before .before .before .before .before .before .pre) _ _ (f .ensures .0) (f .ensures .1 .0) (f .ensures .1 .1) (f .kept .0),
+)
+
+number-requires : tie.Need-number-requires
+number-requires c κs = (search calm-column, (search calm-blank, c .before .before .before .before .before .before .before .before .before .before .before .before .pre .named))
+
+same-length : tie.Need-same-length
+same-length c = search needs
+
+same-length-2 : tie.Need-same-length-2
+same-length-2 c = search needs
+
+returns : tie.Need-returns
+returns c = let f = c .before .before .before .before .before .before .before .before .before .before .before .before .before .filter in
+    numbered-top _ _ _ _ (c .before .before .before .before .before .before .before .before .before .before .before .before .before .before .before .before .before .pre) _ _ (f .ensures .0) (f .ensures .1 .0) (f .ensures .1 .1) (f .kept .0) _ _ _ _ _ (c .before .before .before .before .before .before .before .before .before .merge-all .ensures .0) (c .before .before .before .before .number .ensures .0)
+
+pub merge-and-filter-regions-spec : {M : Type 1} → statement M
+merge-and-filter-regions-spec =
+    tie.close
+    (tie.spec
+    filter-requires
+    mul-h
+    mul-p
+    add-merge-all
+    merge-all-requires
+    number-requires
+    same-length
+    same-length-2
+    returns)

@@ -1,0 +1,169 @@
+// The merge: a record, a round, all rounds.
+use crate::pick::pick;
+use pool::merge_regions;
+use pool::place;
+use table::end_of;
+use table::list_of;
+use table::start_of;
+ghost use mathlib.Core.Path.{_≡_};
+ghost use Prim.Native.Nat.{suc, _+_, _*_, _≤_, _<_};
+ghost use lib.ListN.{getD};
+ghost use lib.Dec.{eqb};
+ghost use Rattle.rules.specs.Base.{any, upto};
+ghost use Rattle.rules.specs.Merge.{place};
+ghost use Rattle.table.specs.View.{listAt, recAt, recsOf, Held};
+ghost use Rattle.filter.specs.Group.{Calm};
+ghost use Rattle.pool.specs.Alike.{Reps, Joined};
+ghost use Rattle.pool.specs.Fixed.{mayMerge, tryMerge, mergeOneF, mergedF};
+ghost use Rattle.pool.specs.Pool.{lenAt, Pool};
+
+// The half of the pool that the lists are in, the other one, and how many merges there were in the round.
+pub struct Round {
+    pub now: usize,
+    pub other: usize,
+    pub merges: usize,
+}
+
+// Does the list hold 0?
+fn is_region_connected_to_border(l: &[u16]) -> bool
+    ensures { λ r. ⌜ r ≡ any (eqb 0) (now (l .entry)) ⌝ }
+{
+    if place(l, 0) < l.len() {
+        return true;
+    }
+    false
+}
+
+// May record i be merged at all?
+fn may_merge(ws: &[u16], m: usize, area: u16, i: usize) -> bool
+    requires { ⌜ Held m (7 * m) (11 * m) (now ws) ⌝ }
+    requires { ⌜ i < m ⌝ }
+    ensures { λ r. ⌜ r ≡ mayMerge area (recAt (now (ws .entry)) m (7 * m) (11 * m) i) ⌝ }
+{
+    if ws[i] == 0 {
+        return false;
+    }
+    if ws[3 * m + i] != 0 {
+        return false;
+    }
+    if ws[m + i] == 0 {
+        return false;
+    }
+    if ws[m + i] <= area {
+        return true;
+    }
+    if is_region_connected_to_border(list_of(ws, m, 7 * m, i)) {
+        return false;
+    }
+    true
+}
+
+// Where record i first lists r, or how long its list is.
+fn place_of(ws: &[u16], m: usize, i: usize, r: u16) -> usize
+    requires { ⌜ Held m (7 * m) (11 * m) (now ws) ⌝ }
+    requires { ⌜ i < m ⌝ }
+    ensures { λ k. ⌜ k ≡ place (listAt (now (ws .entry)) m (7 * m) i) r ⌝ }
+{
+    place(list_of(ws, m, 7 * m, i), r)
+}
+
+fn len_of(ws: &[u16], m: usize, i: usize) -> usize
+    requires { ⌜ Held m (7 * m) (11 * m) (now ws) ⌝ }
+    requires { ⌜ i < m ⌝ }
+    ensures { λ k. ⌜ k ≡ lenAt (now (ws .entry)) m i ⌝ }
+{
+    end_of(ws, m, 7 * m, i) - start_of(ws, m, 7 * m, i)
+}
+
+// The neighbour n absorbs record i, if each lists the other.
+fn try_merge(ws: &mut [u16], m: usize, p: usize, i: usize, n: usize, g: Round) -> Round
+    requires { ⌜ Pool m p (g .now) (g .other) (now ws) ⌝ }
+    requires { ⌜ i < m ⌝ }
+    requires { ⌜ n < m ⌝ }
+    requires { ⌜ (i ≡ n → ⊥) ⌝ }
+    requires { ⌜ (getD (now ws) i 0 ≡ 0 → ⊥) ⌝ }
+    requires { ⌜ (getD (now ws) n 0 ≡ 0 → ⊥) ⌝ }
+    requires { ⌜ g .merges < 65536 ⌝ }
+    ensures { λ r. ⌜ record { recs = recsOf (now (ws .exit)) m; merges = r .merges } ≡ tryMerge i n (record { recs = recsOf (now (ws .entry)) m; merges = g .merges }) ⌝ }
+    ensures { λ r. ⌜ Pool m p (r .now) (r .other) (now (ws .exit)) ⌝ }
+    ensures { λ r. ⌜ r .merges ≤ g .merges + 1 ⌝ }
+{
+    let a = ws[i];
+    let b = ws[n];
+    let k = place_of(ws, m, n, a);
+    if k == len_of(ws, m, n) {
+        return g;
+    }
+    let j = place_of(ws, m, i, b);
+    if j == len_of(ws, m, i) {
+        return g;
+    }
+    let h = g.now;
+    let o = g.other;
+    merge_regions(ws, m, n, k, i, j, h, o, p);
+    Round {
+        now: o,
+        other: h,
+        merges: g.merges + 1,
+    }
+}
+
+// Record i of a round.
+fn merge_one(ws: &mut [u16], m: usize, p: usize, area: u16, i: usize, g: Round) -> Round
+    requires { ⌜ Pool m p (g .now) (g .other) (now ws) ⌝ }
+    requires { ⌜ Reps (recsOf (now ws) m) ⌝ }
+    requires { ⌜ i < m ⌝ }
+    requires { ⌜ g .merges < 65536 ⌝ }
+    ensures { λ r. ⌜ record { recs = recsOf (now (ws .exit)) m; merges = r .merges } ≡ mergeOneF area i (record { recs = recsOf (now (ws .entry)) m; merges = g .merges }) ⌝ }
+    ensures { λ r. ⌜ Pool m p (r .now) (r .other) (now (ws .exit)) ⌝ }
+    ensures { λ r. ⌜ r .merges ≤ g .merges + 1 ⌝ }
+{
+    if may_merge(ws, m, area, i) {} else {
+        return g;
+    }
+    let best = pick(ws, m, 7 * m, 11 * m, i);
+    let id = best.id;
+    if id == ws[i] {
+        return g;
+    }
+    try_merge(ws, m, p, i, id as usize, g)
+}
+
+// A round: all records, in order.
+fn merge_round(ws: &mut [u16], m: usize, p: usize, area: u16, h: usize, o: usize) -> Round
+    requires { ⌜ Pool m p h o (now ws) ⌝ }
+    requires { ⌜ Joined (recsOf (now ws) m) ⌝ }
+    ensures { λ r. ⌜ record { recs = recsOf (now (ws .exit)) m; merges = r .merges } ≡ upto m (mergeOneF area) (record { recs = recsOf (now (ws .entry)) m; merges = 0 }) ⌝ }
+    ensures { λ r. ⌜ Pool m p (r .now) (r .other) (now (ws .exit)) ⌝ }
+{
+    let mut g = Round {
+        now: h,
+        other: o,
+        merges: 0,
+    };
+    let mut i = 0;
+    while i < m {
+        g = merge_one(ws, m, p, area, i, g);
+        i += 1;
+    }
+    g
+}
+
+// Rounds until one merges nothing.
+pub(crate) fn merge_all(ws: &mut [u16], m: usize, p: usize, area: u16, h: usize, o: usize)
+    requires { ⌜ Pool m p h o (now ws) ⌝ }
+    requires { ⌜ Joined (recsOf (now ws) m) ⌝ }
+    ensures { λ _. ⌜ recsOf (now (ws .exit)) m ≡ mergedF area (suc m) (recsOf (now (ws .entry)) m) ⌝ }
+    ensures { λ _. ⌜ Calm m (now (ws .exit)) ⌝ }
+{
+    let mut now = h;
+    let mut other = o;
+    loop {
+        let g = merge_round(ws, m, p, area, now, other);
+        if g.merges == 0 {
+            return;
+        }
+        now = g.now;
+        other = g.other;
+    }
+}

@@ -1,0 +1,63 @@
+-- `numbering::number` meets its contract. Three calls: the numbers, the spans, the overlap count: `number-done` puts them together.
+use Rattle.numbering.proofs.NumberLaws.{column-kept}
+use Rattle.numbering.proofs.NumberedLaws.{marked-after, number-done}
+use borrow.Author.Needs.{needs}
+use Rattle.numbering.proofs.number.Statement.{statement}
+use Rattle.numbering.proofs.number.Tie as tie
+
+mul-a : tie.Need-mul-a
+mul-a c = search needs
+
+mul-b : tie.Need-mul-b
+mul-b c = search needs
+
+number-all-requires : tie.Need-number-all-requires
+number-all-requires c κs = search needs
+
+new-ids-requires : tie.Need-new-ids-requires
+new-ids-requires c κs = (search column-kept, (search marked-after, search needs))
+
+add-nonzero : tie.Need-add-nonzero
+add-nonzero c = search needs
+
+mul-nonzero : tie.Need-mul-nonzero
+mul-nonzero c = search needs
+
+sub-nonzero : tie.Need-sub-nonzero
+sub-nonzero c = search needs
+
+part-nonzero-start : tie.Need-part-nonzero-start
+part-nonzero-start c = search needs
+
+part-nonzero-end : tie.Need-part-nonzero-end
+part-nonzero-end c = search needs
+
+nonzero-requires : tie.Need-nonzero-requires
+nonzero-requires c κs = search needs
+
+same-length : tie.Need-same-length
+same-length c = search needs
+
+same-length-2 : tie.Need-same-length-2
+same-length-2 c = search needs
+
+returns : tie.Need-returns
+returns c = (search number-done, search needs)
+
+pub number-spec : {M : Type 1} → statement M
+number-spec =
+    tie.close
+    (tie.spec
+    mul-a
+    mul-b
+    number-all-requires
+    new-ids-requires
+    add-nonzero
+    mul-nonzero
+    sub-nonzero
+    part-nonzero-start
+    part-nonzero-end
+    nonzero-requires
+    same-length
+    same-length-2
+    returns)

@@ -1,0 +1,126 @@
+// Numbering: live ids are numbered from 1 by lowest record.
+use table::at;
+ghost use mathlib.Core.Path.{_≡_};
+ghost use mathlib.Core.List.{List, [], map};
+ghost use Prim.Native.Nat.{ℕ, _+_, _*_, _≤_, _<_};
+ghost use lib.Dec.{eqb};
+ghost use Rattle.rules.specs.Base.{if_then_else_};
+ghost use lib.ListN.{length, getD, take};
+ghost use Rattle.space.specs.Space.{Frame};
+ghost use Rattle.rules.specs.Numbering.{numbered};
+ghost use Rattle.table.specs.View.{recsOf};
+ghost use Rattle.numbering.specs.Number.{stepLive, liveIds, renumber, nonzero, Numbers, Column, Blank, Marked, Spans};
+
+// Record i's id gets the next number, unless it is 0 or has one. Gives the last number given.
+fn number_one(ws: &mut [u16], m: usize, b: usize, i: usize, k: u16) -> u16
+    requires { ⌜ Column m b (now ws) ⌝ }
+    requires { ⌜ i < m ⌝ }
+    requires { ⌜ k ≤ i ⌝ }
+    ensures { λ r. ⌜ ((l : List ℕ) → Numbers m b (now (ws .entry)) l k → Numbers m b (now (ws .exit)) (stepLive l (getD (now (ws .entry)) i 0)) r) ⌝ }
+    ensures { λ _. ⌜ Frame b (b + m) (now (ws .entry)) (now (ws .exit)) ⌝ }
+    ensures { λ r. ⌜ r ≤ k + 1 ⌝ }
+{
+    let r = at(ws, i);
+    if r == 0 {
+        return k;
+    }
+    if ws[b + r] != 0 {
+        return k;
+    }
+    ws[b + r] = k + 1;
+    k + 1
+}
+
+// All records, in order.
+fn number_all(ws: &mut [u16], m: usize, b: usize) -> u16
+    requires { ⌜ Column m b (now ws) ⌝ }
+    requires { ⌜ Blank m b (now ws) ⌝ }
+    ensures { λ r. ⌜ Numbers m b (now (ws .exit)) (liveIds (take m (now (ws .entry))) []) r ⌝ }
+    ensures { λ _. ⌜ Frame b (b + m) (now (ws .entry)) (now (ws .exit)) ⌝ }
+{
+    let mut k = 0;
+    let mut i = 0;
+    while i < m {
+        k = number_one(ws, m, b, i, k);
+        i += 1;
+    }
+    k
+}
+
+// The id of a span that has the id r.
+fn new_id(ws: &[u16], m: usize, b: usize, r: u16) -> u16
+    requires { ⌜ Column m b (now ws) ⌝ }
+    requires { ⌜ Marked m b (now ws) (liveIds (take m (now ws)) []) ⌝ }
+    requires { ⌜ (r < 32768 → r < m) ⌝ }
+    ensures { λ x. ⌜ x ≡ renumber (take m (now (ws .entry))) r ⌝ }
+{
+    if 32768 <= r {
+        return r;
+    }
+    let i = at(ws, r as usize);
+    ws[b + i]
+}
+
+// All spans.
+fn new_ids(ids: &mut [u16], ws: &[u16], m: usize, b: usize)
+    requires { ⌜ Column m b (now ws) ⌝ }
+    requires { ⌜ Marked m b (now ws) (liveIds (take m (now ws)) []) ⌝ }
+    requires { ⌜ Spans m (now ids) ⌝ }
+    ensures { λ _. ⌜ now (ids .exit) ≡ map (renumber (take m (now (ws .entry)))) (now (ids .entry)) ⌝ }
+{
+    let mut s = 0;
+    while s < ids.len() {
+        ids[s] = new_id(ws, m, b, ids[s]);
+        s += 1;
+    }
+}
+
+fn one_more(k: u16, x: u16) -> u16
+    requires { ⌜ k < 65535 ⌝ }
+    ensures { λ r. ⌜ r ≡ (if eqb x 0 then k else k + 1) ⌝ }
+    ensures { λ r. ⌜ r ≤ k + 1 ⌝ }
+{
+    if x == 0 {
+        return k;
+    }
+    k + 1
+}
+
+// How many are not 0.
+fn nonzero(l: &[u16]) -> u16
+    requires { ⌜ length (now l) < 65536 ⌝ }
+    ensures { λ r. ⌜ r ≡ nonzero (now (l .entry)) ⌝ }
+{
+    let mut k = 0;
+    let mut i = 0;
+    while i < l.len() {
+        k = one_more(k, l[i]);
+        i += 1;
+    }
+    k
+}
+
+// The last number given, and how many records have overlap set.
+pub struct Regions {
+    pub max_region: u16,
+    pub overlaps: u16,
+}
+
+// Numbers the records, and writes each span's number.
+pub fn number(ids: &mut [u16], ws: &mut [u16], m: usize) -> Regions
+    requires { ⌜ Column m (5 * m) (now ws) ⌝ }
+    requires { ⌜ Blank m (5 * m) (now ws) ⌝ }
+    requires { ⌜ Spans m (now ids) ⌝ }
+    ensures { λ r. ⌜ record { ids = now (ids .exit); most = r .«max_region»; over = r .overlaps } ≡ numbered (recsOf (now (ws .entry)) m) (now (ids .entry)) ⌝ }
+    ensures { λ _. ⌜ Frame (5 * m) (5 * m + m) (now (ws .entry)) (now (ws .exit)) ⌝ }
+{
+    let a = 3 * m;
+    let b = 5 * m;
+    let max_region = number_all(ws, m, b);
+    new_ids(ids, ws, m, b);
+    let overlaps = nonzero(&ws[a..a + m]);
+    Regions {
+        max_region,
+        overlaps,
+    }
+}

@@ -1,0 +1,9 @@
+pub mod HasLaws
+pub mod ListLaws
+pub mod PartLaws
+pub mod CarryLaws
+pub mod SumLaws
+pub mod AbsorbLaws
+pub mod RegionLaws
+pub mod FloorLaws
+pub mod MergeLaws

@@ -1,0 +1,349 @@
+-- One merge is the rule's: the lists as `relist` leaves them, the counts added, the ids renamed; nothing else of the records changes.
+-- What is listed stays below m: an entry of a new list is one of the old ones, or the absorber.
+use Prim.Native.Nat.{ℕ, zero, suc, _+_, _-_, _*_, _≤_, _<_}
+use native.Mathlib.Omega.{arith}
+use native.Mathlib.Decide.{ℕ-discrete}
+use mathlib.Core.Path.{_≡_, refl, sym, ap, _∙_}
+use mathlib.Core.Logic.{⊎-elim, _⊎_, inl, inr}
+use mathlib.Core.Bool.{true, false, not, false≢true}
+use mathlib.Core.List.{List, [], _∷_, _++_, map}
+use lib.ListN.{length, getD, set, length-set, length-map, List·getD-map}
+use lib.Seq.{getD-set-same, getD-set-other}
+use lib.Dec.{eqb}
+use borrow.Author.Tests.{ne-eqb}
+use borrow.Rule.Slice.PartMut.{putMid, midOf, same-len-mid}
+use Rattle.rules.specs.Base.{if_then_else_, any}
+use Rattle.rules.specs.Records.{Rec, at, has}
+use Rattle.rules.specs.Merge.{place, around, tidy, emptied}
+use Rattle.laws.proofs.Basics.{if-ind}
+use Rattle.space.specs.Space.{Frame, sec}
+use Rattle.space.proofs.Laws.{getD-before, getD-after, frame-then, frame-set, frame-wider, frame-put, sec-put, getD-sec, length-sec}
+use Rattle.table.specs.View.{startOf, endOf, listAt, recAt, view, recsOf, Parts, Under, Held}
+use Rattle.table.proofs.ViewLaws.{view-length, view-at, view-by, rec-eq, list-same, wide-same, list-past, parts-past}
+use Rattle.pool.specs.Lists.{swapOne}
+use Rattle.pool.specs.Part.{renamedList}
+use Rattle.pool.specs.Fixed.{renamedF, absorbedF, mergedPair}
+use Rattle.pool.specs.Pool.{lenAt, countAt, newList, joinedList, Pool, Listed, Outside, Relisted}
+use Rattle.pool.proofs.FloorLaws.{swap-has, swap-old, swap-other, has-first, has-later}
+use Rattle.pool.proofs.MergeLaws.{has-some, tidy-has, append-has, around-has, renF-id, renF-count, renF-area, renF-visited, renF-overlap, renF-floors, renF-newList, renF-fresh, at-map, at-i, at-n, at-else}
+use Rattle.pool.proofs.SumLaws.{sum-split, sum-two, sum-same}
+
+-- ---- what is listed
+
+has-at : (l : List ℕ) (x : ℕ) → x < length l → has l (getD l x 0) ≡ true
+has-at [] x h = absurd (omega arith)
+has-at (y ∷ l) zero h = has-first y l y refl
+has-at (y ∷ l) (suc x) h = has-later y l (getD l x 0) (has-at l x (omega arith))
+
+under-has : (m : ℕ) (l : List ℕ) → Under m l → (v : ℕ) → has l v ≡ true → v < 32768 → v < m
+unfolding any
+under-has m [] u v h g = absurd (false≢true h)
+under-has m (y ∷ l) u v h g =
+    ⊎-elim (λ (e : v ≡ y). rw e (u .under 0 (omega arith) (rw e at g)))
+    (λ (e : has l v ≡ true). under-has m l (record { under = λ x k. u .under (suc x) (omega arith) }) v e g) (has-some y l v h)
+
+has-under : (m : ℕ) (l : List ℕ) → ((v : ℕ) → has l v ≡ true → v < 32768 → v < m) → Under m l
+has-under m l h = record { under = λ x k g. h (getD l x 0) (has-at l x k) g }
+
+swap-under : (m old new : ℕ) (l : List ℕ) → Under m l → new < m → Under m (map (swapOne old new) l)
+unfolding swapOne
+swap-under m old new l u n = has-under m _ (λ v h g.
+    let w = swap-has old new l v h in
+    elim (ℕ-discrete (w .0) old) [
+      | yes e ↦ let q : new ≡ v = sym (swap-old old new) ∙ ap (swapOne old new) (sym e) ∙ w .2 in rw (← q) n
+      | no e ↦ let q : w .0 ≡ v = sym (swap-other old new (w .0) e) ∙ w .2 in under-has m l u v (ap (has l) (sym q) ∙ w .1) g
+    ])
+
+renamed-under : (m old new : ℕ) (l : List ℕ) → Under m l → new < m → Under m (renamedList old new l)
+unfolding renamedList
+renamed-under m old new l u n =
+    if-ind (Under m) (has l old) (λ _. has-under m _ (λ v h g. under-has m _ (swap-under m old new l u n) v (tidy-has (map (swapOne old new) l) v h) g)) (λ _. u)
+
+new-under : (m old new id : ℕ) (l : List ℕ) → Under m l → new < m → Under m (newList old new id l)
+unfolding newList
+new-under m old new id l u n = if-ind (Under m) (eqb id 0) (λ _. u) (λ _. renamed-under m old new l u n)
+
+joined-under : (m k j old new : ℕ) (l l′ : List ℕ) → Under m l → Under m l′ → new < m → Under m (joinedList l l′ k j old new)
+unfolding joinedList
+joined-under m k j old new l l′ u u′ n =
+    renamed-under m old new _ (has-under m _ (λ v h g.
+    ⊎-elim (λ (e : has (around l k) v ≡ true). under-has m l u v (around-has l k v e) g) (λ (e : has (around l′ j) v ≡ true). under-has m l′ u′ v (around-has l′ j v e) g)
+    (append-has (around l k) (around l′ j) v (tidy-has _ v h)))) n
+
+none-under : (m : ℕ) → Under m []
+none-under m = record { under = λ x h. absurd (omega arith) }
+
+-- ---- a record renamed, as it lies there
+
+rec-ext : (a b : Rec) → a .id ≡ b .id → a .count ≡ b .count → a .area ≡ b .area → a .visited ≡ b .visited → a .overlap ≡ b .overlap → a .list ≡ b .list → a .floors ≡ b .floors → a ≡ b
+rec-ext a b p₁ p₂ p₃ p₄ p₅ p₆ p₇ = rec-eq (a .id) (b .id) (a .count) (b .count) (a .area) (b .area) (a .visited) (b .visited) (a .overlap) (b .overlap) (a .list) (b .list) (a .floors) (b .floors) p₁ p₂ p₃ p₄ p₅ p₆ p₇
+
+renamed-rec : (o n : ℕ) → (o ≡ 0 → ⊥) → (a r : Rec) → a .id ≡ swapOne o n (r .id) → a .count ≡ r .count → a .area ≡ r .area → a .visited ≡ r .visited → a .overlap ≡ r .overlap
+    → a .list ≡ newList o n (r .id) (r .list) → a .floors ≡ r .floors → a ≡ renamedF o n r
+renamed-rec o n z a r p₁ p₂ p₃ p₄ p₅ p₆ p₇ =
+    rec-ext a (renamedF o n r) (p₁ ∙ sym (renF-id o n z r)) (p₂ ∙ sym (renF-count o n z r)) (p₃ ∙ sym (renF-area o n z r)) (p₄ ∙ sym (renF-visited o n z r)) (p₅ ∙ sym (renF-overlap o n z r))
+    (p₆ ∙ sym (renF-newList o n r)) (p₇ ∙ sym (renF-floors o n z r))
+
+-- ---- the workspace after the counts and the ids are written too
+
+pub record After (m n i old : ℕ) (ws ws′ : List ℕ) : Type 0 where
+  pub frame : Frame 0 (2 * m) ws ws′
+  pub ids : (x : ℕ) → x < m → getD ws′ x 0 ≡ swapOne old n (getD ws x 0)
+  pub sum : getD ws′ (m + n) 0 ≡ getD ws (m + n) 0 + getD ws (m + i) 0
+  pub none : getD ws′ (m + i) 0 ≡ 0
+  pub counts : (x : ℕ) → x < m → (x ≡ i → ⊥) → (x ≡ n → ⊥) → getD ws′ (m + x) 0 ≡ getD ws (m + x) 0
+
+module _ (m p h o n k i j : ℕ) (ws ws₁ ws₃ : List ℕ) (P : Pool m p h o ws) (L : Listed m n k i j ws) (R : Relisted m p n k i j (getD ws i 0) n o ws ws₁)
+    (A : After m n i (getD ws i 0) ws₁ ws₃) (l₁ : length ws₁ ≡ length ws) (l₃ : length ws₃ ≡ length ws₁) where
+  abbrev old : ℕ
+  old = getD ws i 0
+
+  hn : n < m
+  hn = L .pair .first
+
+  hi : i < m
+  hi = L .pair .second
+
+  ne : i ≡ n → ⊥
+  ne = L .pair .apart
+
+  kept : (y : ℕ) → 2 * m ≤ y → Outside m o (o + p) y → getD ws₃ y 0 ≡ getD ws y 0
+  kept y g w = getD-after y (A .frame) g ∙ R .kept y w
+
+  low : (y : ℕ) → y < 7 * m → getD ws₁ y 0 ≡ getD ws y 0
+  low y g = R .kept y (inl g, inl (omega (arith, P .halves .past′)))
+
+  mid : (y : ℕ) → 2 * m ≤ y → y < 7 * m → getD ws₃ y 0 ≡ getD ws y 0
+  mid y a b = getD-after y (A .frame) a ∙ low y b
+
+  ids : (x : ℕ) → x < m → getD ws₃ x 0 ≡ swapOne old n (getD ws x 0)
+  ids x g = A .ids x g ∙ ap (swapOne old n) (low x (omega arith))
+
+  lists-at : (x : ℕ) → x < m → listAt ws₃ m (7 * m) x ≡ listAt ws₁ m (7 * m) x
+  lists-at x g = list-past m (7 * m) (R .parts) (A .frame) (omega arith) l₃ x g
+
+  high : (y : ℕ) → 11 * m ≤ y → y < 15 * m → getD ws₃ y 0 ≡ getD ws y 0
+  high y a b = kept y (omega arith) (inr a, inl (omega (arith, P .halves .past′)))
+
+  start-f : (x : ℕ) → x < m → startOf ws₃ m (11 * m) x ≡ startOf ws m (11 * m) x
+  start-f x g = wide-same ws ws₃ m (11 * m + x) (high (11 * m + x) (omega arith) (omega arith)) (high (11 * m + x + m) (omega arith) (omega arith))
+
+  stop-f : (x : ℕ) → x < m → endOf ws₃ m (11 * m) x ≡ endOf ws m (11 * m) x
+  stop-f x g = wide-same ws ws₃ m (11 * m + 2 * m + x) (high (11 * m + 2 * m + x) (omega arith) (omega arith)) (high (11 * m + 2 * m + x + m) (omega arith) (omega arith))
+
+  floors-at : (x : ℕ) → x < m → listAt ws₃ m (11 * m) x ≡ listAt ws m (11 * m) x
+  floors-at x g =
+      list-same ws ws₃ m (11 * m) x (start-f x g) (stop-f x g) (P .held .floors .order x g) (P .held .floors .within x g) (l₃ ∙ l₁) (λ y a b.
+      kept y (omega (arith, P .floors x g .1, P .halves .past′)) (inr (omega (arith, P .floors x g .1, P .halves .past′)), inr (omega (arith, P .floors x g .1))))
+
+  -- ---- the records
+
+  abbrev rs : List Rec
+  rs = view ws m (7 * m) (11 * m)
+
+  n-in : n < length rs
+  n-in = rw (view-length ws m (7 * m) (11 * m)) hn
+
+  i-in : i < length rs
+  i-in = rw (view-length ws m (7 * m) (11 * m)) hi
+
+  at-rs : (x : ℕ) → x < m → at rs x ≡ recAt ws m (7 * m) (11 * m) x
+  at-rs x g = view-at ws m (7 * m) (11 * m) x g
+
+  rec-else : (x : ℕ) → x < m → (x ≡ i → ⊥) → (x ≡ n → ⊥) → recAt ws₃ m (7 * m) (11 * m) x ≡ renamedF old n (recAt ws m (7 * m) (11 * m) x)
+  unfolding recAt
+  rec-else x g a b =
+      renamed-rec old n (L .live) _ _ (ids x g) (A .counts x g a b ∙ low (m + x) (omega arith)) (mid (2 * m + x) (omega arith) (omega arith))
+      (ap (λ (y : ℕ). not (eqb y 0)) (mid (4 * m + x) (omega arith) (omega arith))) (ap (λ (y : ℕ). not (eqb y 0)) (mid (3 * m + x) (omega arith) (omega arith)))
+      (lists-at x g ∙ R .others x g a b) (floors-at x g)
+
+  none-new : (id : ℕ) → [] ≡ newList old n id []
+  unfolding newList renamedList any if_then_else_
+  none-new id = if-ind (λ (l : List ℕ). [] ≡ l) (eqb id 0) (λ _. refl) (λ _. refl)
+
+  rec-i : recAt ws₃ m (7 * m) (11 * m) i ≡ renamedF old n (emptied (recAt ws m (7 * m) (11 * m) i))
+  unfolding recAt emptied
+  rec-i =
+      renamed-rec old n (L .live) _ _ (ids i hi) (A .none) (mid (2 * m + i) (omega arith) (omega arith))
+      (ap (λ (y : ℕ). not (eqb y 0)) (mid (4 * m + i) (omega arith) (omega arith))) (ap (λ (y : ℕ). not (eqb y 0)) (mid (3 * m + i) (omega arith) (omega arith)))
+      (lists-at i hi ∙ R .bare ∙ none-new old) (floors-at i hi)
+
+  joined-is : joinedList (listAt ws m (7 * m) n) (listAt ws m (7 * m) i) k j old n
+      ≡ newList old n (getD ws n 0) (tidy (around (listAt ws m (7 * m) n) (place (listAt ws m (7 * m) n) old) ++ around (listAt ws m (7 * m) i) (place (listAt ws m (7 * m) i) (getD ws n 0))))
+  unfolding joinedList newList if_then_else_
+  joined-is = rw (ne-eqb (getD ws n 0) 0 (L .live′), L .first, L .first′) refl
+
+  rec-n : recAt ws₃ m (7 * m) (11 * m) n ≡ renamedF old n (absorbedF (recAt ws m (7 * m) (11 * m) n) (recAt ws m (7 * m) (11 * m) i))
+  unfolding recAt absorbedF
+  rec-n =
+      renamed-rec old n (L .live) _ _ (ids n hn) (A .sum ∙ ap (λ (y : ℕ). y + getD ws₁ (m + i) 0) (low (m + n) (omega arith)) ∙ ap (λ (y : ℕ). getD ws (m + n) 0 + y) (low (m + i) (omega arith)))
+      (mid (2 * m + n) (omega arith) (omega arith))
+      (ap (λ (y : ℕ). not (eqb y 0)) (mid (4 * m + n) (omega arith) (omega arith))) (ap (λ (y : ℕ). not (eqb y 0)) (mid (3 * m + n) (omega arith) (omega arith)))
+      (lists-at n hn ∙ R .joined ∙ joined-is) (floors-at n hn)
+
+  pair-length : length (mergedPair rs i old n) ≡ m
+  unfolding mergedPair
+  pair-length =
+      length-map (set (set rs n (absorbedF (at rs n) (at rs i))) i (emptied (at rs i))) (renamedF old n) ∙ length-set (set rs n (absorbedF (at rs n) (at rs i))) i (emptied (at rs i))
+      ∙ length-set rs n (absorbedF (at rs n) (at rs i)) ∙ view-length ws m (7 * m) (11 * m)
+
+  pair-at : (x : ℕ) → x < m → recAt ws₃ m (7 * m) (11 * m) x ≡ at (mergedPair rs i old n) x
+  unfolding mergedPair
+  pair-at x g =
+      sym (at-map (renamedF old n) (renF-fresh old n) (set (set rs n (absorbedF (at rs n) (at rs i))) i (emptied (at rs i))) x ∙ ap (renamedF old n) refl
+      ∙ sym (elim (ℕ-discrete x i) [
+        | yes e ↦ rw e (rec-i ∙ ap (renamedF old n) (ap emptied (sym (at-rs i hi)) ∙ sym (at-i rs i n (absorbedF (at rs n) (at rs i)) (emptied (at rs i)) i-in n-in ne)))
+        | no e ↦ elim (ℕ-discrete x n) [
+          | yes d ↦ rw d (rec-n ∙ ap (renamedF old n) (ap (λ (y : Rec). absorbedF y (recAt ws m (7 * m) (11 * m) i)) (sym (at-rs n hn)) ∙ ap (absorbedF (at rs n)) (sym (at-rs i hi))
+              ∙ sym (at-n rs i n (absorbedF (at rs n) (at rs i)) (emptied (at rs i)) i-in n-in ne)))
+          | no d ↦ rec-else x g e d ∙ ap (renamedF old n) (sym (at-rs x g) ∙ sym (at-else rs i n (absorbedF (at rs n) (at rs i)) (emptied (at rs i)) i-in n-in ne x e d))
+        ]
+      ]))
+
+  pub merged-recs : recsOf ws₃ m ≡ mergedPair (recsOf ws m) i old n
+  unfolding recsOf
+  merged-recs = view-by ws₃ m (7 * m) (11 * m) (mergedPair rs i old n) pair-length pair-at
+
+  -- ---- and the pool is in order, the halves swapped
+
+  parts₃ : Parts m (7 * m) ws₃
+  parts₃ = parts-past m (7 * m) (R .parts) (A .frame) (omega arith) l₃
+
+  start-3 : (x : ℕ) → x < m → startOf ws₃ m (7 * m) x ≡ startOf ws₁ m (7 * m) x
+  start-3 x g = wide-same ws₁ ws₃ m (7 * m + x) (getD-after (7 * m + x) (A .frame) (omega arith)) (getD-after (7 * m + x + m) (A .frame) (omega arith))
+
+  stop-3 : (x : ℕ) → x < m → endOf ws₃ m (7 * m) x ≡ endOf ws₁ m (7 * m) x
+  stop-3 x g = wide-same ws₁ ws₃ m (7 * m + 2 * m + x) (getD-after (7 * m + 2 * m + x) (A .frame) (omega arith)) (getD-after (7 * m + 2 * m + x + m) (A .frame) (omega arith))
+
+  len-3 : (x : ℕ) → x < m → lenAt ws₃ m x ≡ lenAt ws₁ m x
+  unfolding lenAt
+  len-3 x g = rw (start-3 x g, stop-3 x g)
+
+  listed₃ : (x : ℕ) → x < m → Under m (listAt ws₃ m (7 * m) x)
+  listed₃ x g = rw (lists-at x g) (elim (ℕ-discrete x i) [
+    | yes e ↦ rw (e, R .bare) (none-under m)
+    | no e ↦ elim (ℕ-discrete x n) [
+      | yes d ↦ rw (d, R .joined) (joined-under m k j old n _ _ (P .held .listed n hn) (P .held .listed i hi) hn)
+      | no d ↦ rw (R .others x g e d) (new-under m old n (getD ws x 0) _ (P .held .listed x g) hn)
+    ]
+  ])
+
+  held₃ : Held m (7 * m) (11 * m) ws₃
+  held₃ = record {
+    few = P .held .few;
+    lists = parts₃;
+    floors = record {
+      room = rw (l₃, l₁) (P .held .floors .room);
+      past = P .held .floors .past;
+      order = λ x g. rw (start-f x g, stop-f x g) (P .held .floors .order x g);
+      within = λ x g. rw (stop-f x g, l₃, l₁) (P .held .floors .within x g);
+      far = λ x g. rw (start-f x g) (P .held .floors .far x g);
+    };
+    ids = λ x g. rw (ids x g) (elim (ℕ-discrete (getD ws x 0) old) [
+      | yes e ↦ rw (e, swap-old old n) hn
+      | no e ↦ rw (swap-other old n (getD ws x 0) e) (P .held .ids x g)
+    ]);
+    listed = listed₃;
+    floored = λ x g. rw (floors-at x g) (P .held .floored x g);
+  }
+
+  pub merged-pool : Pool m p o h ws₃
+  unfolding countAt
+  merged-pool = record {
+    held = held₃;
+    halves = record {
+      past = P .halves .past′;
+      past′ = P .halves .past;
+      apart = ⊎-elim (λ (w : h + p ≤ o). inr w) (λ (w : o + p ≤ h). inl w) (P .halves .apart);
+      into = rw (l₃, l₁) (P .halves .into′);
+      into′ = rw (l₃, l₁) (P .halves .into);
+      fits = P .halves .fits′;
+      fits′ = P .halves .fits;
+    };
+    from = λ x g. rw (start-3 x g) (R .from x g);
+    upto = λ x g. rw (stop-3 x g) (R .upto x g);
+    floors = λ x g. rw (start-f x g) (P .floors x g .1, P .floors x g .0);
+    room = rw (sum-same (lenAt ws₃ m) (lenAt ws₁ m) m len-3) (R .room);
+    spans = omega (
+      arith,
+      P .spans,
+      sum-two (countAt ws m) i n m hi hn ne (countAt ws₃ m)
+          (λ x g a b. rw (A .counts x g a b, low (m + x) (omega arith)) (omega arith))
+          (omega (arith, A .sum, A .none, low (m + n) (omega arith), low (m + i) (omega arith))),
+    );
+    blank = λ x g. mid (5 * m + x) (omega arith) (omega arith) ∙ P .blank x g;
+  }
+
+-- ---- the counts and the ids, as the code writes them
+
+module _ (m n i old : ℕ) (ws₁ ws₂ ys : List ℕ) (hn : n < m) (hi : i < m) (ne : i ≡ n → ⊥) (z : old ≡ 0 → ⊥) (room : 2 * m ≤ length ws₁)
+    (e : ws₂ ≡ set (set ws₁ (m + n) (getD ws₁ (m + n) 0 + getD ws₁ (m + i) 0)) (m + i) 0) (y : ys ≡ map (swapOne old n) (midOf 0 (m - 0) ws₂)) where
+  abbrev both : ℕ
+  both = getD ws₁ (m + n) 0 + getD ws₁ (m + i) 0
+
+  length₂ : length ws₂ ≡ length ws₁
+  length₂ = rw e (length-set (set ws₁ (m + n) both) (m + i) 0 ∙ length-set ws₁ (m + n) both)
+
+  frame₂ : Frame m (2 * m) ws₁ ws₂
+  frame₂ = rw e (frame-then (frame-set m (2 * m) (m + n) both ws₁ (omega arith) (omega arith)) (frame-set m (2 * m) (m + i) 0 (set ws₁ (m + n) both) (omega arith) (omega arith)))
+
+  y-length : length ys ≡ m - 0
+  y-length = ap length y ∙ length-map (midOf 0 (m - 0) ws₂) (swapOne old n) ∙ length-sec 0 (m - 0) ws₂ (omega (arith, length₂))
+
+  frame₃ : Frame 0 m ws₂ (putMid 0 (m - 0) ws₂ ys)
+  frame₃ = frame-put 0 m ws₂ ys (omega arith) (omega (arith, length₂)) y-length
+
+  swap-zero : swapOne old n 0 ≡ 0
+  swap-zero = swap-other old n 0 (λ q. z (sym q))
+
+  id-at : (x : ℕ) → x < m → getD (putMid 0 (m - 0) ws₂ ys) x 0 ≡ swapOne old n (getD ws₂ x 0)
+  id-at x g =
+      let q : sec (0 + 0) m (putMid 0 (m - 0) ws₂ ys) ≡ sec 0 m ys = sec-put 0 (m - 0) 0 m ws₂ ys (omega arith) (omega (arith, y-length)) in
+      let w : 0 + x ≡ x = omega arith in
+      let a : getD (putMid 0 (m - 0) ws₂ ys) x 0 ≡ getD ys x 0 =
+      rw w at (sym (getD-sec 0 m x (putMid 0 (m - 0) ws₂ ys) g) ∙ ap (λ (l : List ℕ). getD l x 0) q ∙ getD-sec 0 m x ys g) in
+      let b : getD (map (swapOne old n) (midOf 0 (m - 0) ws₂)) x 0 ≡ swapOne old n (getD (midOf 0 (m - 0) ws₂) x 0) =
+      ap (getD (map (swapOne old n) (midOf 0 (m - 0) ws₂)) x) (sym swap-zero) ∙ List·getD-map (swapOne old n) (midOf 0 (m - 0) ws₂) x 0 in
+      a ∙ ap (λ (l : List ℕ). getD l x 0) y ∙ b ∙ ap (swapOne old n) (getD-sec 0 (m - 0) x ws₂ (omega arith) ∙ ap (λ (k : ℕ). getD ws₂ k 0) w)
+
+  pub after-is : After m n i old ws₁ (putMid 0 (m - 0) ws₂ ys)
+  after-is = record {
+    frame = frame-then (frame-wider 0 (2 * m) frame₂ (omega arith) (omega arith)) (frame-wider 0 (2 * m) frame₃ (omega arith) (omega arith));
+    ids = λ x g. id-at x g ∙ ap (swapOne old n) (getD-before x frame₂ g);
+    sum = getD-after (m + n) frame₃ (omega arith) ∙ rw e (getD-set-other (set ws₁ (m + n) both) (m + i) (m + n) 0 0 (λ q. ne (omega arith)) ∙ getD-set-same ws₁ (m + n) both 0 (omega arith));
+    none = getD-after (m + i) frame₃ (omega arith) ∙ rw e (getD-set-same (set ws₁ (m + n) both) (m + i) 0 0 (rw (length-set ws₁ (m + n) both) (omega arith)));
+    counts = λ x g a b. getD-after (m + x) frame₃ (omega arith)
+        ∙ rw e (getD-set-other (set ws₁ (m + n) both) (m + i) (m + x) 0 0 (λ q. a (omega arith)) ∙ getD-set-other ws₁ (m + n) (m + x) both 0 (λ q. b (omega arith)));
+  }
+
+-- two counts are no more than all
+module _ (m p h o n k i j : ℕ) (ws ws₁ : List ℕ) (P : Pool m p h o ws) (L : Listed m n k i j ws) where
+  pub spans-fit : (old new : ℕ) → Relisted m p n k i j old new o ws ws₁ → getD ws₁ (m + n) 0 + getD ws₁ (m + i) 0 < 65536
+  unfolding countAt
+  spans-fit old new R =
+      let a : getD ws₁ (m + n) 0 ≡ getD ws (m + n) 0 = R .kept (m + n) (inl (omega (arith, L .pair .first)), inl (omega (arith, L .pair .first, P .halves .past′))) in
+      let b : getD ws₁ (m + i) 0 ≡ getD ws (m + i) 0 = R .kept (m + i) (inl (omega (arith, L .pair .second)), inl (omega (arith, L .pair .second, P .halves .past′))) in
+      omega (arith, P .spans, sum-split (countAt ws m) i n m (L .pair .second) (L .pair .first) (L .pair .apart))
+
+  pub columns-in : length ws₁ ≡ length ws → 2 * m ≤ length ws₁
+  columns-in l = omega (arith, P .held .lists .room)
+
+-- as the code has it
+module _ (m p h o n k i j : ℕ) (ws ws₁ ws₂ ys : List ℕ) (P : Pool m p h o ws) (L : Listed m n k i j ws) (R : Relisted m p n k i j (getD ws i 0) n o ws ws₁) (l₁ : length ws₁ ≡ length ws)
+    (e : ws₂ ≡ set (set ws₁ (m + n) (getD ws₁ (m + n) 0 + getD ws₁ (m + i) 0)) (m + i) 0) (l₂ : length ws₂ ≡ length ws₁) (y : ys ≡ map (swapOne (getD ws i 0) n) (midOf 0 (m - 0) ws₂))
+    (ly : length ys ≡ length (midOf 0 (m - 0) ws₂)) where
+  after : After m n i (getD ws i 0) ws₁ (putMid 0 (m - 0) ws₂ ys)
+  after =
+      after-is m n i (getD ws i 0) ws₁ ws₂ ys (L .pair .first) (L .pair .second) (L .pair .apart) (L .live) (columns-in m p h o n k i j ws ws₁ P L l₁) e y
+
+  l₃ : length (putMid 0 (m - 0) ws₂ ys) ≡ length ws₁
+  l₃ = same-len-mid 0 (m - 0) ws₂ ys ly ∙ l₂
+
+  pub region-recs : recsOf (putMid 0 (m - 0) ws₂ ys) m ≡ mergedPair (recsOf ws m) i (getD ws i 0) n
+  region-recs = merged-recs m p h o n k i j ws ws₁ (putMid 0 (m - 0) ws₂ ys) P L R after l₁ l₃
+
+  pub region-pool : Pool m p o h (putMid 0 (m - 0) ws₂ ys)
+  region-pool = merged-pool m p h o n k i j ws ws₁ (putMid 0 (m - 0) ws₂ ys) P L R after l₁ l₃
+
+pub recount-in : (ws : List ℕ) (m n i v : ℕ) → 2 * m ≤ length ws → i < m → m + i < length (set ws (m + n) v)
+recount-in ws m n i v h g = rw (length-set ws (m + n) v) (omega arith)

@@ -1,0 +1,5 @@
+pub mod Lists
+pub mod Part
+pub mod Fixed
+pub mod Alike
+pub mod Pool

@@ -1,0 +1,154 @@
+-- The pool of neighbour lists: two halves of p numbers, at h and at o. The lists lie in the half at h; a merge writes them anew into the half at o.
+-- All lists together fit a half, since a merge never lengthens their sum.
+use Prim.Native.Nat.{ℕ, zero, suc, _+_, _-_, _*_, _≤_, _<_}
+use mathlib.Core.Path.{_≡_}
+use mathlib.Core.Logic.{_⊎_}
+use mathlib.Core.List.{List, [], _++_}
+use lib.ListN.{length, getD}
+use lib.Dec.{eqb}
+use Rattle.rules.specs.Base.{if_then_else_}
+use Rattle.rules.specs.Merge.{place, around, tidy}
+use Rattle.table.specs.View.{part, startOf, endOf, listAt, Parts, Held}
+use Rattle.pool.specs.Part.{Clear, renamedList}
+
+-- f 0 + .. + f (k - 1)
+unfoldable pub sumTo : (ℕ → ℕ) → ℕ → ℕ
+sumTo f zero = 0
+sumTo f (suc k) = f k + sumTo f k
+
+unfoldable pub without : (ℕ → ℕ) → ℕ → ℕ → ℕ
+without f i x = if eqb x i then 0 else f x
+
+-- how long record r's list is
+unfoldable pub lenAt : List ℕ → ℕ → ℕ → ℕ
+lenAt ws m r = endOf ws m (7 * m) r - startOf ws m (7 * m) r
+
+-- the lists of all records before c but i and n
+unfoldable pub restTo : List ℕ → ℕ → ℕ → ℕ → ℕ → ℕ
+restTo ws m i n c = sumTo (without (without (lenAt ws m) i) n) c
+
+unfoldable pub countAt : List ℕ → ℕ → ℕ → ℕ
+countAt ws m r = getD ws (m + r) 0
+
+-- a record's list after the renaming: a dead record's stays
+unfoldable pub newList : ℕ → ℕ → ℕ → List ℕ → List ℕ
+newList old new id l = if eqb id 0 then l else renamedList old new l
+
+-- the two halves lie apart, past the tables
+pub record Halves (m p h o : ℕ) (ws : List ℕ) : Type 0 where
+  pub past : 15 * m ≤ h
+  pub past′ : 15 * m ≤ o
+  pub apart : (h + p ≤ o) ⊎ (o + p ≤ h)
+  pub into : h + p ≤ length ws
+  pub into′ : o + p ≤ length ws
+  pub fits : h + p < 4294967296
+  pub fits′ : o + p < 4294967296
+
+pub record Pool (m p h o : ℕ) (ws : List ℕ) : Type 0 where
+  pub held : Held m (7 * m) (11 * m) ws
+  pub halves : Halves m p h o ws
+  pub from : (r : ℕ) → r < m → h ≤ startOf ws m (7 * m) r
+  pub upto : (r : ℕ) → r < m → endOf ws m (7 * m) r ≤ h + p
+  pub floors : (r : ℕ) → r < m → (h + p ≤ startOf ws m (11 * m) r) × (o + p ≤ startOf ws m (11 * m) r)
+  pub room : sumTo (lenAt ws m) m ≤ p
+  pub spans : sumTo (countAt ws m) m < 65536
+  pub blank : (x : ℕ) → x < 2 * m → getD ws (5 * m + x) 0 ≡ 0
+
+-- neither in the table of lists nor from a up to z
+abbrev pub Outside : ℕ → ℕ → ℕ → ℕ → Type 0
+Outside m a z j = ((j < 7 * m) ⊎ (11 * m ≤ j)) × ((j < a) ⊎ (z ≤ j))
+
+-- what one record's list needs to be carried to `to`
+pub record Source (m x to z : ℕ) (ws : List ℕ) : Type 0 where
+  pub lists : Parts m (7 * m) ws
+  pub inside : x < m
+  pub clear : Clear (startOf ws m (7 * m) x) (endOf ws m (7 * m) x) to z ws
+  pub past : 11 * m ≤ to
+  pub fits : z < 4294967296
+
+-- record x's list stands at to .. e, renamed
+pub record Moved (m x old new to e : ℕ) (ws ws′ : List ℕ) : Type 0 where
+  pub start : startOf ws′ m (7 * m) x ≡ to
+  pub stop : endOf ws′ m (7 * m) x ≡ e
+  pub list : part to e ws′ ≡ newList old new (getD ws x 0) (listAt ws m (7 * m) x)
+  pub order : to ≤ e
+  pub short : e ≤ to + lenAt ws m x
+  pub starts : (y : ℕ) → y < m → (y ≡ x → ⊥) → startOf ws′ m (7 * m) y ≡ startOf ws m (7 * m) y
+  pub stops : (y : ℕ) → y < m → (y ≡ x → ⊥) → endOf ws′ m (7 * m) y ≡ endOf ws m (7 * m) y
+  pub kept : (j : ℕ) → Outside m to (to + lenAt ws m x) j → getD ws′ j 0 ≡ getD ws j 0
+
+-- i and n are passed by
+pub record Next (m x i n old new to e : ℕ) (ws ws′ : List ℕ) : Type 0 where
+  pub skipped : (x ≡ i) ⊎ (x ≡ n) → (ws′ ≡ ws) × (e ≡ to)
+  pub moved : (x ≡ i → ⊥) → (x ≡ n → ⊥) → Moved m x old new to e ws ws′
+
+-- what all others need to be carried to lo and on
+pub record Sources (m i n lo z : ℕ) (ws : List ℕ) : Type 0 where
+  pub lists : Parts m (7 * m) ws
+  pub far : (r : ℕ) → r < m → (r ≡ i → ⊥) → (r ≡ n → ⊥) → 11 * m ≤ startOf ws m (7 * m) r
+  pub apart : (r : ℕ) → r < m → (r ≡ i → ⊥) → (r ≡ n → ⊥) → (endOf ws m (7 * m) r ≤ lo) ⊎ (z ≤ startOf ws m (7 * m) r)
+  pub past : 11 * m ≤ lo
+  pub into : z ≤ length ws
+  pub fits : z < 4294967296
+  pub room : lo + restTo ws m i n m ≤ z
+
+-- record x's list stands somewhere in lo .. hi, renamed
+pub record There (m x old new lo hi : ℕ) (ws ws′ : List ℕ) : Type 0 where
+  pub from : lo ≤ startOf ws′ m (7 * m) x
+  pub order : startOf ws′ m (7 * m) x ≤ endOf ws′ m (7 * m) x
+  pub upto : endOf ws′ m (7 * m) x ≤ hi
+  pub list : listAt ws′ m (7 * m) x ≡ newList old new (getD ws x 0) (listAt ws m (7 * m) x)
+  pub short : lenAt ws′ m x ≤ lenAt ws m x
+
+-- the records from c on are carried, but i and n
+pub record Carried (m i n c old new lo hi z : ℕ) (ws ws′ : List ℕ) : Type 0 where
+  pub order : lo ≤ hi
+  pub room : hi + restTo ws m i n c ≤ z
+  pub there : (x : ℕ) → c ≤ x → x < m → (x ≡ i → ⊥) → (x ≡ n → ⊥) → There m x old new lo hi ws ws′
+  pub starts : (x : ℕ) → x < m → (x < c) ⊎ ((x ≡ i) ⊎ (x ≡ n)) → startOf ws′ m (7 * m) x ≡ startOf ws m (7 * m) x
+  pub stops : (x : ℕ) → x < m → (x < c) ⊎ ((x ≡ i) ⊎ (x ≡ n)) → endOf ws′ m (7 * m) x ≡ endOf ws m (7 * m) x
+  pub kept : (j : ℕ) → Outside m lo z j → getD ws′ j 0 ≡ getD ws j 0
+
+-- two records, and where each lists the other
+pub record Pair (m n k i j : ℕ) (ws : List ℕ) : Type 0 where
+  pub first : n < m
+  pub second : i < m
+  pub apart : i ≡ n → ⊥
+  pub lists : k < lenAt ws m n
+  pub lists′ : j < lenAt ws m i
+
+-- `merge_regions`: the lists of n and i without the entries k and j, from the one after each round, and then renamed
+unfoldable pub joinedList : List ℕ → List ℕ → ℕ → ℕ → ℕ → ℕ → List ℕ
+joinedList l l′ k j old new = renamedList old new (tidy (around l k ++ around l′ j))
+
+-- record n's list is the joined one, at o .. e, and record i's is empty
+pub record Absorbed (m n k i j old new o z e : ℕ) (ws ws′ : List ℕ) : Type 0 where
+  pub first : startOf ws′ m (7 * m) n ≡ o
+  pub last : endOf ws′ m (7 * m) n ≡ e
+  pub bare : startOf ws′ m (7 * m) i ≡ e
+  pub bare′ : endOf ws′ m (7 * m) i ≡ e
+  pub list : part o e ws′ ≡ joinedList (listAt ws m (7 * m) n) (listAt ws m (7 * m) i) k j old new
+  pub order : o ≤ e
+  pub short : e ≤ o + lenAt ws m n + lenAt ws m i
+  pub starts : (y : ℕ) → y < m → (y ≡ i → ⊥) → (y ≡ n → ⊥) → startOf ws′ m (7 * m) y ≡ startOf ws m (7 * m) y
+  pub stops : (y : ℕ) → y < m → (y ≡ i → ⊥) → (y ≡ n → ⊥) → endOf ws′ m (7 * m) y ≡ endOf ws m (7 * m) y
+  pub kept : (y : ℕ) → Outside m o z y → getD ws′ y 0 ≡ getD ws y 0
+
+-- all lists stand in the half at o
+pub record Relisted (m p n k i j old new o : ℕ) (ws ws′ : List ℕ) : Type 0 where
+  pub joined : listAt ws′ m (7 * m) n ≡ joinedList (listAt ws m (7 * m) n) (listAt ws m (7 * m) i) k j old new
+  pub bare : listAt ws′ m (7 * m) i ≡ []
+  pub others : (x : ℕ) → x < m → (x ≡ i → ⊥) → (x ≡ n → ⊥) → listAt ws′ m (7 * m) x ≡ newList old new (getD ws x 0) (listAt ws m (7 * m) x)
+  pub parts : Parts m (7 * m) ws′
+  pub from : (x : ℕ) → x < m → o ≤ startOf ws′ m (7 * m) x
+  pub upto : (x : ℕ) → x < m → endOf ws′ m (7 * m) x ≤ o + p
+  pub room : sumTo (lenAt ws′ m) m ≤ p
+  pub kept : (y : ℕ) → Outside m o (o + p) y → getD ws′ y 0 ≡ getD ws y 0
+
+-- record i is live and lists the live record n first at j, and n lists i first at k
+pub record Listed (m n k i j : ℕ) (ws : List ℕ) : Type 0 where
+  pub pair : Pair m n k i j ws
+  pub live : getD ws i 0 ≡ 0 → ⊥
+  pub live′ : getD ws n 0 ≡ 0 → ⊥
+  pub first : k ≡ place (listAt ws m (7 * m) n) (getD ws i 0)
+  pub first′ : j ≡ place (listAt ws m (7 * m) i) (getD ws n 0)

@@ -18,7 +18,6 @@ use Rattle.field.proofs.Places.{spot-leaf}
 use Rattle.flood.specs.Site.{Site, SomeSite, Lent, SomeLent}
 use Rattle.flood.specs.Stack.{marksAt}
 use Rattle.flood.proofs.Sight.{area-is}
-use Rattle.expand.specs.Layout.{Calm}
 
 -- ---------------------------------------------------------------- one direction
 
@@ -101,14 +100,6 @@ module _ (w : ℕ) (is ar cons ids ws : List ℕ) (c d a own id far : ℕ) (n : 
       unfolding look
       look-take v r e k o z l y F s g q =
           rw (at-far F s g, at-id F s g ∙ sym o) (changes _ _ _ _ _ (eq-eqb _ _ (at-area F s g ∙ sym e ∙ k ∙ sym q)) (plain-is _ z l) (lt-ltb _ _ y))
-
--- what a neighbour that is there can be asked
-module _ (ar ws : List ℕ) (a : ℕ) (h : a < length ar) (v : Calm (length ar) ws) where
-  pub calm-in : a < length ws
-  calm-in = omega (arith, v .fits)
-
-  pub calm-low : getD ws a 0 ≤ 64000
-  calm-low = v .most a h
 
 -- ---------------------------------------------------------------- the four directions
 

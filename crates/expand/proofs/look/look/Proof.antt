@@ -1,11 +1,12 @@
 -- Each way out is the rule's look under what has been tested by then (Looks); a neighbour that is there is a span, so its area, id and source
 -- distance can be read, and the sum fits because source distances are bounded. Assumes nothing.
 use Prim.Native.Nat.{_<_}
+use native.Mathlib.Omega.{arith}
 use borrow.Author.Needs.{needs}
 use denote.Ref.{now}
 use lib.ListN.{length}
 use Rattle.flood.proofs.Pushes.{pushed-inside}
-use Rattle.expand.proofs.Looks.{look-none, look-area, look-zero, look-flag, look-far, look-take, calm-in, calm-low}
+use Rattle.expand.proofs.Looks.{look-none, look-area, look-zero, look-flag, look-far, look-take}
 use Rattle.expand.proofs.look.look.Statement.{statement}
 use Rattle.expand.proofs.look.look.Tie as tie
 
@@ -22,22 +23,30 @@ returns : tie.Need-returns
 returns c = search (needs, look-none)
 
 at8-requires : tie.Need-at8-requires
-at8-requires c κs = search (needs, pushed-inside)
+at8-requires c κs = inside c
 
 returns-2 : tie.Need-returns-2
-returns-2 c = search (needs, look-area, pushed-inside)
+returns-2 c = let e = c .before .before in
+    look-area _ _ _ _ _ _ _ _ _ _ _ _ (e .before .neighbour .ensures) (inside e) _ (c .before .at8 .ensures .0) (c .if2 .taken)
 
 id-at-requires : tie.Need-id-at-requires
-id-at-requires c κs = search (needs, pushed-inside)
+id-at-requires c κs = let e = c .before .before in
+    omega (arith, inside e, e .before .before .before .before .before .before .pre .3)
 
 returns-3 : tie.Need-returns-3
-returns-3 c = search (needs, look-zero, pushed-inside)
+returns-3 c = let i = c .before in
+    let e = i .before .before .before in
+    look-zero _ _ _ _ _ _ _ _ _ _ _ _ (e .before .neighbour .ensures) (inside e) _ (i .id-at .ensures) (c .if3 .taken)
 
 returns-4 : tie.Need-returns-4
-returns-4 c = search (needs, look-flag, pushed-inside)
+returns-4 c = let i = c .before .before in
+    let e = i .before .before .before in
+    look-flag _ _ _ _ _ _ _ _ _ _ _ _ (e .before .neighbour .ensures) (inside e) _ (i .id-at .ensures) (omega (arith, c .if4 .taken))
 
 farther-requires : tie.Need-farther-requires
-farther-requires c κs = (search (needs, calm-in, pushed-inside), search (needs, calm-low, pushed-inside))
+farther-requires c κs = let e = c .before .before .before .before .before in
+    let v = e .before .before .before .before .before .before .pre .4 in
+    (omega (arith, inside e, v .fits), v .most _ (inside e))
 
 returns-5 : tie.Need-returns-5
 returns-5 c =

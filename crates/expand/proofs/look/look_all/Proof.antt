@@ -1,6 +1,7 @@
 -- The loop's invariant: what is found so far is what the rule finds in the directions before d (`Looking`). The measure is the directions left.
 -- Assumes nothing.
 use Prim.Native.Nat.{_-_}
+use native.Mathlib.Omega.{arith}
 use borrow.Author.Needs.{needs}
 use Rattle.expand.proofs.Looks.{Looking, looking-start, looking-next, looking-done}
 use Rattle.expand.proofs.look.look_all.Statement.{statement}
@@ -25,7 +26,7 @@ loop-less : tie.Need-loop-less Inv-loop μ-loop
 loop-less c = search needs
 
 loop-again : tie.Need-loop-again Inv-loop μ-loop
-loop-again c = search (needs, looking-next)
+loop-again c = looking-next _ _ _ _ _ _ _ _ _ _ _ (c .before .before .loop .inv) _ _ (omega (arith, c .before .loop-test .taken)) (c .look .ensures)
 
 returns : tie.Need-returns Inv-loop μ-loop
 returns c = search (needs, looking-done)

@@ -1,12 +1,16 @@
 -- One turn over the level stacks at n .. 9n of the workspace.
-use Prim.Native.Nat.{ℕ, _+_, _*_, _%_, _<_}
+use Prim.Native.Nat.{ℕ, _+_, _*_, _%_, _≤_, _<_}
 use mathlib.Core.Path.{_≡_}
-use mathlib.Core.List.{List}
-use lib.ListN.{length}
+use mathlib.Core.List.{List, []}
+use lib.ListN.{length, getD, set}
 use Rattle.rules.specs.Field.{Field}
-use Rattle.rules.specs.Growth.{Turn, loaded}
-use Rattle.space.specs.Space.{Frame}
+use Rattle.rules.specs.Growth.{Marks, Turn, loaded, Spread, expand, Ids, floods}
+use Rattle.space.specs.Space.{sec, Frame}
 use Rattle.levels.specs.Levels.{levelsAt, Fills, Stacked}
+use Rattle.flood.specs.Site.{Lent}
+use Rattle.flood.specs.Stack.{marksAt, Blank}
+use Rattle.expand.specs.Layout.{Low, Clear}
+use Rattle.growth.specs.Seas.{Seas}
 
 -- the turn's number after turn number j
 abbrev pub after : ℕ → ℕ
@@ -25,3 +29,76 @@ pub record Loaded (area dist ids : List ℕ) (level : ℕ) (fills : List ℕ) (j
   pub fits : Fills (length area) fills′
   pub stacked : Stacked (length area) (levelsAt ws′ (length area) (length area) fills′) (after j)
   pub frame : Frame (length area) (length area + 8 * length area) ws ws′
+
+-- a turn at a level, with its number
+unfoldable pub turnAt : Field → List ℕ → ℕ → ℕ → Turn → Turn
+turnAt F dist level j t =
+    let stacks = loaded F dist level j t in
+    let e = expand F level (t .marks) (getD stacks j []) in
+    let r = floods F dist level (e .stack) (e .marks) (t .next) in
+    record { marks = r .marks; stacks = set stacks j (e .stack); next = r .next }
+
+-- the stacks of turn number j are loaded, and all else that the turn needs is there: source distances at 0 .. n, the stacks at n .. 9n, changes at 9n .. 12n,
+-- the flood's stack at 12n .. 13n, the cells past that
+pub record Ready (w : ℕ) (index area con : List ℕ) (b next : ℕ) (fills : List ℕ) (j : ℕ) (ids ws : List ℕ) : Type 0 where
+  pub F : Field
+  pub lent : Lent F w index area con b ws
+  pub few : length area ≤ 32000
+  pub past : 13 * length area ≤ b
+  pub turn : j < 8
+  pub seas : Seas (length area) next ids
+  pub low : Low (length area) (marksAt (length area) ids ws)
+  pub changes : Clear (9 * length area) (9 * length area + 3 * length area) ws
+  pub stack : Blank (length area) (12 * length area) 0 ws
+  pub fits : Fills (length area) fills
+  pub stacked : Stacked (length area) (levelsAt ws (length area) (length area) fills) j
+
+-- the stack of the turn, as entries
+abbrev pub stackOf : ℕ → List ℕ → ℕ → List ℕ → List ℕ
+stackOf n fills j ws = sec (n + j * n) (getD fills j 0) ws
+
+-- what the expansion of the turn's stack leaves
+pub record Expanded (w : ℕ) (index area con : List ℕ) (b next : ℕ) (fills : List ℕ) (j level : ℕ) (ids ws ids′ ws′ : List ℕ) : Type 0 where
+  pub ready : Ready w index area con b next fills j ids′ ws′
+  pub size : length ws′ ≡ length ws
+  pub past : (x : ℕ) → 9 * length area ≤ x → getD ws′ x 0 ≡ getD ws x 0
+  pub same : (F : Field) → Lent F w index area con b ws
+      → record { marks = marksAt (length area) ids′ ws′; stack = stackOf (length area) fills j ws′ }
+      ≡ expand F level (marksAt (length area) ids ws) (getD (levelsAt ws (length area) (length area) fills) j [])
+  pub stacks : levelsAt ws′ (length area) (length area) fills ≡ set (levelsAt ws (length area) (length area) fills) j (stackOf (length area) fills j ws′)
+
+-- what the floods from the turn's stack leave
+pub record Washed (w : ℕ) (index area con dist : List ℕ) (b next : ℕ) (fills : List ℕ) (j level : ℕ) (ids ws : List ℕ) (r : ℕ) (ids′ ws′ : List ℕ) : Type 0 where
+  pub ready : Ready w index area con b r fills j ids′ ws′
+  pub size : length ws′ ≡ length ws
+  pub past : (x : ℕ) → length area ≤ x → getD ws′ x 0 ≡ getD ws x 0
+  pub same : (F : Field) → Lent F w index area con b ws
+      → record { marks = marksAt (length area) ids′ ws′; next = r } ≡ floods F dist level (stackOf (length area) fills j ws) (marksAt (length area) ids ws) next
+  pub stacks : levelsAt ws′ (length area) (length area) fills ≡ levelsAt ws (length area) (length area) fills
+
+-- the areas are bytes
+pub record Bytes (area : List ℕ) : Type 0 where
+  pub byte : (s : ℕ) → s < length area → getD area s 0 < 256
+
+-- what is there between turns; the last had number j
+pub record Between (w : ℕ) (index area con : List ℕ) (b next : ℕ) (fills : List ℕ) (j : ℕ) (ids ws : List ℕ) : Type 0 where
+  pub F : Field
+  pub lent : Lent F w index area con b ws
+  pub few : length area ≤ 32000
+  pub past : 13 * length area ≤ b
+  pub turn : j < 8
+  pub seas : Seas (length area) next ids
+  pub low : Low (length area) (marksAt (length area) ids ws)
+  pub changes : Clear (9 * length area) (9 * length area + 3 * length area) ws
+  pub stack : Blank (length area) (12 * length area) 0 ws
+  pub left : Left (length area) fills j ws
+
+-- what a turn leaves
+pub record Turned (w : ℕ) (index area con dist : List ℕ) (b next : ℕ) (fills : List ℕ) (j level : ℕ) (ids ws : List ℕ) (next′ : ℕ) (fills′ : List ℕ) (j′ : ℕ) (ids′ ws′ : List ℕ) : Type 0 where
+  pub turn : j′ ≡ after j
+  pub between : Between w index area con b next′ fills′ j′ ids′ ws′
+  pub size : length ws′ ≡ length ws
+  pub past : (x : ℕ) → 9 * length area ≤ x → getD ws′ x 0 ≡ getD ws x 0
+  pub same : (F : Field) (t : Turn) → Lent F w index area con b ws → t .marks ≡ marksAt (length area) ids ws → t .next ≡ next
+      → ((after j ≡ 0 → ⊥) → t .stacks ≡ levelsAt ws (length area) (length area) fills)
+      → record { marks = marksAt (length area) ids′ ws′; stacks = levelsAt ws′ (length area) (length area) fills′; next = next′ } ≡ turnAt F dist level (after j) t

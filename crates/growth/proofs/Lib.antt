@@ -7,3 +7,4 @@ pub mod StackLaws
 pub mod ExpandTurn
 pub mod FloodTurn
 pub mod WholeTurn
+pub mod EbbLaws

@@ -3,8 +3,9 @@ use Prim.Native.Nat.{ℕ, _+_, _*_, _%_, _≤_, _<_}
 use mathlib.Core.Path.{_≡_}
 use mathlib.Core.List.{List, []}
 use lib.ListN.{length, getD, set}
+use Rattle.rules.specs.Base.{upto}
 use Rattle.rules.specs.Field.{Field}
-use Rattle.rules.specs.Growth.{Marks, Turn, loaded, Spread, expand, Ids, floods}
+use Rattle.rules.specs.Growth.{Marks, Turn, loaded, Spread, expand, Ids, floods, turn}
 use Rattle.space.specs.Space.{sec, Frame}
 use Rattle.levels.specs.Levels.{levelsAt, Fills, Stacked}
 use Rattle.flood.specs.Site.{Lent}
@@ -102,3 +103,29 @@ pub record Turned (w : ℕ) (index area con dist : List ℕ) (b next : ℕ) (fil
   pub same : (F : Field) (t : Turn) → Lent F w index area con b ws → t .marks ≡ marksAt (length area) ids ws → t .next ≡ next
       → ((after j ≡ 0 → ⊥) → t .stacks ≡ levelsAt ws (length area) (length area) fills)
       → record { marks = marksAt (length area) ids′ ws′; stacks = levelsAt ws′ (length area) (length area) fills′; next = next′ } ≡ turnAt F dist level (after j) t
+
+-- the rule's turn is what is there
+pub record Stands (n next : ℕ) (fills : List ℕ) (j : ℕ) (ids ws : List ℕ) (t : Turn) : Type 0 where
+  pub marks : t .marks ≡ marksAt n ids ws
+  pub id : t .next ≡ next
+  pub stacks : (after j ≡ 0 → ⊥) → t .stacks ≡ levelsAt ws n n fills
+
+-- the rule's turns, k of count, from what is there with no stacks
+abbrev pub turnsOf : Field → List ℕ → ℕ → ℕ → List ℕ → List ℕ → ℕ → ℕ → Turn
+turnsOf F dist count n ids ws next k = upto k (turn F dist (2 * count)) (record { marks = marksAt n ids ws; stacks = []; next = next })
+
+-- what k turns of count leave
+pub record Ebb (w : ℕ) (index area con dist : List ℕ) (b count next : ℕ) (ids ws : List ℕ) (k next′ : ℕ) (fills′ : List ℕ) (j′ : ℕ) (ids′ ws′ : List ℕ) : Type 0 where
+  pub turn : after j′ ≡ k % 8
+  pub between : Between w index area con b next′ fills′ j′ ids′ ws′
+  pub size : length ws′ ≡ length ws
+  pub past : (x : ℕ) → 9 * length area ≤ x → getD ws′ x 0 ≡ getD ws x 0
+  pub same : (F : Field) → Lent F w index area con b ws → Stands (length area) next′ fills′ j′ ids′ ws′ (turnsOf F dist count (length area) ids ws next k)
+
+-- what all turns leave
+pub record Ebbed (w : ℕ) (index area con dist : List ℕ) (b count next : ℕ) (ids ws : List ℕ) (next′ : ℕ) (ids′ ws′ : List ℕ) : Type 0 where
+  pub seas : Seas (length area) next′ ids′
+  pub low : Low (length area) (marksAt (length area) ids′ ws′)
+  pub past : (x : ℕ) → 9 * length area ≤ x → getD ws′ x 0 ≡ getD ws x 0
+  pub marks : (F : Field) → Lent F w index area con b ws → marksAt (length area) ids′ ws′ ≡ turnsOf F dist count (length area) ids ws next count .marks
+  pub id : (F : Field) → Lent F w index area con b ws → next′ ≡ turnsOf F dist count (length area) ids ws next count .next

@@ -5,9 +5,10 @@ use levels::LevelStacks;
 use levels::append_stacks;
 use levels::sort_cells_by_level;
 ghost use mathlib.Core.Path.{_≡_};
+ghost use mathlib.Core.List.{[]};
 ghost use Prim.Native.Nat.{_+_, _*_, _<_, _≤_};
 ghost use lib.ListN.{length, getD};
-ghost use Rattle.growth.specs.Turns.{Left, Loaded, Ready, Expanded, Washed, Bytes, Between, Turned};
+ghost use Rattle.growth.specs.Turns.{Left, Loaded, Ready, Expanded, Washed, Bytes, Between, Turned, Ebbed};
 
 // The stacks of the turn after l's: at turn number 0 all is sorted anew; at another, what remains of the stack before is appended to this turn's.
 pub fn load(
@@ -136,4 +137,35 @@ pub fn turn(
         stacks: s,
         next: id,
     }
+}
+
+// All turns, `count` of them, each two levels below the one before: rule 2. Gives the next id.
+pub fn turns(
+    w: usize,
+    index: &[u32],
+    area: &[u8],
+    con: &[u8],
+    dist: &[u16],
+    ids: &mut [u16],
+    ws: &mut [u16],
+    b: usize,
+    count: u16,
+    next: u16,
+) -> u16
+    requires { ⌜ Between w (now index) (now area) (now con) b next [] 7 (now ids) (now ws) × (length (now dist) ≡ length (now area)) × Bytes (now area) × (count ≤ 32768) ⌝ }
+    ensures { λ r. ⌜ Ebbed w (now (index .entry)) (now (area .entry)) (now (con .entry)) (now (dist .entry)) b count next (now (ids .entry)) (now (ws .entry)) r (now (ids .exit)) (now (ws .exit)) ⌝ }
+{
+    let mut l = LevelStacks {
+        fills: [0; 8],
+        turn: 7,
+    };
+    let mut id = next;
+    let mut left = count;
+    while left > 0 {
+        left -= 1;
+        let t = turn(w, index, area, con, dist, ids, ws, b, l, 2 * left, id);
+        l = t.stacks;
+        id = t.next;
+    }
+    id
 }

@@ -179,7 +179,7 @@ zeroed-at a k i ws h l m =
     sym (getD-drop a (putMid a k ws (replicate k 0)) i 0) ∙ ap (λ (y : List ℕ). getD y i 0) (drop-mid a k ws (replicate k 0) h)
     ∙ List·getD-append (replicate k 0) (drop k (drop a ws)) 0 i m ∙ getD-replicate k i 0 0 l
 
-zeroed : (a k x : ℕ) (ws : List ℕ) → a ≤ length ws → a ≤ x → x < a + k → getD (putMid a k ws (replicate k 0)) x 0 ≡ 0
+pub zeroed : (a k x : ℕ) (ws : List ℕ) → a ≤ length ws → a ≤ x → x < a + k → getD (putMid a k ws (replicate k 0)) x 0 ≡ 0
 zeroed a k x ws h l u =
     let i : a + (x - a) ≡ x = omega arith in
     rw i at (zeroed-at a k (x - a) ws h (omega arith) (rw (length-replicate k (let z : ℕ = 0 in z)) (omega arith)))

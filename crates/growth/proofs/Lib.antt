@@ -8,3 +8,4 @@ pub mod ExpandTurn
 pub mod FloodTurn
 pub mod WholeTurn
 pub mod EbbLaws
+pub mod GrowLaws

@@ -143,7 +143,7 @@ had-one F dist level e next n ids ws h k = one-has-id F dist level e next (recor
 -- ---------------------------------------------------------------- the entries of a stack
 
 -- what lies past the source distances stays
-past-same : (n i : ℕ) (ws ws′ : List ℕ) → n ≤ i → drop n ws′ ≡ drop n ws → getD ws′ i 0 ≡ getD ws i 0
+pub past-same : (n i : ℕ) (ws ws′ : List ℕ) → n ≤ i → drop n ws′ ≡ drop n ws → getD ws′ i 0 ≡ getD ws i 0
 past-same n i ws ws′ h e =
     let k : n + (i - n) ≡ i = omega arith in
     rw (← k) (sym (getD-drop n ws′ (i - n) 0) ∙ ap (λ (l : List ℕ). getD l (i - n) 0) e ∙ getD-drop n ws (i - n) 0)

@@ -1,2 +1,3 @@
 pub mod Seas
 pub mod Turns
+pub mod Grow

@@ -4,6 +4,7 @@ use Prim.Native.Nat.{_-_}
 use mathlib.Core.Path.{_∙_}
 use Rattle.contour.proofs.WalkLaws.{Going, going-start, going-stand, going-next, going-back, going-end}
 use borrow.Author.Needs.{needs}
+use native.Mathlib.Omega.{arith}
 use Rattle.contour.proofs.walk.walk.Statement.{statement}
 use Rattle.contour.proofs.walk.walk.Tie as tie
 
@@ -45,7 +46,7 @@ same-length c = let l = L (c .before) in
 
 returns : tie.Need-returns Inv-loop μ-loop
 returns c = let l = L (c .before) in
-    going-back _ _ _ _ _ _ _ _ _ (S (l .before) .pre) _ _ (B (l .before) .begin .ensures) _ _ _ (l .loop .inv) _ _ (A (c .before) .stride .ensures) (A (c .before) .before .before .loop-test .taken) _ (c .before .at .ensures) (c .if1 .taken)
+    going-back _ _ _ _ _ _ _ _ _ (S (l .before) .pre) _ _ (B (l .before) .begin .ensures) _ _ _ (l .loop .inv) _ _ (A (c .before) .stride .ensures) (omega (arith, A (c .before) .before .before .loop-test .taken)) _ (c .before .at .ensures) (c .if1 .taken)
 
 add-k : tie.Need-add-k Inv-loop μ-loop
 add-k c = search needs
@@ -55,7 +56,7 @@ loop-less c = search needs
 
 loop-again : tie.Need-loop-again Inv-loop μ-loop
 loop-again c = let l = L (c .before) in
-    going-next _ _ _ _ _ _ _ _ _ (S (l .before) .pre) _ _ (B (l .before) .begin .ensures) _ _ _ (l .loop .inv) _ _ (A (c .before) .stride .ensures) (A (c .before) .before .before .loop-test .taken) _ (c .before .at .ensures) (c .if1 .left)
+    going-next _ _ _ _ _ _ _ _ _ (S (l .before) .pre) _ _ (B (l .before) .begin .ensures) _ _ _ (l .loop .inv) _ _ (A (c .before) .stride .ensures) (omega (arith, A (c .before) .before .before .loop-test .taken)) _ (c .before .at .ensures) (c .if1 .left)
 
 same-length-2 : tie.Need-same-length-2 Inv-loop μ-loop
 same-length-2 c = c .before .loop .inv .laid .size ∙ B (c .before .before) .begin .kept .1 .1 .1 .1 .0

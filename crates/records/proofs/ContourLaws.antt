@@ -1,0 +1,122 @@
+-- A record without a list takes the span's area and contour; one with a list stays: together the rule's `contoured`.
+-- And a span's count, overlap and floors, one after the other.
+use Prim.Native.Nat.{ℕ, suc, _+_, _*_, _-_, _≤_, _<_}
+use native.Mathlib.Omega.{arith}
+use mathlib.Core.Path.{_≡_, sym, ap, _∙_}
+use mathlib.Core.Bool.{true, false}
+use mathlib.Core.List.{List}
+use lib.ListN.{length, getD, set}
+use lib.Seq.{getD-set-same}
+use lib.Dec.{eqb}
+use borrow.Author.Tests.{eq-eqb, ne-eqb}
+use Rattle.rules.specs.Base.{if_then_else_, many}
+use Rattle.rules.specs.Field.{Field, areaOf}
+use Rattle.rules.specs.Growth.{plain}
+use Rattle.rules.specs.Records.{Rec, at, fresh}
+use Rattle.laws.proofs.Basics.{many-le}
+use Rattle.flood.proofs.Sight.{area-is}
+use Rattle.contour.specs.Ways.{Ways}
+use Rattle.table.specs.View.{startOf, endOf, listAt, recAt, view, recsOf}
+use Rattle.table.proofs.ViewLaws.{list-length, view-at, view-length}
+use Rattle.records.specs.Cell.{twins, othersFrom}
+use Rattle.records.specs.Rows.{Keeping, Step, Tracing, traced, plusOne, overlaid, floored, celled, withArea, withList, contoured}
+use Rattle.records.specs.Stock.{Reach, SomeReach}
+use Rattle.records.proofs.RowLaws.{list-parts, floor-parts, count-room, at-recs, step-then, store-start, store-end}
+use Rattle.records.proofs.StepLaws.{step-none, step-one, step-area}
+use Rattle.records.proofs.TraceLaws.{list-tracing}
+
+pub reach-span : (w : ℕ) (is ar cs ids : List ℕ) (c s : ℕ) → SomeReach w is ar cs ids c s → s < length ar
+reach-span w is ar cs ids c s x = omega (arith, x .reach .ways .spot .stands .span, ap length (x .reach .areas))
+
+-- a step under another name
+step-as : (f g : Rec → Rec) (ids : List ℕ) (m r top k : ℕ) (ws ws′ : List ℕ) → f (at (recsOf ws m) r) ≡ g (at (recsOf ws m) r) → Step f ids m r top k ws ws′ → Step g ids m r top k ws ws′
+step-as f g ids m r top k ws ws′ e p = record { keeping = p .keeping; same = p .same ∙ ap (set (recsOf ws m) r) e; size = p .size; after = p .after }
+
+-- the record after a step
+step-at : (f : Rec → Rec) (ids : List ℕ) (m r top k : ℕ) (ws ws′ : List ℕ) → r < m → Step f ids m r top k ws ws′ → recAt ws′ m (7 * m) (11 * m) r ≡ f (recAt ws m (7 * m) (11 * m) r)
+unfolding at recsOf
+step-at f ids m r top k ws ws′ h p =
+    let l = view ws m (7 * m) (11 * m) in
+    sym (view-at ws′ m (7 * m) (11 * m) r h) ∙ ap (λ (x : List Rec). getD x r (fresh 0)) (p .same)
+    ∙ getD-set-same l r (f (getD l r (fresh 0))) (fresh 0) (rw (view-length ws m (7 * m) (11 * m)) h) ∙ ap f (view-at ws m (7 * m) (11 * m) r h)
+
+module _ (ids : List ℕ) (m top k : ℕ) (ws : List ℕ) (K : Keeping ids m top k ws) (r : ℕ) (h : r < m) (a e : ℕ) (ea : a ≡ startOf ws m (7 * m) r) (ee : e ≡ endOf ws m (7 * m) r) where
+  long : length (listAt ws m (7 * m) r) ≡ endOf ws m (7 * m) r - startOf ws m (7 * m) r
+  long = list-length ws m (7 * m) r (list-parts ids m top k ws K) h
+
+  -- a record that has a list stays
+  pub contour-there : a < e → (F : Field) (s : ℕ) → Step (contoured F ids s) ids m r top k ws ws
+  unfolding contoured recAt if_then_else_
+  contour-there g F s =
+      let n : eqb (length (listAt ws m (7 * m) r)) 0 ≡ false = ne-eqb (length (listAt ws m (7 * m) r)) 0 (λ (z : length (listAt ws m (7 * m) r) ≡ 0). omega (arith, long)) in
+      step-none (contoured F ids s) ids m r top k ws K (rw (at-recs ws m r h, n))
+
+  module _ (g : e ≤ a) where
+    pub none-yet : endOf ws m (7 * m) r ≤ startOf ws m (7 * m) r
+    none-yet = omega arith
+
+    empty : eqb (length (listAt ws m (7 * m) r)) 0 ≡ true
+    empty = eq-eqb (length (listAt ws m (7 * m) r)) 0 (omega (arith, long))
+
+    pub none-after : (v : ℕ) → endOf (set ws (2 * m + r) v) m (7 * m) r ≤ startOf (set ws (2 * m + r) v) m (7 * m) r
+    none-after v =
+        let low : 2 * m + r < 5 * m = omega arith in
+        rw (store-start ids m top k ws K (2 * m + r) v low (7 * m) r (omega arith), store-end ids m top k ws K (2 * m + r) v low (7 * m) r (omega arith)) none-yet
+
+    pub area-keeping : (v : ℕ) → Keeping ids m top k (set ws (2 * m + r) v)
+    area-keeping v = step-area ids m top k ws K r h v .keeping
+
+    module _ (w : ℕ) (is ar cs : List ℕ) (c s : ℕ) (er : r ≡ getD ids s 0) where
+      pub area-tracing : (r ≡ 0 → ⊥) → SomeReach w is ar cs ids c s → (v : ℕ) → Tracing w is cs ids c s (15 * m) top (set ws (2 * m + r) v)
+      area-tracing own x v = list-tracing w is cs ids c s m top k (set ws (2 * m + r) v) (area-keeping v) r er h (none-after v) own (x .F) (x .reach .ways)
+
+      pub contour-taken : (v t : ℕ) → v ≡ getD ar s 0 → (ws′ : List ℕ) → ((F : Field) → Ways F w is cs ids c s → Step (withList (traced F ids s)) ids m r t k (set ws (2 * m + r) v) ws′)
+          → (F : Field) → Reach F w is ar cs ids c s → Step (contoured F ids s) ids m r t k ws ws′
+      unfolding contoured withList withArea recAt if_then_else_
+      contour-taken v t ev ws′ q F l =
+          let n : s < length ar = omega (arith, l .ways .spot .stands .span, ap length (l .areas)) in
+          let ar-is : areaOf F s ≡ v = area-is F ar s (l .areas) n ∙ sym ev in
+          step-as (λ x. withList (traced F ids s) (withArea v x)) (contoured F ids s) ids m r t k ws ws′ (rw (at-recs ws m r h, empty, ar-is))
+          (step-then (withArea v) (withList (traced F ids s)) ids m r top t k k ws (set ws (2 * m + r) v) ws′ h (step-area ids m top k ws K r h v) (q F (l .ways)))
+
+-- ---------------------------------------------------------------- the cell
+
+module _ (ids : List ℕ) (m top s : ℕ) (ws : List ℕ) (K : Keeping ids m top s ws) (r size from : ℕ) (er : r ≡ getD ids s 0) (pl : plain (getD ids s 0) ≡ true) (g : s < length ids) where
+  pub own-in : r < m
+  own-in = rw er (K .below s pl)
+
+  pub count-fits : getD ws (m + r) 0 < 65535
+  count-fits = omega (arith, count-room ids m top s ws K r own-in, many-le (eqb r) ids, K .spans)
+
+  one : Step plusOne ids m r top (s + 1) ws (set ws (m + r) (getD ws (m + r) 0 + 1))
+  one = step-one ids m top s ws K r own-in g er pl
+
+  module _ (ws₁ ws₂ : List ℕ) (e₁ : ws₁ ≡ set ws (m + r) (getD ws (m + r) 0 + 1))
+      (p : (top k : ℕ) → Keeping ids m top k ws₁ → Step (overlaid (twins ids s (getD ids s 0) size from)) ids m r top k ws₁ ws₂) where
+    one₁ : Step plusOne ids m r top (s + 1) ws ws₁
+    one₁ = rw e₁ one
+
+    two : Step (overlaid (twins ids s (getD ids s 0) size from)) ids m r top (s + 1) ws₁ ws₂
+    two = p top (s + 1) (one₁ .keeping)
+
+    both-steps : Step (λ x. overlaid (twins ids s (getD ids s 0) size from) (plusOne x)) ids m r top (s + 1) ws ws₂
+    both-steps = step-then plusOne (overlaid (twins ids s (getD ids s 0) size from)) ids m r top top (s + 1) (s + 1) ws ws₁ ws₂ own-in one₁ two
+
+    pub counted-keeping : Keeping ids m top (s + 1) ws₂
+    counted-keeping = two .keeping
+
+    -- one span more is counted than has given its floors
+    pub counted-slack : endOf ws₂ m (11 * m) r + 62 ≤ startOf ws₂ m (11 * m) r + 62 * getD ws₂ (m + r) 0
+    unfolding overlaid plusOne recAt
+    counted-slack =
+        let e = step-at _ ids m r top (s + 1) ws ws₂ own-in both-steps in
+        let c : getD ws₂ (m + r) 0 ≡ suc (getD ws (m + r) 0) = ap (λ (x : Rec). x .count) e in
+        let f : listAt ws₂ m (11 * m) r ≡ listAt ws m (11 * m) r = ap (λ (x : Rec). x .floors) e in
+        let l = list-length ws m (11 * m) r (floor-parts ids m top s ws K) own-in in
+        let l₂ = list-length ws₂ m (11 * m) r (floor-parts ids m top (s + 1) ws₂ counted-keeping) own-in in
+        omega (arith, ap length f, K .rows r own-in .order′, K .rows r own-in .till′, counted-keeping .rows r own-in .order′)
+
+    pub cell-step : (ws₃ : List ℕ) → Step (floored (othersFrom ids s size from)) ids m r top (s + 1) ws₂ ws₃ → Step (celled ids s size from) ids m r top (s + 1) ws ws₃
+    unfolding celled
+    cell-step ws₃ q =
+        step-then (λ x. overlaid (twins ids s (getD ids s 0) size from) (plusOne x)) (floored (othersFrom ids s size from)) ids m r top top (s + 1) (s + 1) ws ws₂ ws₃ own-in both-steps q

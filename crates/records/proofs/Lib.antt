@@ -1,0 +1,12 @@
+pub mod CellLaws
+pub mod JoinLaws
+pub mod PlainLaws
+pub mod CountLaws
+pub mod RowLaws
+pub mod StepLaws
+pub mod FloorLaws
+pub mod TraceLaws
+pub mod ContourLaws
+pub mod FreshLaws
+pub mod NameLaws
+pub mod BuildLaws

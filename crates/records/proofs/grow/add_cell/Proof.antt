@@ -1,0 +1,70 @@
+-- `add_cell` is the rule's `celled`: one more span, then overlap, then floors, each a step on record r.
+-- Counting first gives the floors of this span their room.
+use lib.ListN.{length-set}
+use Prim.Native.Nat.{_<_}
+use mathlib.Core.Path.{refl, _∙_}
+use lib.ListN.{length}
+use denote.Ref.{now}
+use Rattle.records.proofs.ContourLaws.{own-in, count-fits, counted-keeping, counted-slack, cell-step}
+use native.Mathlib.Omega.{arith}
+use Rattle.records.proofs.grow.add_cell.Statement.{statement}
+use Rattle.records.proofs.grow.add_cell.Tie as tie
+
+abbrev S : tie.After-slice-known2 → tie.Start
+S c = c .before .before .before
+
+here : (c : tie.After-slice-known2) → S c .args .s < length (now (S c .args .ids))
+here c = omega (arith, S c .pre .4, S c .pre .6)
+
+add-ws : tie.Need-add-ws
+add-ws c = let p = c .before .before .pre in omega (arith, own-in _ _ _ _ _ (p .0) _ 0 0 (p .1) (p .2) (omega (arith, p .4, p .6)), p .0 .few)
+
+mul-ws : tie.Need-mul-ws
+mul-ws c = let p = c .before .before .pre in omega (arith, own-in _ _ _ _ _ (p .0) _ 0 0 (p .1) (p .2) (omega (arith, p .4, p .6)), p .0 .few)
+
+slice-read-ws : tie.Need-slice-read-ws
+slice-read-ws c = let p = S c .pre in omega (arith, own-in _ _ _ _ _ (p .0) _ 0 0 (p .1) (p .2) (here c), p .0 .room)
+
+add-ws-2 : tie.Need-add-ws-2
+add-ws-2 c = let p = S c .pre in omega (arith, count-fits _ _ _ _ _ (p .0) _ 0 0 (p .1) (p .2) (here c))
+
+slice-write-ws : tie.Need-slice-write-ws
+slice-write-ws c = let p = S c .pre in omega (arith, own-in _ _ _ _ _ (p .0) _ 0 0 (p .1) (p .2) (here c), p .0 .room)
+
+add-overlap-requires : tie.Need-add-overlap-requires
+add-overlap-requires c κs = let b = c .before in
+    let p = S b .pre in
+    let o = own-in _ _ _ _ _ (p .0) _ 0 0 (p .1) (p .2) (here b) in
+    (o, here b, p .4, simp length-set (omega (arith, p .0 .room)))
+
+add-floors-requires : tie.Need-add-floors-requires
+add-floors-requires c κs = let a = c .before .before .before in
+    let b = a .before .before in
+    let p = S b .pre in
+    (counted-keeping _ _ _ _ _ (p .0) _ _ _ (p .1) (p .2) (here b) _ _ refl (a .add-overlap .ensures), own-in _ _ _ _ _ (p .0) _ 0 0 (p .1) (p .2) (here b), counted-slack _ _ _ _ _ (p .0) _ _ _ (p .1) (p .2) (here b) _ _ refl (a .add-overlap .ensures), p .3, p .4, p .5, p .6)
+
+same-length : tie.Need-same-length
+same-length c = let f = c .before .before in
+    let a = f .before .before .before .before in
+    f .add-floors .kept .1 .0 ∙ a .add-overlap .kept .1 .0 ∙ simp length-set
+
+returns : tie.Need-returns
+returns c = let f = c .before .before in
+    let a = f .before .before .before .before in
+    let b = a .before .before in
+    let p = S b .pre in
+    cell-step _ _ _ _ _ (p .0) _ _ _ (p .1) (p .2) (here b) _ _ refl (a .add-overlap .ensures) _ (f .add-floors .ensures)
+
+pub add-cell-spec : {M : Type 1} → statement M
+add-cell-spec =
+    tie.close
+    (tie.spec
+    add-ws
+    mul-ws
+    slice-read-ws
+    add-ws-2
+    slice-write-ws
+    add-overlap-requires
+    add-floors-requires
+    same-length
+    returns)

@@ -1,0 +1,115 @@
+-- The others' ids join record r's floors in its own room, and then the list's new end is stored.
+-- The room is 62 numbers for each span counted, and this span, counted already, has at most 62 others.
+use Prim.Native.Nat.{ℕ, _+_, _*_}
+use Rattle.table.specs.View.{startOf, endOf}
+use mathlib.Core.Path.{_≡_, refl, ap}
+use lib.ListN.{getD}
+use denote.Ref.{now}
+use Rattle.records.proofs.RowLaws.{floor-parts}
+use Rattle.records.proofs.FloorLaws.{room-order, room-inside, room-roomy, put-room, end-fits, step-floors}
+use native.Mathlib.Omega.{arith}
+use borrow.Author.Needs.{needs}
+use Rattle.records.proofs.grow.add_floors.Statement.{statement}
+use Rattle.records.proofs.grow.add_floors.Tie as tie
+
+abbrev S : tie.After-at → tie.Start
+S c = c .before .before .before .before .before .before .before .before
+
+ea : (c : tie.After-at) → c .before .before .before .before .start-of .result ≡ startOf (now (S c .args .ws)) (S c .args .m) (11 * S c .args .m) (S c .args .r)
+ea c = c .before .before .before .before .start-of .ensures .0
+
+ee : (c : tie.After-at) → c .before .before .end-of .result ≡ endOf (now (S c .args .ws)) (S c .args .m) (11 * S c .args .m) (S c .args .r)
+ee c = c .before .before .end-of .ensures .0
+
+ez : (c : tie.After-at) → c .before .before .before .before .start-of .result + 62 * c .at .result ≡ c .before .before .before .before .start-of .result + 62 * getD (now (S c .args .ws)) (S c .args .m + S c .args .r) 0
+ez c = ap (λ (x : ℕ). c .before .before .before .before .start-of .result + 62 * x) (c .at .ensures .0)
+
+mul-start-of : tie.Need-mul-start-of
+mul-start-of c = search needs
+
+start-of-requires : tie.Need-start-of-requires
+start-of-requires c κs = (floor-parts _ _ _ _ _ (c .before .before .before .pre .0), c .before .before .before .pre .1)
+
+mul-end-of : tie.Need-mul-end-of
+mul-end-of c = search needs
+
+end-of-requires : tie.Need-end-of-requires
+end-of-requires c κs = (floor-parts _ _ _ _ _ (c .before .before .before .before .before .pre .0), c .before .before .before .before .before .pre .1)
+
+add-at : tie.Need-add-at
+add-at c = search needs
+
+at-requires : tie.Need-at-requires
+at-requires c κs = search needs
+
+mul-z : tie.Need-mul-z
+mul-z c = search needs
+
+add-z : tie.Need-add-z
+add-z c = search needs
+
+mul-join : tie.Need-mul-join
+mul-join c = search needs
+
+sub-join : tie.Need-sub-join
+sub-join c = search needs
+
+part-join-start : tie.Need-part-join-start
+part-join-start c = search needs
+
+part-join-end : tie.Need-part-join-end
+part-join-end c = omega (arith, room-inside _ _ _ _ _ (S c .pre .0) _ (S c .pre .1) _ _ _ (ea c) (ee c) (ez c), S c .pre .0 .room)
+
+sub-join-2 : tie.Need-sub-join-2
+sub-join-2 c = room-order _ _ _ _ _ (S (c .before) .pre .0) _ (S (c .before) .pre .1) _ _ _ (ea (c .before)) (ee (c .before)) (ez (c .before))
+
+join-requires : tie.Need-join-requires
+join-requires c κs = let p = S (c .before) .pre in
+    room-roomy _ _ _ _ _ (p .0) _ (p .1) _ _ _ (ea (c .before)) (ee (c .before)) (ez (c .before)) _ _ _ (omega (arith, p .2, ea (c .before), ee (c .before), ez (c .before))) (p .3) (p .4) (p .5) (p .6)
+
+mul-set-part : tie.Need-mul-set-part
+mul-set-part c = search needs
+
+add-set-part : tie.Need-add-set-part
+add-set-part c = search needs
+
+set-part-requires : tie.Need-set-part-requires
+set-part-requires c κs = let j = c .before .before .before in
+    let t = j .before .before in
+    let p = S t .pre in
+    let f = end-fits _ _ _ _ _ (p .0) _ (p .1) _ _ _ (ea t) (ee t) (ez t) _ _ _ (j .join .kept .1 .0) (j .join .ensures) in
+    (put-room _ _ _ _ _ (p .0) _ (p .1) _ _ _ (ea t) (ee t) (ez t) (j .join .last .1 .0) (j .join .kept .1 .0), (p .1, f))
+
+same-length : tie.Need-same-length
+same-length c = search needs
+
+returns : tie.Need-returns
+returns c = let sp = c .before .before in
+    let j = sp .before .before .before .before in
+    let t = j .before .before in
+    let p = S t .pre in
+    step-floors _ _ _ _ _ (p .0) _ (p .1) _ _ _ (ea t) (ee t) (ez t) _ _ _ _ _ (j .join .kept .1 .0) (j .join .ensures) refl (sp .set-part .ensures) (sp .set-part .kept .0)
+
+pub add-floors-spec : {M : Type 1} → statement M
+add-floors-spec =
+    tie.close
+    (tie.spec
+    mul-start-of
+    start-of-requires
+    mul-end-of
+    end-of-requires
+    add-at
+    at-requires
+    mul-z
+    add-z
+    mul-join
+    sub-join
+    part-join-start
+    part-join-end
+    sub-join-2
+    join-requires
+    mul-set-part
+    add-set-part
+    set-part-requires
+    same-length
+    returns)

@@ -1,0 +1,54 @@
+-- The other spans of a cell, as the code goes through them.
+use mathlib.Core.Path.{_≡_}
+use mathlib.Core.Bool.{Bool, false, not}
+use mathlib.Core.List.{List, map}
+use Prim.Native.Nat.{ℕ, zero, suc, _+_, _-_, _≤_, _<_}
+use lib.ListN.{length, getD, take}
+use lib.Dec.{eqb}
+use Rattle.rules.specs.Base.{_and_, _or_, if_then_else_, keep, tab}
+use Rattle.rules.specs.Growth.{plain}
+use Rattle.rules.specs.Records.{once, onceAll}
+
+unfoldable pub twin : List ℕ → ℕ → ℕ → ℕ → Bool
+twin ids t s own = not (eqb t s) and eqb own (getD ids t 0)
+
+-- own at one of the n spans from t on, other than s
+unfoldable pub twins : List ℕ → ℕ → ℕ → ℕ → ℕ → Bool
+twins ids s own zero t = false
+twins ids s own (suc n) t = twin ids t s own or twins ids s own n (t + 1)
+
+-- the ids of the n spans from t on, other than s
+unfoldable pub othersFrom : List ℕ → ℕ → ℕ → ℕ → List ℕ
+othersFrom ids s n t = keep plain (map (λ t. getD ids t 0) (keep (λ t. not (eqb t s)) (tab n t (λ t. t))))
+
+-- span t joins
+unfoldable pub joinOne : List ℕ → ℕ → ℕ → List ℕ → List ℕ
+joinOne ids s t l = if not (eqb t s) and plain (getD ids t 0) then once l (getD ids t 0) else l
+
+-- what joining leaves: the list l, from 0 on
+pub record Joined (l : List ℕ) (len : ℕ) (part′ : List ℕ) (k : ℕ) : Type 0 where
+  pub same : take k part′ ≡ l
+  pub low : len ≤ k
+  pub high : k ≤ len + 1
+  pub within : k ≤ length part′
+
+-- the ids of the other spans of a cell join
+pub record JoinedAll (l : List ℕ) (len : ℕ) (part′ : List ℕ) (k : ℕ) : Type 0 where
+  pub same : take k part′ ≡ l
+  pub within : k ≤ length part′
+
+-- s is one of the size spans from `from` on, and there is room for the others
+pub record Roomy (ids part : List ℕ) (s from size len : ℕ) : Type 0 where
+  pub inside : from + size ≤ length ids
+  pub lower : from ≤ s
+  pub upper : s < from + size
+  pub room : len + size ≤ length part + 1
+
+-- after j of them
+pub record Joining (ids part₀ : List ℕ) (s from size len : ℕ) (part : List ℕ) (k j : ℕ) : Type 0 where
+  pub low : j ≤ size
+  pub length′ : length part ≡ length part₀
+  pub within : k ≤ length part
+  pub same : onceAll (take len part₀) (othersFrom ids s size from) ≡ onceAll (take k part) (othersFrom ids s (size - j) (from + j))
+  pub room₁ : from + j ≤ s → k + (size - j) ≤ length part + 1
+  pub room₂ : s < from + j → k + (size - j) ≤ length part

@@ -1,0 +1,34 @@
+-- New records, made one after the other from the number of spans of each id.
+use mathlib.Core.Path.{_≡_}
+use mathlib.Core.Logic.{_⊎_}
+use mathlib.Core.List.{List}
+use Prim.Native.Nat.{ℕ, _+_, _*_, _≤_, _<_}
+use lib.ListN.{length, getD, set, take}
+use lib.Dec.{eqb, ltb}
+use Rattle.rules.specs.Base.{if_then_else_, many}
+use Rattle.table.specs.View.{startOf, endOf}
+use Rattle.records.specs.Rows.{floorsAt}
+
+-- one more span of id r, if that is below m
+unfoldable pub tallyOne : ℕ → ℕ → List ℕ → List ℕ
+tallyOne m r ws = if ltb r m then set ws (m + r) (getD ws (m + r) 0 + 1) else ws
+
+-- how many of the first k spans have each id below m
+pub record Tallied (ids : List ℕ) (m k : ℕ) (ws₀ ws : List ℕ) : Type 0 where
+  pub low : k ≤ length ids
+  pub size : length ws ≡ length ws₀
+  pub counts : (i : ℕ) → i < m → getD ws (m + i) 0 ≡ many (eqb i) (take k ids)
+  pub rest : (j : ℕ) → (j < m) ⊎ (2 * m ≤ j) → getD ws j 0 ≡ getD ws₀ j 0
+
+-- the records before i are new; of the others the spans are counted
+pub record Renewed (ids : List ℕ) (m i : ℕ) (ws₀ ws : List ℕ) : Type 0 where
+  pub low : i ≤ m
+  pub size : length ws ≡ length ws₀
+  pub names : (j : ℕ) → j < i → getD ws j 0 ≡ j
+  pub empty : (j : ℕ) → j < i → getD ws (m + j) 0 ≡ 0
+  pub counts : (j : ℕ) → i ≤ j → j < m → getD ws (m + j) 0 ≡ many (eqb j) ids
+  pub lists : (j : ℕ) → j < i → (startOf ws m (7 * m) j ≡ 15 * m) × (endOf ws m (7 * m) j ≡ 15 * m)
+  pub floors : (j : ℕ) → j < i → (startOf ws m (11 * m) j ≡ floorsAt ids m j) × (endOf ws m (11 * m) j ≡ floorsAt ids m j)
+  pub columns : (j : ℕ) → 2 * m ≤ j → j < 7 * m → getD ws j 0 ≡ 0
+  pub pool : (j : ℕ) → 15 * m ≤ j → j < 15 * m + 70 * length ids → getD ws j 0 ≡ 0
+  pub after : (j : ℕ) → 15 * m + 70 * length ids ≤ j → getD ws j 0 ≡ getD ws₀ j 0

@@ -1,0 +1,5 @@
+pub mod Cell
+pub mod Rows
+pub mod Fresh
+pub mod Stock
+pub mod Build

@@ -9,3 +9,4 @@ pub mod FloodTurn
 pub mod WholeTurn
 pub mod EbbLaws
 pub mod GrowLaws
+pub mod FirstLaws

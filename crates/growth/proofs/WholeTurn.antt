@@ -16,7 +16,7 @@ use Rattle.expand.proofs.Lists.{marks-same}
 use Rattle.levels.specs.Levels.{levelsAt}
 use Rattle.growth.specs.Turns.{after, Left, Loaded, Ready, stackOf, Expanded, Washed, Between, Turned, turnAt}
 
-ids-of : (n : ℕ) (ids ws : List ℕ) → marksAt n ids ws .ids ≡ ids
+pub ids-of : (n : ℕ) (ids ws : List ℕ) → marksAt n ids ws .ids ≡ ids
 unfolding marksAt
 ids-of n ids ws = refl
 

@@ -1,4 +1,4 @@
--- After the turns the stacks are zeroed, and the last expansion gives the rule's marks (GrowLaws). Assumes nothing.
+-- After the turns the level stacks are zeroed, and the last expansion gives the rule's marks (GrowLaws). Assumes nothing.
 use Prim.Native.Nat.{_+_, _/_, _%_}
 use mathlib.Core.Path.{_≡_}
 use native.Mathlib.Omega.{arith}
@@ -12,7 +12,7 @@ use Rattle.growth.proofs.grow.grow_painted.Tie as tie
 abbrev S : tie.After-turns → tie.Start
 S c = c .before .before .before .before .before .before .before .before .before
 
-abbrev T : tie.After-clear-stacks → tie.After-turns
+abbrev T : tie.After-clear-part → tie.After-turns
 T c = c .before .before .before .before .before .before
 
 -- the number of turns
@@ -25,8 +25,11 @@ add-count c = search needs
 turns-requires : tie.Need-turns-requires
 turns-requires c κs = search needs
 
-clear-stacks-requires : tie.Need-clear-stacks-requires
-clear-stacks-requires c κs = search needs
+mul-clear-part : tie.Need-mul-clear-part
+mul-clear-part c = search needs
+
+clear-part-requires : tie.Need-clear-part-requires
+clear-part-requires c κs = search needs
 
 mul-expand-last : tie.Need-mul-expand-last
 mul-expand-last c = search needs
@@ -36,8 +39,8 @@ expand-last-requires c κs =
     let k = c .before .before .before .before in
     let t = T k in
     let s = S t in (
-      some-last _ _ _ _ _ _ _ _ _ _ (s .pre .0) _ (counted s) _ _ _ (t .turns .kept .1 .1 .1 .1 .1 .1 .0) (t .turns .ensures) _ (k .clear-stacks .kept .0) (k .clear-stacks .ensures .0) (k .clear-stacks .ensures .1),
-      last-ready _ _ _ _ _ _ _ _ _ _ (s .pre .0) _ (counted s) _ _ _ (t .turns .kept .1 .1 .1 .1 .1 .1 .0) (t .turns .ensures) _ (k .clear-stacks .kept .0) (k .clear-stacks .ensures .0) (k .clear-stacks .ensures .1),
+      some-last _ _ _ _ _ _ _ _ _ _ (s .pre .0) _ (counted s) _ _ _ (t .turns .kept .1 .1 .1 .1 .1 .1 .0) (t .turns .ensures) _ (k .clear-part .kept .0) (k .clear-part .ensures .0) (k .clear-part .ensures .1),
+      last-ready _ _ _ _ _ _ _ _ _ _ (s .pre .0) _ (counted s) _ _ _ (t .turns .kept .1 .1 .1 .1 .1 .1 .0) (t .turns .ensures) _ (k .clear-part .kept .0) (k .clear-part .ensures .0) (k .clear-part .ensures .1),
     )
 
 same-length : tie.Need-same-length
@@ -52,7 +55,7 @@ returns c =
     let k = x .before .before .before .before .before in
     let t = T k in
     let s = S t in
-    grew _ _ _ _ _ _ _ _ _ _ (s .pre .0) _ (counted s) _ _ _ (t .turns .kept .1 .1 .1 .1 .1 .1 .0) (t .turns .ensures) _ (k .clear-stacks .kept .0) (k .clear-stacks .ensures .0) (k .clear-stacks .ensures .1)
+    grew _ _ _ _ _ _ _ _ _ _ (s .pre .0) _ (counted s) _ _ _ (t .turns .kept .1 .1 .1 .1 .1 .1 .0) (t .turns .ensures) _ (k .clear-part .kept .0) (k .clear-part .ensures .0) (k .clear-part .ensures .1)
     _ _ (x .expand-last .ensures .0) (x .expand-last .ensures .1 .1 .0)
 
 pub grow-painted-spec : {M : Type 1} → statement M
@@ -61,7 +64,8 @@ grow-painted-spec =
     (tie.spec
     add-count
     turns-requires
-    clear-stacks-requires
+    mul-clear-part
+    clear-part-requires
     mul-expand-last
     expand-last-requires
     same-length

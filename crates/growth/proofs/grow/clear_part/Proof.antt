@@ -2,11 +2,8 @@
 use native.Mathlib.Omega.{arith}
 use borrow.Author.Needs.{needs}
 use Rattle.growth.proofs.GrowLaws.{part-clear, part-frame}
-use Rattle.growth.proofs.grow.clear_stacks.Statement.{statement}
-use Rattle.growth.proofs.grow.clear_stacks.Tie as tie
-
-mul-end : tie.Need-mul-end
-mul-end c = search needs
+use Rattle.growth.proofs.grow.clear_part.Statement.{statement}
+use Rattle.growth.proofs.grow.clear_part.Tie as tie
 
 mul-clear : tie.Need-mul-clear
 mul-clear c = search needs
@@ -30,13 +27,12 @@ returns : tie.Need-returns
 returns c =
     let l = c .before .before in
     let s = l .before .before .before in
-    (part-clear _ _ _ _ (omega arith) (s .pre .1) (l .clear .ensures), part-frame _ _ _ _ (omega arith) (s .pre .1) (l .clear .ensures))
+    (part-clear _ _ _ _ (s .pre .0) (s .pre .1) (l .clear .ensures), part-frame _ _ _ _ (s .pre .0) (s .pre .1) (l .clear .ensures))
 
-pub clear-stacks-spec : {M : Type 1} → statement M
-clear-stacks-spec =
+pub clear-part-spec : {M : Type 1} → statement M
+clear-part-spec =
     tie.close
     (tie.spec
-    mul-end
     mul-clear
     sub-clear
     part-clear-start

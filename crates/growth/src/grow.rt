@@ -61,7 +61,7 @@ pub fn grow(
     max_distance: u16,
     border_size: u16,
 ) -> u16
-    requires { ⌜ Poised w h (now index) (now count) (now area) (now con) b (now ids) (now ws) × (length (now dist) ≡ length (now area)) × Bytes (now area) ⌝ }
+    requires { ⌜ Poised w h (now index) (now count) (now area) (now con) b (now ids) (now ws) × (length (now dist) ≡ length (now area)) ⌝ }
     ensures { λ r. ⌜ Full (lent w h (now (index .entry)) (now (count .entry)) (now (area .entry)) (now (con .entry))) (now (dist .entry)) «max_distance» «border_size» b (now (ws .entry)) r (now (ids .exit)) (now (ws .exit)) ⌝ }
 {
     let n = area.len();

@@ -38,7 +38,7 @@ grow-painted-requires c κs =
       between-first _ _ _ _ _ _ (now (s .args .dist)) _ (s .args .max-distance) _ _ _ (s .pre .0) _ (p .paint-border .ensures .1) _ (p .paint-border .ensures .0) _
           (k .fill-cells .ensures .0) (k .fill-cells .ensures .1) (k .fill-cells .kept .1 .1 .0),
       s .pre .1,
-      s .pre .2,
+      record { byte = λ i l. omega (arith, p .before .before .before .before .before .before .shared-slice-known3 .given i) },
     )
 
 clear-part-requires : tie.Need-clear-part-requires

@@ -110,7 +110,7 @@ module _ (l : List ℕ) (i : ℕ) (e : listsFlagged l ≡ listsFlagged (drop i l
   unfolding listsFlagged any
   list-none h = sym (e ∙ rw (drop-of-length-le l h) refl)
 
--- ---- is it small?
+-- ---- whether it is small
 
 module _ (least t : ℕ) (rs : List Rec) (l : List ℕ) (q : t ≡ total rs l) where
   pub large : least ≤ t → false ≡ small least rs l

@@ -139,7 +139,7 @@ pub const LAYERS_CON: [u8; 80] = [
 ];
 
 // 0, 1, 2, ..
-pub fn count_up(l: &mut [u32])
+pub(crate) fn count_up(l: &mut [u32])
     requires { ⌜ length (now l) ≤ 4294967295 ⌝ }
 {
     for i in 0..l.len() {

@@ -110,7 +110,7 @@ fn lend(
 }
 
 // A call that is lent lists of so many 7s for the distances, at most 32,001.
-pub fn run(
+pub(crate) fn run(
     name: &[u8],
     w: u16,
     h: u16,

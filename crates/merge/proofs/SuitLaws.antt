@@ -74,7 +74,7 @@ floors-below ws m s t i l h g e =
     let p : Below m l = rw e (h .floored i g) in
     record { below = λ x w. omega (arith, p .below x w, h .floors .room, h .floors .past) }
 
--- ---- may a take b?
+-- ---- whether a may take b
 
 -- the ids that a floor is looked up in: m of them are enough
 any-agrees : (m b : ℕ) (ids ids′ : List ℕ) → ((f : ℕ) → f < m → getD ids f 0 ≡ getD ids′ f 0) → (l : List ℕ) → Below m l → any (floorIs ids b) l ≡ any (floorIs ids′ b) l

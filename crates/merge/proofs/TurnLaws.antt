@@ -22,7 +22,7 @@ use Rattle.pool.specs.Pool.{lenAt, Pool, Listed}
 use Rattle.pool.proofs.PartLaws.{place-all, place-some}
 use Rattle.pool.proofs.MergeLaws.{oneF, pickF, firstPick, pick-rep, round-alike, round-falls, owners, owners-most}
 
--- ---- may it be merged?
+-- ---- whether it may be merged
 
 pub border-yes : (l : List ℕ) (k : ℕ) → k ≡ place l 0 → k < length l → true ≡ any (eqb 0) l
 border-yes l k e h = sym (place-some l 0 (λ q. omega arith))
@@ -90,7 +90,7 @@ module _ (ws : List ℕ) (m area i : ℕ) where
           may-inner z =
               may-else _ _ _ _ (ne-eqb _ 0 n) (rw (eq-eqb (getD ws (3 * m + i) 0) 0 o) refl) (ne-eqb _ 0 c) (and-right _ _ (lt-ltb area (getD ws (m + i) 0) h) (sym lone ∙ z))
 
--- ---- does each list the other?
+-- ---- whether each lists the other
 
 pub place-is : (ws l : List ℕ) (m i r k : ℕ) → l ≡ listAt ws m (7 * m) i → k ≡ place l r → k ≡ place (listAt ws m (7 * m) i) r
 place-is ws l m i r k q e = e ∙ ap (λ (x : List ℕ). place x r) q

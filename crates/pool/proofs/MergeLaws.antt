@@ -468,7 +468,7 @@ picked-chosen fs i [] h p c = c
 picked-chosen fs i (r ∷ l) h p c =
     picked-chosen fs i l (λ q w. h q (has-later r l q w)) (pickOne fs (at fs i) r (at fs r) p) (pick-chosen fs i r p (h r (has-first r l r refl)) c)
 
--- no merge?
+-- whether nothing is merged
 pub condOf : ℕ → ℕ → ℕ → ℕ → Bool → Bool → Bool → Bool → Bool
 condOf area id count pid over lone there back = eqb id 0 or over or eqb count 0 or (ltb area count and lone) or eqb pid id or not (there and back)
 

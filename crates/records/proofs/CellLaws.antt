@@ -68,7 +68,7 @@ module _ (ids : List ℕ) (s own : ℕ) (pl : plain own ≡ true) where
       if-ind2 true h e = absurd (h refl)
       if-ind2 false h e = e
 
--- ---------------------------------------------------------------- is it listed?
+-- ---------------------------------------------------------------- whether it is listed
 
 sec-cons : (l : List ℕ) (i n : ℕ) → i < n → n ≤ length l → sec i (n - i) l ≡ getD l i 0 ∷ sec (i + 1) (n - (i + 1)) l
 sec-cons l i n h g =

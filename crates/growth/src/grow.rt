@@ -15,7 +15,7 @@ ghost use Rattle.growth.specs.Turns.{Bytes, Between};
 ghost use Rattle.growth.specs.Grow.{Grew, Poised, Full};
 
 // Zeros at from .. to.
-fn clear_part(ws: &mut [u16], from: usize, to: usize)
+pub fn clear_part(ws: &mut [u16], from: usize, to: usize)
     requires { ⌜ (from ≤ to) × (to ≤ length (now ws)) ⌝ }
     ensures { λ _. ⌜ Clear from to (now (ws .exit)) × Frame from to (now (ws .entry)) (now (ws .exit)) ⌝ }
 {

@@ -25,7 +25,7 @@ use Rattle.watershed.specs.declared.DistanceAnswer.{DistanceAnswer}
 use Rattle.watershed.specs.declared.DistanceAnswer.the-variants.{Refused, Done}
 use Rattle.watershed.specs.Answer.{refusedBy, mostIn, Answers}
 
-number-pos : (r : Refusal) → 0 < numberOf r
+pub number-pos : (r : Refusal) → 0 < numberOf r
 number-pos TooWide = omega arith
 number-pos TooMany = omega arith
 number-pos WrongLength = omega arith

@@ -2,10 +2,12 @@
 use Prim.Native.Nat.{ℕ}
 use mathlib.Core.Path.{_≡_}
 use mathlib.Core.List.{List}
-use Rattle.rules.specs.Outcomes.{DistanceOutcome}
+use Rattle.rules.specs.Outcomes.{DistanceOutcome, RegionOutcome}
 use Rattle.field.specs.Answer.{numberOf}
 use Rattle.watershed.specs.declared.DistanceAnswer.{DistanceAnswer}
 use Rattle.watershed.specs.declared.DistanceAnswer.the-variants.{Refused, Done}
+use Rattle.watershed.specs.declared.regions.RegionAnswer.{RegionAnswer}
+use Rattle.watershed.specs.declared.regions.RegionAnswer.the-variants as region
 
 -- the refusal number, 0 for none
 abbrev pub refusedBy : DistanceAnswer → ℕ
@@ -23,3 +25,24 @@ pub record Answers (o : DistanceOutcome) (r : DistanceAnswer) (l m : List ℕ) :
   pub most : mostIn r ≡ o .most
   pub raw : l ≡ o .raw
   pub blurred : m ≡ o .blurred
+
+-- the same of the region entry's answer: the refusal number, max_region, the overlap count
+abbrev pub regionsRefusedBy : RegionAnswer → ℕ
+regionsRefusedBy (region.Refused r) = numberOf r
+regionsRefusedBy (region.Done m o) = 0
+
+abbrev pub maxRegionIn : RegionAnswer → ℕ
+maxRegionIn (region.Refused r) = 0
+maxRegionIn (region.Done m o) = m
+
+abbrev pub overlapsIn : RegionAnswer → ℕ
+overlapsIn (region.Refused r) = 0
+overlapsIn (region.Done m o) = o
+
+-- an answer, with ws the workspace and l the ids at exit, is the outcome
+pub record AnswersRegions (o : RegionOutcome) (r : RegionAnswer) (ws l : List ℕ) : Type 0 where
+  pub refused : regionsRefusedBy r ≡ o .refused
+  pub most : maxRegionIn r ≡ o .most
+  pub over : overlapsIn r ≡ o .over
+  pub workspace : ws ≡ o .workspace
+  pub ids : l ≡ o .ids

@@ -1,4 +1,8 @@
 // The public entries.
+mod regions;
+
+pub use crate::regions::RegionAnswer;
+pub use crate::regions::build_regions;
 use distance::blur::box_blur;
 use distance::blur::greatest;
 use distance::distances::calculate_distance_field;

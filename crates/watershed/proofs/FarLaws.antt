@@ -1,0 +1,74 @@
+-- Refusals 7 and 8 as the code tests for them: a list of distances read to its end, and the order of the tests.
+-- Each test that fails gives its number, after those before it have passed.
+use Prim.Native.Nat.{ℕ, _+_, _*_, _≤_, _<_}
+use native.Mathlib.Omega.{arith}
+use mathlib.Core.Path.{_≡_, refl, sym, ap, _∙_}
+use mathlib.Core.Bool.{Bool, true, false}
+use mathlib.Core.List.{List, [], _∷_}
+use lib.ListN.{length, getD, drop, drop-of-length-le}
+use lib.Seq.{drop-cons}
+use lib.Dec.{ltb, eqb}
+use borrow.Author.Tests.{lt-ltb, le-ltb, eq-eqb, ne-eqb}
+use Rattle.rules.specs.Base.{_or_, if_then_else_, any}
+use Rattle.rules.specs.Field.{Field, spans}
+use Rattle.rules.specs.Refusals.{refusal, tooShort, tooFar, regionRefusal}
+use native.Mathlib.Numerals.{add-one}
+use Rattle.field.specs.Answer.{numberOf, verdictNumber}
+use Rattle.field.specs.declared.checker.Refusal.{Refusal}
+use Rattle.field.specs.declared.checker.Verdict.{Verdict}
+use Rattle.field.specs.declared.checker.Verdict.the-variants as verdict
+use Rattle.watershed.proofs.Outcome.{number-pos}
+
+-- ---------------------------------------------------------------- a distance above
+
+module _ (l : List ℕ) (most i : ℕ) (e : any (ltb most) l ≡ any (ltb most) (drop i l)) where
+  above-more : i < length l → any (ltb most) (drop i l) ≡ (ltb most (getD l i 0) or any (ltb most) (drop (i + 1) l))
+  unfolding any
+  above-more h = rw (drop-cons l i 0 h, add-one i)
+
+  pub above-here : i < length l → most < getD l i 0 → true ≡ any (ltb most) l
+  unfolding _or_
+  above-here h g = sym (e ∙ above-more h ∙ rw (lt-ltb most (getD l i 0) g) refl)
+
+  pub above-next : i < length l → getD l i 0 ≤ most → any (ltb most) l ≡ any (ltb most) (drop (i + 1) l)
+  unfolding _or_
+  above-next h g = e ∙ above-more h ∙ rw (le-ltb most (getD l i 0) g) refl
+
+  pub above-none : length l ≤ i → false ≡ any (ltb most) l
+  unfolding any
+  above-none h = sym (e ∙ rw (drop-of-length-le l h) refl)
+
+module _ (dist : List ℕ) (most : ℕ) where
+  pub far-most : 510 < most → true ≡ tooFar dist most
+  unfolding tooFar _or_
+  far-most h = rw (lt-ltb 510 most h)
+
+  pub far-any : most ≤ 510 → (r : Bool) → r ≡ any (ltb most) dist → r ≡ tooFar dist most
+  unfolding tooFar _or_
+  far-any h r e = rw (le-ltb 510 most h) e
+
+-- ---------------------------------------------------------------- the order
+
+module _ (F : Field) (lens : List ℕ) (work : ℕ) (dist : List ℕ) (most : ℕ) (v : Verdict) (e : verdictNumber v ≡ refusal F lens) where
+  pub first-refused : (r : Refusal) → v ≡ verdict.Refused r → numberOf r ≡ regionRefusal F lens work dist most
+  unfolding regionRefusal if_then_else_
+  first-refused r z =
+      let n : numberOf r ≡ refusal F lens = ap verdictNumber (sym z) ∙ e in
+      rw (ne-eqb (refusal F lens) 0 (λ k. omega (arith, number-pos r))) n
+
+  module _ (z : v ≡ verdict.Sound) where
+    none : eqb (refusal F lens) 0 ≡ true
+    none = eq-eqb (refusal F lens) 0 (sym e ∙ ap verdictNumber z)
+
+    pub then-short : work < 128 * spans F + 4096 → 7 ≡ regionRefusal F lens work dist most
+    unfolding regionRefusal if_then_else_ tooShort
+    then-short h = rw (none, lt-ltb work (128 * spans F + 4096) h)
+
+    module _ (h : 128 * spans F + 4096 ≤ work) where
+      pub then-far : (r : Bool) → r ≡ tooFar dist most → r ≡ true → 8 ≡ regionRefusal F lens work dist most
+      unfolding regionRefusal if_then_else_ tooShort
+      then-far r p q = rw (none, le-ltb work (128 * spans F + 4096) h, ← p, q)
+
+      pub then-none : (r : Bool) → r ≡ tooFar dist most → r ≡ false → 0 ≡ regionRefusal F lens work dist most
+      unfolding regionRefusal if_then_else_ tooShort
+      then-none r p q = rw (none, le-ltb work (128 * spans F + 4096) h, ← p, q)

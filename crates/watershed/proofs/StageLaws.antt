@@ -1,0 +1,117 @@
+-- The region entry's stages one after the other: what each leaves is what the next asks, and what the last gives is the rule's.
+-- The records come before place b, whatever the next id is: it is at most 5 and the number of spans.
+use Prim.Native.Nat.{ℕ, suc, _+_, _*_, _≤_, _<_}
+use native.Mathlib.Omega.{arith}
+use native.Mathlib.Decide.{ℕ-discrete}
+use mathlib.Core.Path.{_≡_, refl, sym, ap, _∙_}
+use mathlib.Core.Bool.{true}
+use mathlib.Core.List.{List}
+use lib.ListN.{length, getD, replicate, length-replicate}
+use Rattle.rules.specs.Field.{Field, spans, areaOf}
+use Rattle.rules.specs.Growth.{plain, firstId, grown}
+use Rattle.rules.specs.Records.{Rec, records}
+use Rattle.rules.specs.Filter.{filtered}
+use Rattle.rules.specs.Merge.{merged}
+use Rattle.rules.specs.Numbering.{Regions, numbered, regions}
+use Rattle.laws.proofs.Grows.{first-few, grown-next}
+use Rattle.laws.proofs.Lengths.{records-length, filtered-length}
+use Rattle.rooms.proofs.Joins.{plain-true}
+use Rattle.rooms.proofs.Growing.{grown-grow}
+use Rattle.space.proofs.Laws.{getD-any}
+use Rattle.field.specs.Lent.{Sound, Reached, lent}
+use Rattle.field.proofs.Refused.{sound-reached}
+use Rattle.flood.specs.Site.{Lent}
+use Rattle.expand.specs.Layout.{Clear}
+use Rattle.growth.specs.Grow.{Poised, Full}
+use Rattle.table.specs.View.{recsOf}
+use Rattle.records.specs.Stock.{Given, SomeGiven, Blank, Built}
+use Rattle.numbering.specs.Number.{Spans}
+use Rattle.merge.specs.Ready.{Ready}
+use Rattle.watershed.specs.Stages.{Admitted}
+use Rattle.watershed.proofs.Handover.{handed}
+
+module _ (w h : ℕ) (is ks ar cs dist ws ids : List ℕ) (a : Admitted (lent w h is ks ar cs) dist ws ids) where
+  few : length ar ≤ 32000
+  few = sound-reached (lent w h is ks ar cs) (a .sound) .celled .few
+
+  -- ids and the workspace before b are zeros
+  pub poised : (ids₁ ws₁ : List ℕ) → ids₁ ≡ replicate (length ids) 0 → length ws₁ ≡ length ws → Clear 0 (85 * length ar + 90) ws₁
+      → Poised w h is ks ar cs (85 * length ar + 90) ids₁ ws₁
+  poised ids₁ ws₁ e n z = record {
+    sound = a .sound;
+    past = omega arith;
+    near = omega (arith, few);
+    room = omega (arith, n, a .room);
+    none = e ∙ ap (λ (k : ℕ). replicate k 0) (a .idents);
+    clear = z;
+  }
+
+  -- after growth
+  module _ (bytes : (i : ℕ) → getD ar i 0 < 256) (most border : ℕ) (ws₁ : List ℕ) (n₁ : length ws₁ ≡ length ws) (next : ℕ) (ids₂ ws₂ : List ℕ)
+      (f : Full (lent w h is ks ar cs) dist most border (85 * length ar + 90) ws₁ next ids₂ ws₂) (n₂ : length ws₂ ≡ length ws₁) where
+    byte : (s : ℕ) → s < spans (lent w h is ks ar cs) → areaOf (lent w h is ks ar cs) s < 256
+    unfolding areaOf
+    byte s l = rw (getD-any ar s 256 0 l) (bytes s)
+
+    size : length ids₂ ≡ length ar
+    size = ap length (f .ids) ∙ grown-grow (lent w h is ks ar cs) dist most border byte few .size
+
+    pub next-few : next + 1 ≤ length ids₂ + 6
+    next-few = omega (arith, f .id, size, first-few border .1, grown-next (lent w h is ks ar cs) dist most border byte few)
+
+    named : Spans (next + 1) ids₂
+    named = record {
+      below = λ x l. elim (ℕ-discrete (getD ids₂ x 0) 0) [
+        | yes e ↦ omega (arith, e)
+        | no e ↦
+            let r = grown-grow (lent w h is ks ar cs) dist most border byte few .range (getD ids₂ x 0) x (omega (arith, e), l) (ap (λ (y : List ℕ). getD y x 0) (sym (f .ids))) in
+            omega (arith, r .1, f .id)
+      ]
+    }
+
+    pub given : Given (lent w h is ks ar cs) w is ks ar cs ids₂ (85 * length ar + 90) ws₂
+    given = record {
+      sound = a .sound;
+      lent = record {
+        reached = sound-reached (lent w h is ks ar cs) (a .sound);
+        wide = refl;
+        indexed = refl;
+        areas = refl;
+        linked = refl;
+        cells = f .cells;
+        room = omega (arith, n₁, n₂, a .room);
+        near = omega (arith, few);
+      };
+      counted = refl;
+      idents = size;
+    }
+
+    pub some-given : SomeGiven w is ks ar cs ids₂ (85 * length ar + 90) ws₂
+    some-given = record { F = lent w h is ks ar cs; given = given }
+
+    pub blank : Blank ids₂ (next + 1) (85 * length ar + 90) ws₂
+    blank = record {
+      few = omega (arith, next-few, size, few);
+      spans = omega (arith, size, few);
+      room = omega (arith, next-few, size);
+      inside = omega (arith, n₁, n₂, a .room);
+      below = λ x e. named .below x (plain-true _ e .1);
+      zeros = λ j l. f .clear .blank j (omega arith) (omega (arith, next-few, size));
+    }
+
+    -- after the records
+    module _ (ws₃ : List ℕ) (B : Built w is ks ar cs ids₂ (85 * length ar + 90) next ws₂ ws₃) where
+      pub ready : Ready (next + 1) (length ar) ws₃ ids₂
+      ready =
+          rw (← size)
+          (handed (lent w h is ks ar cs) w is ks ar cs ids₂ (85 * length ar + 90) next ws₂ ws₃ given B next-few (omega (arith, size, few))
+          (omega (arith, next-few, size, B .size, n₁, n₂, a .room)) named)
+
+      -- and after the numbering
+      pub whole : (least area : ℕ) (v : Regions) → v ≡ numbered (merged area (suc (next + 1)) (filtered least (recsOf ws₃ (next + 1)))) ids₂
+          → v ≡ regions (lent w h is ks ar cs) least area (grown (lent w h is ks ar cs) dist most border .ids) (grown (lent w h is ks ar cs) dist most border .next)
+      unfolding regions
+      whole least area v e =
+          let rs = filtered least (records (lent w h is ks ar cs) ids₂ next) in
+          let m : suc (next + 1) ≡ suc (length rs) = omega (arith, filtered-length least (records (lent w h is ks ar cs) ids₂ next), records-length (lent w h is ks ar cs) ids₂ next) in
+          e ∙ rw (B .same _ given, m, f .ids, f .id)

@@ -1,0 +1,13 @@
+-- What refusals 1 to 8 leave to the stages of the region entry.
+use Prim.Native.Nat.{ℕ, _+_, _*_, _≤_}
+use mathlib.Core.Path.{_≡_}
+use mathlib.Core.List.{List}
+use lib.ListN.{length}
+use Rattle.rules.specs.Field.{Field, spans}
+use Rattle.field.specs.Lent.{Sound}
+
+pub record Admitted (F : Field) (dist ws ids : List ℕ) : Type 0 where
+  pub sound : Sound F
+  pub distances : length dist ≡ spans F
+  pub idents : length ids ≡ spans F
+  pub room : 128 * spans F + 4096 ≤ length ws

@@ -1,0 +1,167 @@
+// The region entry.
+use field::checker::Refusal;
+use field::checker::Verdict;
+use field::checker::check;
+use growth::grow::clear_part;
+use growth::grow::grow;
+use merge::merge_and_filter_regions;
+use numbering::Regions;
+use records::build::build_records;
+use space::clear;
+ghost use mathlib.Core.Path.{_≡_};
+ghost use mathlib.Core.List.{[], _∷_};
+ghost use Prim.Native.Nat.{_+_, _*_, _≤_};
+ghost use lib.ListN.{length, replicate};
+ghost use lib.Dec.{ltb};
+ghost use Rattle.rules.specs.Base.{any};
+ghost use Rattle.rules.specs.Refusals.{tooFar, regionRefusal};
+ghost use Rattle.rules.specs.Growth.{grown};
+ghost use Rattle.rules.specs.Numbering.{regions};
+ghost use Rattle.rules.specs.Outcomes.{regionOutcome};
+ghost use Rattle.field.specs.Lent.{lent};
+ghost use Rattle.field.specs.Answer.{verdictNumber};
+ghost use Rattle.watershed.specs.Answer.{AnswersRegions};
+ghost use Rattle.watershed.specs.Stages.{Admitted};
+
+// What the region entry gives: the refusal, or max_region and the overlap count.
+pub enum RegionAnswer {
+    Refused(Refusal),
+    Done(u16, u16),
+}
+
+fn any_above(dist: &[u16], most: u16) -> bool
+    ensures { λ r. ⌜ r ≡ any (ltb most) (now (dist .entry)) ⌝ }
+{
+    let mut i = 0;
+    while i < dist.len() {
+        if most < dist[i] {
+            return true;
+        }
+        i += 1;
+    }
+    false
+}
+
+// Refusal 8.
+fn too_far(dist: &[u16], max_distance: u16) -> bool
+    ensures { λ r. ⌜ r ≡ tooFar (now (dist .entry)) «max_distance» ⌝ }
+{
+    if 510 < max_distance {
+        return true;
+    }
+    any_above(dist, max_distance)
+}
+
+// The first of refusals 1 to 8 that applies; work and own are the lengths of the workspace and of the list of ids.
+fn check_regions(
+    w: usize,
+    h: usize,
+    index: &[u32],
+    count: &[u8],
+    area: &[u8],
+    con: &[u8],
+    dist: &[u16],
+    max_distance: u16,
+    work: usize,
+    own: usize,
+) -> Verdict
+    ensures { λ r. ⌜ verdictNumber r ≡ regionRefusal (lent w h (now (index .entry)) (now (count .entry)) (now (area .entry)) (now (con .entry))) (length (now (dist .entry)) ∷ own ∷ []) work (now (dist .entry)) «max_distance» ⌝ }
+{
+    match check(w, h, index, count, area, con, dist.len(), own) {
+        Verdict::Refused(r) => Verdict::Refused(r),
+        Verdict::Sound => {
+            if work < 128 * area.len() + 4096 {
+                return Verdict::Refused(Refusal::TooShort);
+            }
+            if too_far(dist, max_distance) {
+                return Verdict::Refused(Refusal::TooFar);
+            }
+            Verdict::Sound
+        }
+    }
+}
+
+// The regions of a field that is not refused. The places of the spans' cells come after the most that the records take: 15 numbers for each of at
+// most n + 6, and 70 for each span.
+fn find_regions(
+    w: usize,
+    h: usize,
+    index: &[u32],
+    count: &[u8],
+    area: &[u8],
+    con: &[u8],
+    dist: &[u16],
+    max_distance: u16,
+    border_size: u16,
+    min_region_area: u16,
+    merge_region_area: u16,
+    ws: &mut [u16],
+    ids: &mut [u16],
+) -> Regions
+    requires { ⌜ Admitted (lent w h (now index) (now count) (now area) (now con)) (now dist) (now ws) (now ids) ⌝ }
+    ensures { λ r. ⌜ (let g = grown (lent w h (now (index .entry)) (now (count .entry)) (now (area .entry)) (now (con .entry))) (now (dist .entry)) «max_distance» «border_size» in record { ids = now (ids .exit); most = r .«max_region»; over = r .overlaps } ≡ regions (lent w h (now (index .entry)) (now (count .entry)) (now (area .entry)) (now (con .entry))) «min_region_area» «merge_region_area» (g .ids) (g .next)) × (now (ws .exit) ≡ replicate (length (now (ws .entry))) 0) ⌝ }
+{
+    let n = area.len();
+    let b = 85 * n + 90;
+    clear(ids);
+    clear_part(ws, 0, b);
+    let next = grow(w, h, index, count, area, con, dist, ids, ws, b, max_distance, border_size) as usize;
+    build_records(w, index, count, area, con, ids, ws, b, next);
+    let r = merge_and_filter_regions(ws, ids, next + 1, n, min_region_area, merge_region_area);
+    clear(ws);
+    r
+}
+
+// Ids of the regions of any lists: a field that is refused leaves ids and workspace as they were.
+pub fn build_regions(
+    w: u16,
+    h: u16,
+    index: &[u32],
+    count: &[u8],
+    area: &[u8],
+    con: &[u8],
+    dist: &[u16],
+    max_distance: u16,
+    border_size: u16,
+    min_region_area: u16,
+    merge_region_area: u16,
+    workspace: &mut [u16],
+    ids: &mut [u16],
+) -> RegionAnswer
+    ensures { λ r. ⌜ AnswersRegions (regionOutcome (lent w h (now (index .entry)) (now (count .entry)) (now (area .entry)) (now (con .entry))) (now (dist .entry)) «max_distance» (record { border = «border_size»; least = «min_region_area»; merge = «merge_region_area» }) (now (workspace .entry)) (now (ids .entry))) r (now (workspace .exit)) (now (ids .exit)) ⌝ }
+{
+    let width = w as usize;
+    let height = h as usize;
+    match check_regions(
+        width,
+        height,
+        index,
+        count,
+        area,
+        con,
+        dist,
+        max_distance,
+        workspace.len(),
+        ids.len(),
+    ) {
+        Verdict::Refused(r) => RegionAnswer::Refused(r),
+        Verdict::Sound => {
+            let r = find_regions(
+                width,
+                height,
+                index,
+                count,
+                area,
+                con,
+                dist,
+                max_distance,
+                border_size,
+                min_region_area,
+                merge_region_area,
+                workspace,
+                ids,
+            );
+            RegionAnswer::Done(r.max_region, r.overlaps)
+        }
+    }
+}

@@ -1,0 +1,16 @@
+-- Sums over the first k numbers: term by term at most, the same, or so many times as much.
+-- The spans of the first k ids, each counted once, are no more than all spans.
+use Prim.Native.Nat.{ℕ, zero, suc, _+_, _*_, _≤_, _<_}
+use native.Mathlib.Omega.{arith}
+use mathlib.Core.Path.{_≡_, refl}
+use Rattle.laws.specs.Sums.{sumTo}
+
+pub sum-le : (f g : ℕ → ℕ) (k : ℕ) → ((x : ℕ) → x < k → g x ≤ f x) → sumTo g k ≤ sumTo f k
+unfolding sumTo
+sum-le f g zero h = omega arith
+sum-le f g (suc k) h = omega (arith, h k (omega arith), sum-le f g k (λ x l. h x (omega arith)))
+
+pub sum-same : (f g : ℕ → ℕ) (k : ℕ) → ((x : ℕ) → x < k → f x ≡ g x) → sumTo f k ≡ sumTo g k
+unfolding sumTo
+sum-same f g zero h = refl
+sum-same f g (suc k) h = omega (arith, h k (omega arith), sum-same f g k (λ x l. h x (omega arith)))

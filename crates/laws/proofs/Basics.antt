@@ -138,6 +138,11 @@ unfolding keep
 keep-all P p [] h = tt
 keep-all P p (x ∷ xs) h = if-ind (All P) (p x) (λ _. (h .0, keep-all P p xs (h .1))) (λ _. keep-all P p xs (h .1))
 
+pub keep-length : (p : ℕ → Bool) (xs : List ℕ) → length (keep p xs) ≤ length xs
+unfolding keep
+keep-length p [] = le-refl 0
+keep-length p (x ∷ xs) = let h = keep-length p xs in if-ind (λ (l : List ℕ). length l ≤ suc (length xs)) (p x) (λ _. omega arith) (λ _. omega arith)
+
 pub append-all : (P : ℕ → Type 0) (xs ys : List ℕ) → All P xs → All P ys → All P (xs ++ ys)
 append-all P [] ys h g = g
 append-all P (x ∷ xs) ys h g = (h .0, append-all P xs ys (h .1) g)

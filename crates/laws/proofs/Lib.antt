@@ -1,6 +1,7 @@
 -- Theorems about the rules alone, with no program logic: the definitions' fuel is never seen, ids and sums have room, lengths are kept.
 -- They assume nothing but what each states; Basics holds the laws that no one rule owns.
 pub mod Basics
+pub mod Sums
 pub mod Lengths
 pub mod Cells
 pub mod Passes

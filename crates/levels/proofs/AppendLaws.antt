@@ -13,10 +13,10 @@ use borrow.Author.Tests.{eq-eqb, ne-eqb}
 use Rattle.rules.specs.Base.{_and_, keep}
 use Rattle.rules.specs.Field.{none}
 use Rattle.rules.specs.Growth.{Marks, remains}
-use Rattle.laws.proofs.Basics.{All, and-no}
+use Rattle.laws.proofs.Basics.{All, and-no, keep-length}
 use Rattle.levels.specs.Levels.{levelsAt, Fills, joined, Stacked, left, Moved}
 use Rattle.levels.proofs.LevelLaws.{fill-is, entry-is, moved-none, moved-then}
-use Rattle.levels.proofs.CarryLaws.{joined-none, joined-joined, keep-length, stacked-room, stacked-append}
+use Rattle.levels.proofs.CarryLaws.{joined-none, joined-joined, stacked-room, stacked-append}
 use Rattle.levels.proofs.SortLaws.{keep-append, keep-one, keep-no}
 
 -- ---------------------------------------------------------------- one entry

@@ -4,14 +4,13 @@ use Prim.Native.Nat.{ℕ, zero, suc, _+_, _-_, _≤_, _<_}
 use native.Mathlib.Omega.{arith}
 use native.Mathlib.Nat.{le-refl}
 use mathlib.Core.Path.{_≡_, refl, _∙_}
-use mathlib.Core.Bool.{Bool}
 use mathlib.Core.List.{List, [], _∷_, _++_, append-nil, append-assoc}
 use lib.ListN.{length, getD, set, drop, length-set, length-append}
 use lib.Seq.{set-getD, set-set, getD-set-same}
 use Rattle.rules.specs.Base.{keep}
 use Rattle.rules.specs.Field.{none}
 use Rattle.rules.specs.Growth.{Marks, remains, turn}
-use Rattle.laws.proofs.Basics.{if-ind, All, keep-all, append-all, set-cases}
+use Rattle.laws.proofs.Basics.{All, keep-all, keep-length, append-all, set-cases}
 use Rattle.levels.specs.Levels.{joined, total, Stacked}
 
 -- ---------------------------------------------------------------- joined
@@ -25,11 +24,6 @@ unfolding joined
 joined-joined k xs ys ls h = rw (getD-set-same ls k (getD ls k [] ++ xs) [] h, set-set ls k (getD ls k [] ++ xs) (getD ls k [] ++ xs ++ ys), append-assoc (getD ls k []) xs ys)
 
 -- ---------------------------------------------------------------- how many entries
-
-pub keep-length : (p : ℕ → Bool) (xs : List ℕ) → length (keep p xs) ≤ length xs
-unfolding keep
-keep-length p [] = le-refl 0
-keep-length p (x ∷ xs) = let h = keep-length p xs in if-ind (λ (l : List ℕ). length l ≤ suc (length xs)) (p x) (λ _. omega arith) (λ _. omega arith)
 
 pub one-of-total : (ls : List (List ℕ)) (k : ℕ) → length (getD ls k []) ≤ total ls
 unfolding total

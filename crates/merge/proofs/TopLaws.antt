@@ -12,6 +12,7 @@ use Rattle.rules.specs.Filter.{seen, removed, filtered}
 use Rattle.rules.specs.Merge.{merged}
 use Rattle.rules.specs.Numbering.{Regions, numbered}
 use Rattle.laws.proofs.LiveRecords.{filter-each}
+use Rattle.laws.proofs.Sums.{sum-le, sum-same}
 use Rattle.space.specs.Space.{Frame}
 use Rattle.space.proofs.Laws.{getD-after}
 use Rattle.table.specs.View.{startOf, endOf, recAt, view, recsOf}
@@ -23,7 +24,6 @@ use Rattle.numbering.specs.Number.{Column, Blank}
 use Rattle.pool.specs.Pool.{lenAt, countAt, Pool}
 use Rattle.merge.specs.Ready.{Ready}
 use Rattle.pool.proofs.MergeLaws.{Fresh, alike-start, merge-is}
-use Rattle.pool.proofs.SumLaws.{sum-le, sum-same}
 
 recs-at : (ws : List ℕ) (m x : ℕ) → x < m → at (recsOf ws m) x ≡ recAt ws m (7 * m) (11 * m) x
 unfolding recsOf

@@ -6,7 +6,8 @@ use mathlib.Core.List.{List}
 use lib.ListN.{length, getD}
 use Rattle.table.specs.View.{startOf, endOf, Held}
 use Rattle.numbering.specs.Number.{Spans}
-use Rattle.pool.specs.Pool.{sumTo, lenAt, countAt}
+use Rattle.laws.specs.Sums.{sumTo}
+use Rattle.pool.specs.Pool.{lenAt, countAt}
 
 pub record Ready (m n : ℕ) (ws ids : List ℕ) : Type 0 where
   pub records : m ≤ n + 6

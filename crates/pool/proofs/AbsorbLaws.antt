@@ -8,6 +8,7 @@ use mathlib.Core.Logic.{⊎-elim, _⊎_, inl, inr}
 use mathlib.Core.List.{List, [], _++_}
 use lib.ListN.{length, getD}
 use Rattle.rules.specs.Merge.{around, tidy}
+use Rattle.laws.proofs.Sums.{sum-same}
 use Rattle.space.specs.Space.{Frame}
 use Rattle.space.proofs.Laws.{getD-before, getD-after, frame-then, frame-wider}
 use Rattle.table.specs.View.{part, startOf, endOf, listAt, Parts, Placed}
@@ -15,7 +16,7 @@ use Rattle.table.proofs.ViewLaws.{sec-same, wide-same, list-same, part-none}
 use Rattle.pool.specs.Part.{Clear, renamedList}
 use Rattle.pool.specs.Pool.{without, lenAt, restTo, newList, joinedList, Pool, Pair, Sources, There, Carried, Absorbed, Relisted}
 use Rattle.pool.proofs.PartLaws.{part-after}
-use Rattle.pool.proofs.SumLaws.{sum-same, sum-split, sum-two, without-two}
+use Rattle.pool.proofs.SumLaws.{sum-split, sum-two, without-two}
 
 module _ (m p h o n k i j : ℕ) (ws : List ℕ) (P : Pool m p h o ws) (Q : Pair m n k i j ws) where
   pair-room : lenAt ws m i + lenAt ws m n + restTo ws m i n m ≤ p

@@ -11,10 +11,11 @@ use borrow.Author.Tests.{eq-eqb, ne-eqb}
 use Rattle.rules.specs.Base.{if_then_else_}
 use Rattle.space.specs.Space.{Frame}
 use Rattle.space.proofs.Laws.{getD-before, getD-after, frame-then}
+use Rattle.laws.specs.Sums.{sumTo}
 use Rattle.table.specs.View.{part, startOf, endOf, listAt, Parts, Placed}
 use Rattle.table.proofs.ViewLaws.{wide-same, list-same}
 use Rattle.pool.specs.Part.{Clear, renamedList}
-use Rattle.pool.specs.Pool.{sumTo, without, lenAt, restTo, newList, Source, Moved, Next, Sources, There, Carried}
+use Rattle.pool.specs.Pool.{without, lenAt, restTo, newList, Source, Moved, Next, Sources, There, Carried}
 use Rattle.pool.proofs.PartLaws.{part-after}
 
 pub new-dead : (old new id : ℕ) (l : List ℕ) → id ≡ 0 → l ≡ newList old new id l

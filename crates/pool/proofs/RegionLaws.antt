@@ -16,6 +16,7 @@ use Rattle.rules.specs.Base.{if_then_else_, any}
 use Rattle.rules.specs.Records.{Rec, at, has}
 use Rattle.rules.specs.Merge.{place, around, tidy, emptied}
 use Rattle.laws.proofs.Basics.{if-ind}
+use Rattle.laws.proofs.Sums.{sum-same}
 use Rattle.space.specs.Space.{Frame, sec}
 use Rattle.space.proofs.Laws.{getD-before, getD-after, frame-then, frame-set, frame-wider, frame-put, sec-put, getD-sec, length-sec}
 use Rattle.table.specs.View.{startOf, endOf, listAt, recAt, view, recsOf, Parts, Under, Held}
@@ -26,7 +27,7 @@ use Rattle.pool.specs.Fixed.{renamedF, absorbedF, mergedPair}
 use Rattle.pool.specs.Pool.{lenAt, countAt, newList, joinedList, Pool, Listed, Outside, Relisted}
 use Rattle.pool.proofs.FloorLaws.{swap-has, swap-old, swap-other, has-first, has-later}
 use Rattle.pool.proofs.MergeLaws.{has-some, tidy-has, append-has, around-has, renF-id, renF-count, renF-area, renF-visited, renF-overlap, renF-floors, renF-newList, renF-fresh, at-map, at-i, at-n, at-else}
-use Rattle.pool.proofs.SumLaws.{sum-split, sum-two, sum-same}
+use Rattle.pool.proofs.SumLaws.{sum-split, sum-two}
 
 -- ---- what is listed
 

@@ -3,18 +3,10 @@ use Prim.Native.Nat.{ℕ, zero, suc, _+_, _≤_, _<_}
 use native.Mathlib.Omega.{arith}
 use native.Mathlib.Decide.{ℕ-discrete}
 use mathlib.Core.Path.{_≡_, refl, sym, ap}
-use Rattle.pool.specs.Pool.{sumTo, without}
+use Rattle.laws.specs.Sums.{sumTo}
+use Rattle.laws.proofs.Sums.{sum-le}
+use Rattle.pool.specs.Pool.{without}
 use Rattle.pool.proofs.CarryLaws.{without-same, without-other}
-
-pub sum-le : (f g : ℕ → ℕ) (k : ℕ) → ((x : ℕ) → x < k → g x ≤ f x) → sumTo g k ≤ sumTo f k
-unfolding sumTo
-sum-le f g zero h = omega arith
-sum-le f g (suc k) h = omega (arith, h k (omega arith), sum-le f g k (λ x l. h x (omega arith)))
-
-pub sum-same : (f g : ℕ → ℕ) (k : ℕ) → ((x : ℕ) → x < k → f x ≡ g x) → sumTo f k ≡ sumTo g k
-unfolding sumTo
-sum-same f g zero h = refl
-sum-same f g (suc k) h = omega (arith, h k (omega arith), sum-same f g k (λ x l. h x (omega arith)))
 
 pub without-two : (f g : ℕ → ℕ) (i n x : ℕ) → ((x ≡ i → ⊥) → (x ≡ n → ⊥) → f x ≡ g x) → without (without f i) n x ≡ without (without g i) n x
 without-two f g i n x h =

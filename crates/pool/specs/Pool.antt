@@ -1,6 +1,6 @@
 -- The pool of neighbour lists: two halves of p numbers, at h and at o. The lists lie in the half at h; a merge writes them anew into the half at o.
 -- All lists together fit a half, since a merge never lengthens their sum.
-use Prim.Native.Nat.{ℕ, zero, suc, _+_, _-_, _*_, _≤_, _<_}
+use Prim.Native.Nat.{ℕ, _+_, _-_, _*_, _≤_, _<_}
 use mathlib.Core.Path.{_≡_}
 use mathlib.Core.Logic.{_⊎_}
 use mathlib.Core.List.{List, [], _++_}
@@ -8,14 +8,11 @@ use lib.ListN.{length, getD}
 use lib.Dec.{eqb}
 use Rattle.rules.specs.Base.{if_then_else_}
 use Rattle.rules.specs.Merge.{place, around, tidy}
+use Rattle.laws.specs.Sums.{sumTo}
 use Rattle.table.specs.View.{part, startOf, endOf, listAt, Parts, Held}
 use Rattle.pool.specs.Part.{Clear, renamedList}
 
--- f 0 + .. + f (k - 1)
-unfoldable pub sumTo : (ℕ → ℕ) → ℕ → ℕ
-sumTo f zero = 0
-sumTo f (suc k) = f k + sumTo f k
-
+-- f with 0 at i
 unfoldable pub without : (ℕ → ℕ) → ℕ → ℕ → ℕ
 without f i x = if eqb x i then 0 else f x
 

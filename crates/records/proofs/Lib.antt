@@ -10,3 +10,4 @@ pub mod ContourLaws
 pub mod FreshLaws
 pub mod NameLaws
 pub mod BuildLaws
+pub mod Fits

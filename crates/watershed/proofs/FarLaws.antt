@@ -49,6 +49,12 @@ module _ (dist : List ℕ) (most : ℕ) where
 
 -- ---------------------------------------------------------------- the order
 
+-- 7 after 1 to 6 have passed
+pub short-seven : (F : Field) (lens : List ℕ) (work : ℕ) (dist : List ℕ) (most : ℕ) → refusal F lens ≡ 0 → work < 128 * spans F + 4096
+    → 7 ≡ regionRefusal F lens work dist most
+unfolding regionRefusal if_then_else_ tooShort
+short-seven F lens work dist most e h = rw (eq-eqb (refusal F lens) 0 e, lt-ltb work (128 * spans F + 4096) h)
+
 module _ (F : Field) (lens : List ℕ) (work : ℕ) (dist : List ℕ) (most : ℕ) (v : Verdict) (e : verdictNumber v ≡ refusal F lens) where
   pub first-refused : (r : Refusal) → v ≡ verdict.Refused r → numberOf r ≡ regionRefusal F lens work dist most
   unfolding regionRefusal if_then_else_
@@ -57,12 +63,11 @@ module _ (F : Field) (lens : List ℕ) (work : ℕ) (dist : List ℕ) (most : �
       rw (ne-eqb (refusal F lens) 0 (λ k. omega (arith, number-pos r))) n
 
   module _ (z : v ≡ verdict.Sound) where
+    pub then-short : work < 128 * spans F + 4096 → 7 ≡ regionRefusal F lens work dist most
+    then-short h = short-seven F lens work dist most (sym e ∙ ap verdictNumber z) h
+
     none : eqb (refusal F lens) 0 ≡ true
     none = eq-eqb (refusal F lens) 0 (sym e ∙ ap verdictNumber z)
-
-    pub then-short : work < 128 * spans F + 4096 → 7 ≡ regionRefusal F lens work dist most
-    unfolding regionRefusal if_then_else_ tooShort
-    then-short h = rw (none, lt-ltb work (128 * spans F + 4096) h)
 
     module _ (h : 128 * spans F + 4096 ≤ work) where
       pub then-far : (r : Bool) → r ≡ tooFar dist most → r ≡ true → 8 ≡ regionRefusal F lens work dist most

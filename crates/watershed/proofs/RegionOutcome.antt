@@ -1,0 +1,91 @@
+-- The region entry's two ways out are the two cases of its outcome, and an outcome has one answer.
+-- A verdict's number is 0 exactly where nothing is refused, and no two refusals have the same number.
+use Prim.Native.Nat.{ℕ, _+_, _*_, _≤_}
+use native.Mathlib.Omega.{arith}
+use native.Mathlib.Decide.{decLt}
+use mathlib.Core.Path.{_≡_, refl, sym, ap, _∙_}
+use mathlib.Core.List.{List, [], _∷_}
+use lib.ListN.{length, replicate}
+use lib.Dec.{eqb}
+use borrow.Author.Tests.{eq-eqb, ne-eqb}
+use Rattle.rules.specs.Base.{if_then_else_}
+use Rattle.rules.specs.Field.{Field, spans}
+use Rattle.rules.specs.Refusals.{regionRefusal}
+use Rattle.rules.specs.Growth.{grown}
+use Rattle.rules.specs.Numbering.{Regions, regions}
+use Rattle.rules.specs.Outcomes.{Sizes, RegionOutcome, regionOutcome}
+use Rattle.rooms.proofs.Rooms.{accepted}
+use Rattle.field.specs.Answer.{numberOf, verdictNumber}
+use Rattle.field.specs.declared.checker.Refusal.{Refusal}
+use Rattle.field.specs.declared.checker.Verdict.{Verdict}
+use Rattle.field.specs.declared.checker.Verdict.the-variants as verdict
+use Rattle.field.proofs.Refused.{sound-of, own-lengths}
+use Rattle.watershed.specs.declared.regions.RegionAnswer.{RegionAnswer}
+use Rattle.watershed.specs.declared.regions.RegionAnswer.the-variants.{Refused, Done}
+use Rattle.watershed.specs.Answer.{regionsRefusedBy, maxRegionIn, overlapsIn, AnswersRegions}
+use Rattle.watershed.specs.Stages.{Admitted}
+use Rattle.watershed.proofs.FarLaws.{short-seven}
+use Rattle.watershed.proofs.Outcome.{number-pos, number-same}
+
+-- nothing is refused: the workspace is long enough
+roomy : (F : Field) (lens : List ℕ) (work : ℕ) (dist : List ℕ) (most : ℕ) → regionRefusal F lens work dist most ≡ 0 → 128 * spans F + 4096 ≤ work
+roomy F lens work dist most e = elim (decLt work (128 * spans F + 4096)) [
+  | yes h ↦ absurd (omega (arith, short-seven F lens work dist most (accepted F lens work dist most e) h, e))
+  | no h ↦ omega (arith, h)
+]
+
+-- ---------------------------------------------------------------- the two ways out
+
+module _ (F : Field) (dist : List ℕ) (most : ℕ) (z : Sizes) (ws ids : List ℕ) (v : Verdict)
+    (e : verdictNumber v ≡ regionRefusal F (length dist ∷ length ids ∷ []) (length ws) dist most) where
+  pub regions-refused : (r : Refusal) → v ≡ verdict.Refused r → AnswersRegions (regionOutcome F dist most z ws ids) (Refused r) ws ids
+  unfolding regionOutcome if_then_else_
+  regions-refused r y =
+      let n : numberOf r ≡ regionRefusal F (length dist ∷ length ids ∷ []) (length ws) dist most = ap verdictNumber (sym y) ∙ e in
+      let f = ne-eqb (regionRefusal F (length dist ∷ length ids ∷ []) (length ws) dist most) 0 (λ k. omega (arith, number-pos r)) in
+      record { refused = rw f n; most = rw f; over = rw f; workspace = rw f; ids = rw f }
+
+  module _ (y : v ≡ verdict.Sound) where
+    none : regionRefusal F (length dist ∷ length ids ∷ []) (length ws) dist most ≡ 0
+    none = sym e ∙ ap verdictNumber y
+
+    pub admitted : Admitted F dist ws ids
+    admitted =
+        let p = accepted F (length dist ∷ length ids ∷ []) (length ws) dist most none in
+        let l = own-lengths F (length dist) (length ids) p in
+        record {
+          sound = sound-of F (length dist ∷ length ids ∷ []) p;
+          distances = l .0;
+          idents = l .1;
+          room = roomy F (length dist ∷ length ids ∷ []) (length ws) dist most none;
+        }
+
+    pub regions-done : (k o : ℕ) (ws′ ids′ : List ℕ)
+        → record { ids = ids′; most = k; over = o } ≡ regions F (z .least) (z .merge) (grown F dist most (z .border) .ids) (grown F dist most (z .border) .next)
+        → ws′ ≡ replicate (length ws) 0 → AnswersRegions (regionOutcome F dist most z ws ids) (Done k o) ws′ ids′
+    unfolding regionOutcome if_then_else_
+    regions-done k o ws′ ids′ p q =
+        let f = eq-eqb (regionRefusal F (length dist ∷ length ids ∷ []) (length ws) dist most) 0 none in
+        record {
+          refused = rw f;
+          most = rw f (ap (λ (g : Regions). g .most) p);
+          over = rw f (ap (λ (g : Regions). g .over) p);
+          workspace = rw f q;
+          ids = rw f (ap (λ (g : Regions). g .ids) p);
+        }
+
+-- ---------------------------------------------------------------- one answer
+
+answer-same : (a b : RegionAnswer) → regionsRefusedBy a ≡ regionsRefusedBy b → maxRegionIn a ≡ maxRegionIn b → overlapsIn a ≡ overlapsIn b → a ≡ b
+answer-same (Refused r) (Refused s) e f g = ap Refused (number-same r s e)
+answer-same (Refused r) (Done k o) e f g = absurd (omega (arith, number-pos r))
+answer-same (Done k o) (Refused s) e f g = absurd (omega (arith, number-pos s))
+answer-same (Done k o) (Done j p) e f g = rw (e, f, g)
+
+-- two results that satisfy the promise of `build_regions` coincide
+pub one-region-answer : (o : RegionOutcome) (a b : RegionAnswer) (l m x y : List ℕ) → AnswersRegions o a l m → AnswersRegions o b x y → (a ≡ b) × (l ≡ x) × (m ≡ y)
+one-region-answer o a b l m x y p q = (
+  answer-same a b (p .refused ∙ sym (q .refused)) (p .most ∙ sym (q .most)) (p .over ∙ sym (q .over)),
+  p .workspace ∙ sym (q .workspace),
+  p .ids ∙ sym (q .ids),
+)

@@ -15,7 +15,7 @@ use Rattle.rules.specs.Field.{Field, spans, near, areaOf}
 use Rattle.rules.specs.Growth.{plain}
 use Rattle.rules.specs.Contour.{across, solid, Walker, stride, walk, trim, contour}
 use Rattle.rules.specs.Records.{Rec, fresh, at, counted, addSpan, records}
-use Rattle.laws.proofs.Basics.{both, if-ind, upto-ind, All, nonzero-in, tab-at, length-tab, append-all}
+use Rattle.laws.proofs.Basics.{both, if-ind, upto-ind, All, All-map, nonzero-in, tab-at, tab-each, length-tab, append-all}
 use Rattle.rooms.specs.Rooms.{Plain, Bears}
 use Rattle.rooms.proofs.Joins.{plain-true, true-plain}
 use Rattle.rooms.proofs.Expanding.{Grow}
@@ -49,15 +49,19 @@ at-past rs j h = ap (λ (r : Rec). r .id) (List·getD-eq-default rs (fresh 0) h)
 pub record Listed (F : Field) (ids : List ℕ) (j r : ℕ) : Type 0 where
   pub span : ℕ
   pub dir : ℕ
+  pub inside : span < length ids
   pub four : dir < 4
   pub own : Bears ids j span
   pub there : getD ids (near F span dir) 0 ≡ r
 
-module _ (F : Field) (ids : List ℕ) (j : ℕ) where
+module _ (F : Field) (ids : List ℕ) (j : ℕ) (some : j ≡ 0 → ⊥) where
   record Walks (v : Walker) : Type 0 where
     own : Bears ids j (v .span)
     four : v .dir < 4
     list : All (Listed F ids j) (v .listed)
+
+  edge : (s d : ℕ) → Bears ids j s → d < 4 → Listed F ids j (getD ids (near F s d) 0)
+  edge s d o h = record { span = s; dir = d; inside = nonzero-in ids s (λ z. some (sym o ∙ z)); four = h; own = o; there = refl }
 
   stride-walks : (v : Walker) → Walks v → Walks (stride F ids v)
   unfolding stride solid across
@@ -67,7 +71,7 @@ module _ (F : Field) (ids : List ℕ) (j : ℕ) where
         own = h .own;
         four = omega arith;
         list = if-ind (All (Listed F ids j)) _ (λ _. h .list)
-            (λ _. append-all (Listed F ids j) (v .listed) _ (h .list) (record { span = v .span; dir = v .dir; four = h .four; own = h .own; there = refl }, tt));
+            (λ _. append-all (Listed F ids j) (v .listed) _ (h .list) (edge (v .span) (v .dir) (h .own) (h .four), tt));
       })
       (λ e. record { own = eqb-true _ _ (not-false _ e) ∙ h .own; four = omega arith; list = h .list })
 
@@ -86,7 +90,57 @@ module _ (F : Field) (ids : List ℕ) (j : ℕ) where
   unfolding contour across
   contour-list s d o h =
       trim-all (Listed F ids j) _
-      (walk-walks s d 40000 _ (record { own = o; four = h; list = (record { span = s; dir = d; four = h; own = o; there = refl }, tt) }) .list)
+      (walk-walks s d 40000 _ (record { own = o; four = h; list = (edge s d o h, tt) }) .list)
+
+-- ---------------------------------------------------------------- what a record lists
+
+module _ (F : Field) (ids : List ℕ) where
+  counted-list : (k : ℕ) (r : Rec) (j : ℕ) → (j ≡ 0 → ⊥) → Bears ids j k → All (Listed F ids j) (r .list) → All (Listed F ids j) (counted F ids k r .list)
+  unfolding counted
+  counted-list k r j some b h = if-ind (All (Listed F ids j)) _ (λ e. contour-list F ids j some k _ b (ltb-true _ _ (both _ _ e .1))) (λ _. h)
+
+  add-list : (k : ℕ) (rs : List Rec) → ((j : ℕ) → All (Listed F ids j) (at rs j .list)) → (j : ℕ) → All (Listed F ids j) (at (addSpan F ids k rs) j .list)
+  unfolding addSpan
+  add-list k rs h j =
+      let r = getD ids k 0 in
+      if-ind (λ (x : List Rec). All (Listed F ids j) (at x j .list)) (plain r)
+      (λ e. at-set rs r (counted F ids k (at rs r)) j (λ (x : Rec). All (Listed F ids j) (x .list))
+      (λ q. rw q (counted-list k (at rs r) r (λ z. let p = plain-true r e in omega arith) refl (h r))) (h j))
+      (λ _. h j)
+
+  new-list : (n j : ℕ) → All (Listed F ids j) (at (tab n 0 fresh) j .list)
+  unfolding at fresh
+  new-list n j = tab-each (λ (x : Rec). All (Listed F ids j) (x .list)) n 0 fresh (fresh 0) j tt (λ _. tt)
+
+  records-list : (next j : ℕ) → All (Listed F ids j) (at (records F ids next) j .list)
+  unfolding records
+  records-list next =
+      upto-ind (λ _ (rs : List Rec). (j : ℕ) → All (Listed F ids j) (at rs j .list)) (addSpan F ids) (tab (suc next) 0 fresh) (spans F) (new-list (suc next)) (λ k rs _ h. add-list k rs h)
+
+  -- r is the id of a neighbour of a span of id j
+  pub record Beside (j r : ℕ) : Type 0 where
+    pub span : ℕ
+    pub dir : ℕ
+    pub inside : span < spans F
+    pub four : dir < 4
+    pub own : Bears ids j span
+    pub leads : near F span dir < spans F
+    pub there : Bears ids r (near F span dir)
+
+  -- every listed id but 0 lies across a connection of the region
+  pub listed-across : length ids ≡ spans F → (next j : ℕ) → All (λ r. (r ≡ 0 → ⊥) → Beside j r) (at (records F ids next) j .list)
+  listed-across size next j = All-map {P = Listed F ids j} {Q = λ r. (r ≡ 0 → ⊥) → Beside j r} (at (records F ids next) j .list) beside (records-list next j)
+    where
+      beside : (r : ℕ) → Listed F ids j r → (r ≡ 0 → ⊥) → Beside j r
+      beside r l n = record {
+        span = l .span;
+        dir = l .dir;
+        inside = omega (arith, l .inside);
+        four = l .four;
+        own = l .own;
+        leads = omega (arith, nonzero-in ids (near F (l .span) (l .dir)) (λ z. n (sym (l .there) ∙ z)));
+        there = l .there;
+      }
 
 -- ---------------------------------------------------------------- records
 
@@ -116,11 +170,6 @@ module _ (F : Field) (first next : ℕ) (ids : List ℕ) (g : Grow F first next 
     area : (j : ℕ) → Plain j → (at rs j .count ≡ 0 → ⊥) → (t : ℕ) → Bears ids j t → areaOf F t ≡ at rs j .area
     full : (j : ℕ) → (length (at rs j .list) ≡ 0 → ⊥) → at rs j .count ≡ 0 → ⊥
     done : (s j : ℕ) → s < k → Plain j → Bears ids j s → at rs j .count ≡ 0 → ⊥
-    list : (j : ℕ) → All (Listed F ids j) (at rs j .list)
-
-  counted-list : (k : ℕ) (r : Rec) (j : ℕ) → Bears ids j k → All (Listed F ids j) (r .list) → All (Listed F ids j) (counted F ids k r .list)
-  unfolding counted
-  counted-list k r j b h = if-ind (All (Listed F ids j)) _ (λ e. contour-list F ids j k _ b (ltb-true _ _ (both _ _ e .1))) (λ _. h)
 
   counted-area : (k : ℕ) (r : Rec) (j : ℕ) → Plain j → Bears ids j k → ((length (r .list) ≡ 0 → ⊥) → r .count ≡ 0 → ⊥)
       → ((r .count ≡ 0 → ⊥) → (t : ℕ) → Bears ids j t → areaOf F t ≡ r .area) → (t : ℕ) → Bears ids j t → areaOf F t ≡ counted F ids k r .area
@@ -155,7 +204,6 @@ module _ (F : Field) (first next : ℕ) (ids : List ℕ) (g : Grow F first next 
           | yes q ↦ λ z. counted-more k (at rs r) (sym (ap (λ (x : Rec). x .count) (ap (at (set rs r new)) q ∙ at-same rs r new (omega (arith, h .size)))) ∙ z)
           | no q ↦ at-set rs r new j (λ (x : Rec). x .count ≡ 0 → ⊥) (λ _. counted-more k (at rs r)) (h .done s j (low s j l b q) pj b)
         ];
-        list = λ j. at-set rs r new j (λ (x : Rec). All (Listed F ids j) (x .list)) (λ q. rw q (counted-list k (at rs r) r refl (h .list r))) (h .list j);
       })
       (λ e. record {
         size = h .size;
@@ -164,7 +212,6 @@ module _ (F : Field) (first next : ℕ) (ids : List ℕ) (g : Grow F first next 
         area = h .area;
         full = h .full;
         done = λ s j l pj b. h .done s j (low s j l b (λ q. true≢false (sym (true-plain j pj) ∙ ap plain q ∙ e))) pj b;
-        list = h .list;
       })
     where
       low : (s j : ℕ) → s < suc k → Bears ids j s → (j ≡ getD ids k 0 → ⊥) → s < k
@@ -205,7 +252,6 @@ records-raw F first next ids g =
       area = λ j p c. absurd (c (fresh-parts n j .0));
       full = λ j c. absurd (c (ap length (fresh-parts n j .1)));
       done = λ s j l. absurd (omega arith);
-      list = λ j. rw (fresh-parts n j .1) tt;
     } in
     let r = upto-ind (Filling F first next ids g) (addSpan F ids) (tab n 0 fresh) (spans F) start (λ k x _ h. add-filling F first next ids g k x h) in
     let rs = upto (spans F) (addSpan F ids) (tab n 0 fresh) in
@@ -215,5 +261,5 @@ records-raw F first next ids g =
       outer = λ j o. r .own j (outer-le first next j (g .ahead) o);
       idle = r .idle;
       area = λ j p t b. r .area j p (r .done t j (rw (← g .size) (nonzero-in ids t (λ z. let q : j ≡ 0 = sym b ∙ z in omega arith))) p b) t b;
-      list = r .list;
+      list = records-list F ids next;
     }

@@ -17,6 +17,7 @@ use Rattle.field.specs.Answer.{numberOf, verdictNumber}
 use Rattle.field.specs.declared.checker.Refusal.{Refusal}
 use Rattle.field.specs.declared.checker.Verdict.{Verdict}
 use Rattle.field.specs.declared.checker.Verdict.the-variants as verdict
+use Rattle.field.proofs.Refused.{reached-of}
 use Rattle.watershed.proofs.Outcome.{number-pos}
 
 -- ---------------------------------------------------------------- a distance above
@@ -48,6 +49,9 @@ module _ (dist : List ℕ) (most : ℕ) where
   far-any h r e = rw (le-ltb 510 most h) e
 
 -- ---------------------------------------------------------------- the order
+
+pub few-spans : (F : Field) (lens : List ℕ) (v : Verdict) → verdictNumber v ≡ refusal F lens → v ≡ verdict.Sound → spans F ≤ 32000
+few-spans F lens v e z = reached-of F lens (sym e ∙ ap verdictNumber z) .celled .few
 
 -- 7 after 1 to 6 have passed
 pub short-seven : (F : Field) (lens : List ℕ) (work : ℕ) (dist : List ℕ) (most : ℕ) → refusal F lens ≡ 0 → work < 128 * spans F + 4096

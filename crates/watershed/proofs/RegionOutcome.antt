@@ -36,11 +36,11 @@ roomy F lens work dist most e = elim (decLt work (128 * spans F + 4096)) [
 
 -- ---------------------------------------------------------------- the two ways out
 
-module _ (F : Field) (dist : List ℕ) (most : ℕ) (z : Sizes) (ws ids : List ℕ) (v : Verdict)
+module _ (F : Field) (dist : List ℕ) (most : ℕ) (ws ids : List ℕ) (v : Verdict)
     (e : verdictNumber v ≡ regionRefusal F (length dist ∷ length ids ∷ []) (length ws) dist most) where
-  pub regions-refused : (r : Refusal) → v ≡ verdict.Refused r → AnswersRegions (regionOutcome F dist most z ws ids) (Refused r) ws ids
+  pub regions-refused : (z : Sizes) (r : Refusal) → v ≡ verdict.Refused r → AnswersRegions (regionOutcome F dist most z ws ids) (Refused r) ws ids
   unfolding regionOutcome if_then_else_
-  regions-refused r y =
+  regions-refused z r y =
       let n : numberOf r ≡ regionRefusal F (length dist ∷ length ids ∷ []) (length ws) dist most = ap verdictNumber (sym y) ∙ e in
       let f = ne-eqb (regionRefusal F (length dist ∷ length ids ∷ []) (length ws) dist most) 0 (λ k. omega (arith, number-pos r)) in
       record { refused = rw f n; most = rw f; over = rw f; workspace = rw f; ids = rw f }
@@ -60,11 +60,11 @@ module _ (F : Field) (dist : List ℕ) (most : ℕ) (z : Sizes) (ws ids : List �
           room = roomy F (length dist ∷ length ids ∷ []) (length ws) dist most none;
         }
 
-    pub regions-done : (k o : ℕ) (ws′ ids′ : List ℕ)
+    pub regions-done : (z : Sizes) (k o : ℕ) (ws′ ids′ : List ℕ)
         → record { ids = ids′; most = k; over = o } ≡ regions F (z .least) (z .merge) (grown F dist most (z .border) .ids) (grown F dist most (z .border) .next)
         → ws′ ≡ replicate (length ws) 0 → AnswersRegions (regionOutcome F dist most z ws ids) (Done k o) ws′ ids′
     unfolding regionOutcome if_then_else_
-    regions-done k o ws′ ids′ p q =
+    regions-done z k o ws′ ids′ p q =
         let f = eq-eqb (regionRefusal F (length dist ∷ length ids ∷ []) (length ws) dist most) 0 none in
         record {
           refused = rw f;
@@ -80,7 +80,7 @@ answer-same : (a b : RegionAnswer) → regionsRefusedBy a ≡ regionsRefusedBy b
 answer-same (Refused r) (Refused s) e f g = ap Refused (number-same r s e)
 answer-same (Refused r) (Done k o) e f g = absurd (omega (arith, number-pos r))
 answer-same (Done k o) (Refused s) e f g = absurd (omega (arith, number-pos s))
-answer-same (Done k o) (Done j p) e f g = rw (e, f, g)
+answer-same (Done k o) (Done j p) e f g = rw (f, g)
 
 -- two results that satisfy the promise of `build_regions` coincide
 pub one-region-answer : (o : RegionOutcome) (a b : RegionAnswer) (l m x y : List ℕ) → AnswersRegions o a l m → AnswersRegions o b x y → (a ≡ b) × (l ≡ x) × (m ≡ y)

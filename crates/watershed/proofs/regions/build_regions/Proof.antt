@@ -1,43 +1,35 @@
-use native.Mathlib.Omega.{arith}
+-- The two arms are the two cases of the outcome. A sound verdict gives what the stages require; a refusal is given before anything is written.
+-- Assumes nothing.
+use Rattle.watershed.proofs.RegionOutcome.{regions-refused, admitted, regions-done}
 use borrow.Author.Needs.{needs}
 use Rattle.watershed.proofs.regions.build_regions.Statement.{statement}
 use Rattle.watershed.proofs.regions.build_regions.Tie as tie
-use Rattle.watershed.proofs.regions.build_regions.Reads as reads
-use Rattle.watershed.proofs.regions.build_regions.Lts as lts
-use Rattle.watershed.proofs.regions.check_regions.Reads as check-regions-reads
-use Rattle.watershed.proofs.regions.find_regions.Reads as find-regions-reads
 
--- src/regions.rt:135:11
 check-regions-requires : tie.Need-check-regions-requires
 check-regions-requires c κs = search needs
 
--- src/regions.rt:147:26
 enum-known-r : tie.Need-enum-known-r
 enum-known-r c = search needs
 
--- src/regions.rt:161:17
 enum-told : tie.Need-enum-told
 enum-told c = search needs
 
--- src/regions.rt:149:17
 find-regions-requires : tie.Need-find-regions-requires
-find-regions-requires c κs = search needs
+find-regions-requires c κs =
+    let t = c .before .before in
+    admitted _ _ _ _ _ (t .before .before .check-regions .result) (t .before .before .check-regions .ensures) (t .enum-told .given .1)
 
--- src/regions.rt:116:1
 returns : tie.Need-returns
-returns c = search needs
+returns c = search (needs, regions-refused)
 
--- src/regions.rt:116:1
 same-length : tie.Need-same-length
 same-length c = search needs
 
--- src/regions.rt:116:1
 same-length-2 : tie.Need-same-length-2
 same-length-2 c = search needs
 
--- src/regions.rt:116:1
 returns-2 : tie.Need-returns-2
-returns-2 c = search needs
+returns-2 c = search (needs, regions-done)
 
 pub build-regions-spec : {M : Type 1} → statement M
 build-regions-spec =

@@ -18,6 +18,7 @@ use Rattle.field.specs.declared.checker.Refusal.{Refusal}
 use Rattle.field.specs.declared.checker.Verdict.{Verdict}
 use Rattle.field.specs.declared.checker.Verdict.the-variants as verdict
 use Rattle.field.proofs.Refused.{reached-of}
+use Rattle.watershed.specs.Stages.{ownRefusal}
 use Rattle.watershed.proofs.Outcome.{number-pos}
 
 -- ---------------------------------------------------------------- a distance above
@@ -53,6 +54,19 @@ module _ (dist : List ℕ) (most : ℕ) where
 pub few-spans : (F : Field) (lens : List ℕ) (v : Verdict) → verdictNumber v ≡ refusal F lens → v ≡ verdict.Sound → spans F ≤ 32000
 few-spans F lens v e z = reached-of F lens (sym e ∙ ap verdictNumber z) .celled .few
 
+module _ (short far : Bool) where
+  pub own-seven : short ≡ true → 7 ≡ ownRefusal short far
+  unfolding ownRefusal if_then_else_
+  own-seven e = rw e
+
+  pub own-eight : short ≡ false → far ≡ true → 8 ≡ ownRefusal short far
+  unfolding ownRefusal if_then_else_
+  own-eight e f = rw (e, f)
+
+  pub own-none : short ≡ false → far ≡ false → 0 ≡ ownRefusal short far
+  unfolding ownRefusal if_then_else_
+  own-none e f = rw (e, f)
+
 -- 7 after 1 to 6 have passed
 pub short-seven : (F : Field) (lens : List ℕ) (work : ℕ) (dist : List ℕ) (most : ℕ) → refusal F lens ≡ 0 → work < 128 * spans F + 4096
     → 7 ≡ regionRefusal F lens work dist most
@@ -67,17 +81,10 @@ module _ (F : Field) (lens : List ℕ) (work : ℕ) (dist : List ℕ) (most : �
       rw (ne-eqb (refusal F lens) 0 (λ k. omega (arith, number-pos r))) n
 
   module _ (z : v ≡ verdict.Sound) where
-    pub then-short : work < 128 * spans F + 4096 → 7 ≡ regionRefusal F lens work dist most
-    then-short h = short-seven F lens work dist most (sym e ∙ ap verdictNumber z) h
-
     none : eqb (refusal F lens) 0 ≡ true
     none = eq-eqb (refusal F lens) 0 (sym e ∙ ap verdictNumber z)
 
-    module _ (h : 128 * spans F + 4096 ≤ work) where
-      pub then-far : (r : Bool) → r ≡ tooFar dist most → r ≡ true → 8 ≡ regionRefusal F lens work dist most
-      unfolding regionRefusal if_then_else_ tooShort
-      then-far r p q = rw (none, le-ltb work (128 * spans F + 4096) h, ← p, q)
-
-      pub then-none : (r : Bool) → r ≡ tooFar dist most → r ≡ false → 0 ≡ regionRefusal F lens work dist most
-      unfolding regionRefusal if_then_else_ tooShort
-      then-none r p q = rw (none, le-ltb work (128 * spans F + 4096) h, ← p, q)
+    pub then-own : (short far : Bool) → short ≡ ltb work (128 * spans F + 4096) → far ≡ tooFar dist most → (u : Verdict) → verdictNumber u ≡ ownRefusal short far
+        → verdictNumber u ≡ regionRefusal F lens work dist most
+    unfolding regionRefusal if_then_else_ tooShort ownRefusal
+    then-own short far p q u h = h ∙ rw (none, p, q)

@@ -2,4 +2,5 @@ pub mod FarLaws
 pub mod Handover
 pub mod Outcome
 pub mod RegionOutcome
+pub mod Rooms
 pub mod StageLaws

@@ -6,7 +6,8 @@ use native.Mathlib.Decide.{ℕ-discrete}
 use mathlib.Core.Path.{_≡_, refl, sym, ap, _∙_}
 use mathlib.Core.Bool.{true}
 use mathlib.Core.List.{List}
-use lib.ListN.{length, getD, replicate, length-replicate}
+use lib.ListN.{length, getD, replicate, length-replicate, getD-replicate}
+use lib.Seq.{ext-getD}
 use Rattle.rules.specs.Field.{Field, spans, areaOf}
 use Rattle.rules.specs.Growth.{plain, firstId, grown}
 use Rattle.rules.specs.Records.{Rec, records}
@@ -29,6 +30,12 @@ use Rattle.numbering.specs.Number.{Spans}
 use Rattle.merge.specs.Ready.{Ready}
 use Rattle.watershed.specs.Stages.{Admitted}
 use Rattle.watershed.proofs.Handover.{handed}
+
+-- a list that is clear from 0 to its end
+pub all-clear : (k : ℕ) (ws : List ℕ) → length ws ≡ k → Clear 0 k ws → ws ≡ replicate k 0
+all-clear k ws e z =
+    ext-getD 0 ws (replicate k 0) (e ∙ sym (length-replicate k (let o : ℕ = 0 in o)))
+    (λ i h. z .blank i (omega arith) (omega (arith, e, h)) ∙ sym (getD-replicate k i (let o : ℕ = 0 in o) 0 (omega (arith, e, h))))
 
 module _ (w h : ℕ) (is ks ar cs dist ws ids : List ℕ) (a : Admitted (lent w h is ks ar cs) dist ws ids) where
   few : length ar ≤ 32000
@@ -66,7 +73,7 @@ module _ (w h : ℕ) (is ks ar cs dist ws ids : List ℕ) (a : Admitted (lent w 
         | no e ↦
             let r = grown-grow (lent w h is ks ar cs) dist most border byte few .range (getD ids₂ x 0) x (omega (arith, e), l) (ap (λ (y : List ℕ). getD y x 0) (sym (f .ids))) in
             omega (arith, r .1, f .id)
-      ]
+      ];
     }
 
     pub given : Given (lent w h is ks ar cs) w is ks ar cs ids₂ (85 * length ar + 90) ws₂

@@ -1,8 +1,10 @@
 -- What refusals 1 to 8 leave to the stages of the region entry.
 use Prim.Native.Nat.{ℕ, _+_, _*_, _≤_}
+use mathlib.Core.Bool.{Bool}
 use mathlib.Core.Path.{_≡_}
 use mathlib.Core.List.{List}
 use lib.ListN.{length}
+use Rattle.rules.specs.Base.{if_then_else_}
 use Rattle.rules.specs.Field.{Field, spans}
 use Rattle.field.specs.Lent.{Sound}
 
@@ -11,3 +13,7 @@ pub record Admitted (F : Field) (dist ws ids : List ℕ) : Type 0 where
   pub distances : length dist ≡ spans F
   pub idents : length ids ≡ spans F
   pub room : 128 * spans F + 4096 ≤ length ws
+
+-- 7 and 8 in their order: the workspace is too short, a distance is too far
+unfoldable pub ownRefusal : Bool → Bool → ℕ
+ownRefusal short far = if short then 7 else if far then 8 else 0

@@ -21,7 +21,7 @@ ghost use Rattle.rules.specs.Outcomes.{regionOutcome};
 ghost use Rattle.field.specs.Lent.{lent};
 ghost use Rattle.field.specs.Answer.{verdictNumber};
 ghost use Rattle.watershed.specs.Answer.{AnswersRegions};
-ghost use Rattle.watershed.specs.Stages.{Admitted};
+ghost use Rattle.watershed.specs.Stages.{Admitted, ownRefusal};
 
 // What the region entry gives: the refusal, or max_region and the overlap count.
 pub enum RegionAnswer {
@@ -52,6 +52,19 @@ fn too_far(dist: &[u16], max_distance: u16) -> bool
     any_above(dist, max_distance)
 }
 
+// Refusal 7 or 8: the workspace is too short, or a distance is too far.
+fn own_refusal(short: bool, far: bool) -> Verdict
+    ensures { λ r. ⌜ verdictNumber r ≡ ownRefusal short far ⌝ }
+{
+    if short {
+        return Verdict::Refused(Refusal::TooShort);
+    }
+    if far {
+        return Verdict::Refused(Refusal::TooFar);
+    }
+    Verdict::Sound
+}
+
 // The first of refusals 1 to 8 that applies; work and own are the lengths of the workspace and of the list of ids.
 fn check_regions(
     w: usize,
@@ -70,13 +83,9 @@ fn check_regions(
     match check(w, h, index, count, area, con, dist.len(), own) {
         Verdict::Refused(r) => Verdict::Refused(r),
         Verdict::Sound => {
-            if work < 128 * area.len() + 4096 {
-                return Verdict::Refused(Refusal::TooShort);
-            }
-            if too_far(dist, max_distance) {
-                return Verdict::Refused(Refusal::TooFar);
-            }
-            Verdict::Sound
+            let short = work < 128 * area.len() + 4096;
+            let far = too_far(dist, max_distance);
+            own_refusal(short, far)
         }
     }
 }
@@ -105,10 +114,24 @@ fn find_regions(
     let b = 85 * n + 90;
     clear(ids);
     clear_part(ws, 0, b);
-    let next = grow(w, h, index, count, area, con, dist, ids, ws, b, max_distance, border_size) as usize;
+    let next = grow(
+        w,
+        h,
+        index,
+        count,
+        area,
+        con,
+        dist,
+        ids,
+        ws,
+        b,
+        max_distance,
+        border_size,
+    ) as usize;
     build_records(w, index, count, area, con, ids, ws, b, next);
     let r = merge_and_filter_regions(ws, ids, next + 1, n, min_region_area, merge_region_area);
-    clear(ws);
+    let all = ws.len();
+    clear_part(ws, 0, all);
     r
 }
 

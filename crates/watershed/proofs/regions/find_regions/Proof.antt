@@ -6,7 +6,7 @@ use mathlib.Core.Path.{_∙_, ap}
 use borrow.Author.Needs.{needs}
 use lib.ListN.{getD, replicate}
 use denote.Ref.{now}
-use Rattle.watershed.proofs.StageLaws.{poised, some-given, blank, ready, whole}
+use Rattle.watershed.proofs.StageLaws.{poised, some-given, blank, ready, whole, all-clear}
 use Rattle.watershed.proofs.regions.find_regions.Statement.{statement}
 use Rattle.watershed.proofs.regions.find_regions.Tie as tie
 
@@ -77,8 +77,8 @@ merge-and-filter-regions-requires c κs =
     let s = S (i .before) in
     ready _ _ _ _ _ _ _ _ _ (s .pre) (bytes (i .before)) _ _ _ (k .clear-part .kept .0) _ _ _ (g .grow .ensures) (g .grow .kept .1 .1 .1 .1 .1 .1 .1 .1 .0) _ (r .build-records .ensures)
 
-clear-requires-2 : tie.Need-clear-requires-2
-clear-requires-2 c κs = search needs
+clear-part-requires-2 : tie.Need-clear-part-requires-2
+clear-part-requires-2 c κs = search needs
 
 same-length : tie.Need-same-length
 same-length c = search needs
@@ -100,9 +100,9 @@ returns c =
     let i = I (k .before) in
     let s = S (i .before) in (
       whole _ _ _ _ _ _ _ _ _ (s .pre) (bytes (i .before)) _ _ _ (k .clear-part .kept .0) _ _ _ (g .grow .ensures) (g .grow .kept .1 .1 .1 .1 .1 .1 .1 .1 .0) _ (r .build-records .ensures) _ _ _
-      (m .merge-and-filter-regions .ensures),
-      x .clear2 .ensures
-      ∙ ap (λ (l : ℕ). replicate l 0) (m .merge-and-filter-regions .kept .0 ∙ r .build-records .ensures .size ∙ g .grow .kept .1 .1 .1 .1 .1 .1 .1 .1 .0 ∙ k .clear-part .kept .0),
+          (m .merge-and-filter-regions .ensures),
+      all-clear _ _ (x .clear-part2 .kept .0) (x .clear-part2 .ensures .0)
+          ∙ ap (λ (l : ℕ). replicate l 0) (m .merge-and-filter-regions .kept .0 ∙ r .build-records .ensures .size ∙ g .grow .kept .1 .1 .1 .1 .1 .1 .1 .1 .0 ∙ k .clear-part .kept .0),
     )
 
 pub find-regions-spec : {M : Type 1} → statement M
@@ -118,7 +118,7 @@ find-regions-spec =
     build-records-requires
     add-merge-and-filter-regions
     merge-and-filter-regions-requires
-    clear-requires-2
+    clear-part-requires-2
     same-length
     same-length-2
     returns)

@@ -78,7 +78,16 @@ merge-and-filter-regions-requires c κs =
     ready _ _ _ _ _ _ _ _ _ (s .pre) (bytes (i .before)) _ _ _ (k .clear-part .kept .0) _ _ _ (g .grow .ensures) (g .grow .kept .1 .1 .1 .1 .1 .1 .1 .1 .0) _ (r .build-records .ensures)
 
 clear-part-requires-2 : tie.Need-clear-part-requires-2
-clear-part-requires-2 c κs = search needs
+clear-part-requires-2 c κs =
+    let m = c .before .before .before .before .before in
+    let r = B (m .before) in
+    let g = G (r .before) in
+    let k = P (g .before) in
+    let s = S (I (k .before) .before) in (
+      omega arith,
+      omega
+          (arith, m .merge-and-filter-regions .kept .0, r .build-records .ensures .size, g .grow .kept .1 .1 .1 .1 .1 .1 .1 .1 .0, k .clear-part .kept .0, s .pre .room),
+    )
 
 same-length : tie.Need-same-length
 same-length c = search needs

@@ -419,10 +419,9 @@ fn a_refusal_names_its_number_and_meaning() {
 #[test]
 fn calls_on_several_threads() {
     std::thread::scope(|scope| {
-        for thread in 0..4 {
+        for (thread, kind) in KINDS.iter().enumerate().take(4) {
             scope.spawn(move || {
                 for seed in 0..20 {
-                    let kind = KINDS[thread];
                     let case = kind.make(Size::Small, seed);
                     check_both(
                         &format!("thread {thread}, {} {seed}", kind.name),

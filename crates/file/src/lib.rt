@@ -1,0 +1,3 @@
+// The field file and the listing: reading the one, writing the other.
+mod put;
+pub mod read;

@@ -1,13 +1,13 @@
 -- Two results that satisfy the promise of `read_file` coincide: the lists are given by equations, and the answer can be read off the rule's reading.
 -- Assumes nothing.
-use Prim.Native.Nat.{ℕ, _*_, _≤_}
+use Prim.Native.Nat.{ℕ, _≤_}
 use native.Mathlib.Omega.{arith}
-use mathlib.Core.Path.{_≡_, refl, sym, ap, subst, _∙_}
+use mathlib.Core.Path.{_≡_, refl, sym, ap, _∙_}
 use mathlib.Core.List.{List}
-use lib.ListN.{length, take}
+use lib.ListN.{length}
 use lib.Seq.{length-take-le}
-use Rattle.rules.specs.File.{Reading, Level, refused, described}
-use Rattle.file.specs.Reads.{fileNumber, sizesOf, Lists, first, readingOf, Few, Reads}
+use Rattle.rules.specs.File.{Level, refused, described}
+use Rattle.file.specs.Reads.{fileNumber, Lists, readingOf, Few, Reads}
 use Rattle.file.specs.declared.read.FileRefusal.{FileRefusal}
 use Rattle.file.specs.declared.read.FileRefusal.the-variants.{Malformed, TooLarge}
 use Rattle.file.specs.declared.read.Header.{Header}

@@ -1,11 +1,11 @@
 -- The rule's reading, opened by one record at a place of the file: each law is one way a record is read or refused.
 -- Fuel is the number of bytes to come, and by `reading-fuel` and `held-fuel` any more gives the same.
-use Prim.Native.Nat.{ℕ, zero, suc, _+_, _-_, _*_, _≤_, _<_}
+use Prim.Native.Nat.{ℕ, zero, suc, _+_, _-_, _≤_, _<_}
 use native.Mathlib.Omega.{arith}
 use native.Mathlib.Numerals.{add-one}
-use mathlib.Core.Path.{_≡_, refl, sym, ap, _∙_}
+use mathlib.Core.Path.{_≡_, refl, ap, _∙_}
 use mathlib.Core.Bool.{Bool, true, false}
-use mathlib.Core.List.{List, [], _∷_, _++_}
+use mathlib.Core.List.{List, [], _∷_}
 use lib.ListN.{length, getD, take, drop, length-drop, drop-of-length-le}
 use lib.Seq.{drop-cons, drop-drop, getD-drop}
 use lib.Dec.{leb, ltb, eqb}
@@ -13,7 +13,7 @@ use borrow.Author.Tests.{eq-eqb, ne-eqb, le-leb, lt-leb, lt-ltb, le-ltb}
 use Rattle.rules.specs.Base.{_and_, if_then_else_}
 use Rattle.rules.specs.Field.{Field}
 use Rattle.rules.specs.Outcomes.{Sizes}
-use Rattle.rules.specs.File.{Reading, refused, described, withCell, withSpan, readOn}
+use Rattle.rules.specs.File.{refused, described, withCell, withSpan, readOn}
 use Rattle.laws.proofs.Basics.{and-no}
 use Rattle.laws.proofs.FileEnds.{reading-fuel}
 use Rattle.file.specs.Held.{heldOn, Ending, endOn}

@@ -1,23 +1,22 @@
 -- What one turn of the reader leaves, as the code has it: the rest of the reading is the same from the place after it, with the field so far in the lists.
 -- The field so far is the lists' beginnings, so a store at their end is the rule's `withSpan` or `withCell`.
-use Prim.Native.Nat.{ℕ, zero, suc, _+_, _-_, _*_, _≤_, _<_}
+use Prim.Native.Nat.{ℕ, suc, _+_, _-_, _*_, _≤_, _<_}
 use native.Mathlib.Omega.{arith}
 use native.Mathlib.Numerals.{add-one}
 use mathlib.Core.Path.{_≡_, refl, sym, ap, _∙_}
 use mathlib.Core.List.{List, [], _∷_, _++_}
 use lib.ListN.{length, getD, set, take, drop, length-drop}
-use lib.Seq.{length-take-le, take-take, take-suc-set, drop-set-lt, drop-cons, drop-drop, take-add}
+use lib.Seq.{length-take-le, take-take, take-suc-set, drop-set-lt, drop-cons}
 use Rattle.rules.specs.Field.{Field}
 use Rattle.rules.specs.Outcomes.{Sizes}
 use Rattle.rules.specs.File.{withCell, withSpan}
 use Rattle.field.specs.Lent.{lent}
 use Rattle.file.specs.Written.{written}
-use Rattle.file.specs.Held.{Ending, endOn}
-use Rattle.file.specs.Reads.{fileNumber, first, spansAt, soFar, endAt, endBy, after, Moves, Whole, Standing, Rest, Turned, SpanTurned, CellTurned, EndTurned}
+use Rattle.file.specs.Held.{endOn}
+use Rattle.file.specs.Reads.{fileNumber, first, spansAt, soFar, endAt, Standing, Turned, SpanTurned, CellTurned, EndTurned}
 use Rattle.file.specs.declared.read.FileRefusal.{FileRefusal}
 use Rattle.file.specs.declared.read.FileRefusal.the-variants.{Malformed, TooLarge}
 use Rattle.file.specs.declared.read.Place.{Place}
-use Rattle.file.specs.declared.read.Turn.{Turn}
 use Rattle.file.specs.declared.read.Turn.the-variants as turn
 use Rattle.file.proofs.Writing.{written-take, written-drop}
 use Rattle.file.proofs.Steps.{refusedEnd, at-end, span-kind, span-short, span-on, cell-kind, cell-short, cell-many, cell-on, end-kind, end-more, end-done}

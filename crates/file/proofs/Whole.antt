@@ -1,21 +1,19 @@
 -- The whole file: its header, and the loop over the records. The loop's invariant is `Going`: the rule's reading of the file is its reading from the place on,
 -- with the field so far in the lists; what is past it there is as it was.
-use Prim.Native.Nat.{ℕ, zero, suc, _+_, _-_, _*_, _≤_, _<_}
+use Prim.Native.Nat.{ℕ, _+_, _-_, _*_, _≤_, _<_}
 use native.Mathlib.Omega.{arith}
 use mathlib.Core.Path.{_≡_, refl, sym, ap, subst, _∙_}
-use mathlib.Core.Bool.{Bool, true, false}
-use mathlib.Core.List.{List, [], _∷_, _++_}
+use mathlib.Core.Bool.{true, false}
+use mathlib.Core.List.{List, [], _∷_}
 use lib.ListN.{length, getD, take, drop, length-drop, take-append-drop}
 use lib.Seq.{drop-drop, length-take-le}
 use lib.Dec.{leb, ltb, eqb}
 use borrow.Author.Tests.{eq-eqb, ne-eqb, le-leb, lt-leb, lt-ltb, le-ltb}
 use Rattle.rules.specs.Base.{_and_, if_then_else_}
-use Rattle.rules.specs.Field.{Field}
-use Rattle.rules.specs.Outcomes.{Sizes}
-use Rattle.rules.specs.File.{Reading, refused, word, readFile, emptyField}
+use Rattle.rules.specs.File.{refused, word, readFile, emptyField}
 use Rattle.laws.proofs.Basics.{and-no}
 use Rattle.file.specs.Held.{Ending, endOn, held}
-use Rattle.file.specs.Reads.{fileNumber, sizesOf, Lists, readingOf, Few, over, Reads, spansAt, soFar, endAt, endBy, Standing, Rest, Turned, endHeaded, Headed}
+use Rattle.file.specs.Reads.{fileNumber, sizesOf, Lists, readingOf, Few, over, Reads, spansAt, soFar, endAt, Standing, Rest, Turned, endHeaded, Headed}
 use Rattle.file.specs.declared.read.FileRefusal.{FileRefusal}
 use Rattle.file.specs.declared.read.FileRefusal.the-variants.{Malformed, TooLarge}
 use Rattle.file.specs.declared.read.Header.{Header}

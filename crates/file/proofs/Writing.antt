@@ -1,11 +1,11 @@
 -- Laws of `written`: nothing written, one text after another, one byte more.
-use Prim.Native.Nat.{ℕ, zero, suc, _+_, _-_, _≤_, _<_}
+use Prim.Native.Nat.{ℕ, _+_, _≤_, _<_}
 use native.Mathlib.Omega.{arith}
 use native.Mathlib.Numerals.{add-one}
-use mathlib.Core.Path.{_≡_, refl, sym, ap, _∙_}
+use mathlib.Core.Path.{_≡_, sym, ap, _∙_}
 use mathlib.Core.List.{List, [], _∷_, _++_, append-assoc}
 use lib.ListN.{length, getD, set, take, drop, length-append, length-drop, take-append-drop, drop-of-length-le}
-use lib.Seq.{length-take-le, take-at, drop-at, drop-drop, drop-cons, set-split, take-suc, take-length, take-append-seam, drop-append-add}
+use lib.Seq.{length-take-le, take-at, drop-at, drop-drop, drop-cons, set-split}
 use Rattle.file.specs.Written.{written, Room, Wrote}
 
 -- nothing
@@ -64,3 +64,21 @@ module _ (out₀ : List ℕ) (at : ℕ) (t : List ℕ) (h : Room out₀ at t) (o
 
   pub byte-last : i ≤ length t → length t ≤ i → Wrote out₀ at t (at + i) out
   byte-last g k = record { ends = omega arith; bytes = sym (written-none out (at + i)) ∙ ap (written out (at + i)) (sym (drop-of-length-le t k)) ∙ e }
+
+-- ---------------------------------------------------------------- one text after another, as the code has it
+
+pub room-first : (out : List ℕ) (at : ℕ) (t u : List ℕ) → Room out at (t ++ u) → Room out at t
+room-first out at t u h = record { fits = omega (arith, h .fits, length-append t u) }
+
+module _ (out : List ℕ) (at : ℕ) (t u : List ℕ) (h : Room out at (t ++ u)) (r : ℕ) (out′ : List ℕ) (g : Wrote out at t r out′) where
+  kept : length out′ ≡ length out
+  kept = ap length (g .bytes) ∙ written-length out at t (room-first out at t u h .fits)
+
+  pub room-then : Room out′ r u
+  room-then = record { fits = omega (arith, h .fits, length-append t u, g .ends, kept) }
+
+  pub wrote-then : (s : ℕ) (out″ : List ℕ) → Wrote out′ r u s out″ → Wrote out at (t ++ u) s out″
+  wrote-then s out″ k = record {
+    ends = omega (arith, length-append t u, g .ends, k .ends);
+    bytes = k .bytes ∙ ap (λ (l : List ℕ). written l r u) (g .bytes) ∙ ap (λ (j : ℕ). written (written out at t) j u) (g .ends) ∙ written-more out at t u (h .fits);
+  }

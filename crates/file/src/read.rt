@@ -2,10 +2,9 @@
 use crate::put::put_all;
 use field::read::at8;
 ghost use mathlib.Core.Path.{_≡_};
-ghost use mathlib.Core.List.{List};
-ghost use Prim.Native.Nat.{ℕ, _+_, _-_, _*_, _≤_, _<_};
-ghost use lib.ListN.{length, getD, take};
-ghost use Rattle.rules.specs.File.{word, readFile};
+ghost use Prim.Native.Nat.{_+_, _-_, _*_, _≤_, _<_};
+ghost use lib.ListN.{length};
+ghost use Rattle.rules.specs.File.{word};
 ghost use Rattle.file.specs.Reads.{Lists, Standing, SpanTurned, CellTurned, EndTurned, Turned, Headed, Reads};
 
 // Document 01's refusals of a file.

@@ -1,6 +1,7 @@
-// The distance entry on sample fields and at its limits. What it prints is held against what the oracle gives for the same calls
+// The two entries on sample fields and at their limits. What it prints is held against what the oracle gives for the same calls
 // (oracle/oracle/src/bin/limits.rs).
 mod fields;
+mod regions;
 mod show;
 
 use fields::AREAS;
@@ -12,6 +13,8 @@ use fields::LAYERS_CON;
 use fields::LAYERS_COUNT;
 use fields::LAYERS_INDEX;
 use fields::count_up;
+use regions::distances;
+use regions::regions;
 use show::run;
 
 fn samples() {
@@ -201,4 +204,6 @@ fn main() {
     long_lists();
     cells();
     connections();
+    regions();
+    distances();
 }

@@ -19,7 +19,7 @@ fn answer(r: DistanceAnswer) {
 }
 
 // Document 01's number.
-fn refusal_number(r: Refusal) -> u64 {
+pub(crate) fn refusal_number(r: Refusal) -> u64 {
     match r {
         Refusal::TooWide => 1,
         Refusal::TooMany => 2,
@@ -57,7 +57,7 @@ fn numbers(l: &[u16]) {
 }
 
 // The numbers of a short list; of a long one its length and a digest.
-fn list(name: &[u8], l: &[u16]) {
+pub(crate) fn list(name: &[u8], l: &[u16]) {
     io::write_all(1, name);
     if 64 < l.len() {
         io::write_all(1, b" length ");

@@ -1,8 +1,8 @@
-//! What the Rattle program `limits` must print: the distance entry on sample fields and at its limits, from the unchanged
+//! What the Rattle program `limits` must print: the two entries on sample fields and at their limits, from the unchanged
 //! Rust and the model of the refusals. The calls are those of `crates/limits/src/main.rt`, in its order.
 
 use oracle::{
-    field::Field,
+    field::{Field, Settings},
     refusals::{self, Refusal},
     run,
 };
@@ -22,6 +22,83 @@ fn main() {
     for call in calls() {
         print!("{}", answer(&call));
     }
+    for call in region_calls() {
+        print!("{}", region_answer(&call));
+    }
+}
+
+/// A call of the region entry on the open field of 3 by 3.
+struct RegionCall {
+    name: &'static str,
+    distances: &'static [u16],
+    max_distance: u16,
+    border_size: u16,
+    least_area: u16,
+    workspace: usize,
+}
+
+fn region_calls() -> Vec<RegionCall> {
+    const OWN: &[u16] = &[0, 0, 0, 0, 2, 0, 0, 0, 0];
+    const ABOVE: &[u16] = &[0, 0, 0, 0, 3, 0, 0, 0, 0];
+    let call = |name, distances, max_distance, border_size, least_area, workspace| RegionCall {
+        name,
+        distances,
+        max_distance,
+        border_size,
+        least_area,
+        workspace,
+    };
+    vec![
+        call("regions", OWN, 2, 0, 0, 5_248),
+        call("border 1", OWN, 2, 1, 0, 5_248),
+        call("least area 9", OWN, 2, 0, 9, 5_248),
+        call("least area 10", OWN, 2, 0, 10, 5_248),
+        call("workspace longer", OWN, 2, 0, 0, 5_300),
+        call("workspace one short", OWN, 2, 0, 0, 5_247),
+        call(
+            "max_distance 510",
+            &[0, 0, 0, 0, 510, 0, 0, 0, 0],
+            510,
+            0,
+            0,
+            5_248,
+        ),
+        call("max_distance 511", OWN, 511, 0, 0, 5_248),
+        call("distance above", ABOVE, 2, 0, 0, 5_248),
+        call("7 before 8", ABOVE, 2, 0, 0, 5_247),
+        call("distances short", &ABOVE[..8], 2, 0, 0, 5_247),
+    ]
+}
+
+fn region_answer(call: &RegionCall) -> String {
+    let field = open_three();
+    let settings = Settings {
+        border_size: call.border_size,
+        least_area: call.least_area,
+        merge_area: 0,
+    };
+    let result = refusals::region_entry(
+        &field,
+        call.distances,
+        call.max_distance,
+        field.spans(),
+        call.workspace,
+    )
+    .and_then(|()| run::regions(&field, call.distances, call.max_distance, settings));
+    let (line, ids, workspace) = match result {
+        Ok(done) => (
+            format!("max_region {} overlaps {}", done.max_region, done.overlaps),
+            done.ids,
+            vec![0; call.workspace],
+        ),
+        Err(refusal) => (line(refusal), vec![LENT; 9], vec![LENT; call.workspace]),
+    };
+    format!(
+        "{}: {line}\n{}{}",
+        call.name,
+        list("ids", &ids),
+        list("workspace", &workspace)
+    )
 }
 
 fn answer(call: &Call) -> String {

@@ -1,0 +1,10 @@
+pub mod Writing
+pub mod Decimals
+pub mod Joins
+pub mod Lines
+pub mod Bounds
+pub mod Sizes
+pub mod Steps
+pub mod Turns
+pub mod Whole
+pub mod OneReading

@@ -1,0 +1,4 @@
+pub mod Written
+pub mod Held
+pub mod Reads
+pub mod Shown

@@ -6,7 +6,7 @@ use native.Mathlib.Decide.{ℕ-discrete}
 use mathlib.Core.Path.{_≡_, refl, sym, ap, subst, _∙_}
 use mathlib.Core.Bool.{Bool, true, false}
 use mathlib.Core.List.{List, [], _∷_, _++_}
-use lib.ListN.{length, replicate, length-replicate}
+use lib.ListN.{length, take, replicate, length-replicate, length-take}
 use lib.Dec.{eqb}
 use borrow.Author.Tests.{eq-eqb, ne-eqb, eqb-true, eqb-false}
 use Rattle.rules.specs.Base.{if_then_else_}
@@ -208,3 +208,9 @@ module _ (bytes : List ℕ) (out : List ℕ) (r : ℕ) (out′ : List ℕ) where
           let e : described (record { field = first (t .w) (t .h) (t .w * t .h) n is′ ks′ ar′ cs′; sizes = sizesOf t }) ≡ readFile bytes
           = ap (λ (v : FileReading). readingOf v is′ ks′ ar′ cs′) (sym u) ∙ b .same in
           rw (← e) y
+
+-- what is printed lies within out
+pub prints-within : (out t : List ℕ) (r : ℕ) (out′ : List ℕ) → Prints out t r out′ → r ≤ length out′
+prints-within out t r out′ p =
+    let e : length (take r out′) ≡ r = ap length (p .bytes) ∙ sym (p .ends) in
+    omega (arith, length-take r out′, e)

@@ -11,7 +11,8 @@ use watershed::build_distance_field;
 use watershed::build_regions;
 use watershed::refusal_number;
 ghost use mathlib.Core.Path.{_≡_};
-ghost use Prim.Native.Nat.{_*_};
+ghost use Prim.Native.Nat.{_*_, _≤_};
+ghost use lib.ListN.{length};
 ghost use Rattle.rules.specs.Listing.{ran, printed};
 ghost use Rattle.field.specs.Lent.{lent};
 ghost use Rattle.file.specs.Reads.{Few, Lists, fileNumber, first, sizesOf};
@@ -176,4 +177,32 @@ pub fn answer(
             )
         }
     }
+}
+
+// The same, with room of its own for everything but out.
+pub fn reply(bytes: &[u8], out: &mut [u8]) -> usize
+    requires { ⌜ 4096 ≤ length (now out) ⌝ }
+    ensures { λ r. ⌜ Prints (now (out .entry)) (printed (now (bytes .entry))) r (now (out .exit)) ⌝ }
+    ensures { λ r. ⌜ r ≤ length (now (out .exit)) ⌝ }
+{
+    let mut index = [0u32; 1024];
+    let mut count = [0u8; 1024];
+    let mut area = [0u8; 200];
+    let mut con = [0u8; 800];
+    let mut raw = [0u16; 200];
+    let mut blurred = [0u16; 200];
+    let mut workspace = [0u16; 29696];
+    let mut ids = [0u16; 200];
+    answer(
+        bytes,
+        &mut index,
+        &mut count,
+        &mut area,
+        &mut con,
+        &mut raw,
+        &mut blurred,
+        &mut workspace,
+        &mut ids,
+        out,
+    )
 }

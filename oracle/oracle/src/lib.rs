@@ -9,3 +9,5 @@ pub mod model;
 pub mod refusals;
 pub mod rng;
 pub mod run;
+pub mod sketch;
+pub mod vectors;

@@ -9,5 +9,6 @@ pub mod model;
 pub mod refusals;
 pub mod rng;
 pub mod run;
+pub mod samples;
 pub mod sketch;
 pub mod vectors;

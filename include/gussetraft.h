@@ -1,18 +1,18 @@
-/* Gussetraft: the watershed part of a navigation library, proved. Link with libgussetraft.a (rt staticlib gussetraft), x86-64.
+/* Gussetraft: the watershed part of a navigation library, proved. Link with libgussetraft.a (rt staticlib gussetraft), x86-64 Linux;
+ * from outside it calls memset alone.
  *
- * A field is w by h cells, row by row (x fastest), each an index and a count, and n spans, n being area_len: an area byte and four
- * connection bytes each, in direction order (-1,0), (0,1), (1,0), (0,-1); 255 is no connection, otherwise a layer of the cell across.
+ * A field is w by h cells, row by row (x fastest), each an index and a count, and n spans, n being area_len: an area byte (0: not
+ * walkable) and four connection bytes each, in direction order (-1,0), (0,1), (1,0), (0,-1); GUSSETRAFT_NO_CONNECTION is none,
+ * otherwise a layer of the cell across. A nonempty cell's index is the sum of the counts before it.
  *
- * Every function takes any input and ends. Bad input is refused with a number, and every lent list then holds what it held before.
- * Nothing is allocated or kept: the caller owns every list before, during and after a call.
+ * Every function takes any numbers in the lists, and ends. Bad input is refused with a number, and every lent list then holds what it
+ * held before. What is answered otherwise is in docs/01-scope.md, and proved (docs/PROOFS.md).
  *
- * Refusals:
- *   1  w or h above 256
- *   2  n above 32,000
- *   3  a list has the wrong length: w*h (index, count), n (area, raw, blurred) or 4*n (con)
- *   4  a cell's count is above 63, a nonempty cell's index is wrong, or the counts do not sum to n
- *   5  a connection leaves the grid or names a layer that the cell lacks
- *   6  a connection is not answered from the other side
+ * Who owns what: the caller owns every list before, during and after a call. Nothing is allocated, freed or kept, and there is no state
+ * between calls, so calls on different lists may run on several threads at once.
+ *
+ * What a caller in C must see to: each pointer has as many elements as the length beside it says, is aligned for its type and is not
+ * null, also where the length is 0; a list that a call writes overlaps no other list of that call.
  */
 #ifndef GUSSETRAFT_H
 #define GUSSETRAFT_H
@@ -24,7 +24,44 @@
 extern "C" {
 #endif
 
-/* refusal: 0, or the number of the refusal; max_distance: 0 where refused. */
+/* The connection byte of a side that leads nowhere. */
+#define GUSSETRAFT_NO_CONNECTION 255
+
+/* The bit of a painted border's ids: 1 to 4 beside it for the left columns, the right columns, the low rows and the high rows. */
+#define GUSSETRAFT_BORDER 0x8000
+
+/* The least number of elements of the workspace, for n spans. */
+#define GUSSETRAFT_WORKSPACE_LEN(n) ((size_t)128 * (size_t)(n) + (size_t)4096)
+
+/* Refusals, looked for in this order; the first that applies is given. 7 and 8 are given by gussetraft_build_regions alone. */
+enum {
+    GUSSETRAFT_TOO_WIDE = 1,     /* w or h above 256 */
+    GUSSETRAFT_TOO_MANY = 2,     /* n above 32,000 */
+    GUSSETRAFT_WRONG_LENGTH = 3, /* a list has the wrong length: w*h (index, count), n (raw, blurred, dist, ids) or 4*n (con) */
+    GUSSETRAFT_WRONG_CELLS = 4,  /* a cell's count is above 63, a nonempty cell's index is wrong, or the counts do not sum to n */
+    GUSSETRAFT_WRONG_REACH = 5,  /* a connection leaves the grid or names a layer that the cell lacks */
+    GUSSETRAFT_WRONG_BACK = 6,   /* a connection is not answered from the other side */
+    GUSSETRAFT_TOO_SHORT = 7,    /* workspace_len is below GUSSETRAFT_WORKSPACE_LEN(n) */
+    GUSSETRAFT_TOO_FAR = 8       /* max_distance is above 510, or a distance is above max_distance */
+};
+
+/* What the number of a refusal means; of 0, "not refused". The text is constant. */
+static inline const char *gussetraft_refusal_text(uint16_t refusal) {
+    switch (refusal) {
+    case 0: return "not refused";
+    case GUSSETRAFT_TOO_WIDE: return "the width or the height is above 256";
+    case GUSSETRAFT_TOO_MANY: return "there are more than 32,000 spans";
+    case GUSSETRAFT_WRONG_LENGTH: return "a list other than the workspace has the wrong length";
+    case GUSSETRAFT_WRONG_CELLS: return "a cell's count is above 63, its index is wrong, or the counts do not sum to the number of spans";
+    case GUSSETRAFT_WRONG_REACH: return "a connection leaves the grid or names a layer that the cell lacks";
+    case GUSSETRAFT_WRONG_BACK: return "a connection is not answered from the other side";
+    case GUSSETRAFT_TOO_SHORT: return "the workspace is shorter than 128 numbers a span and 4,096";
+    case GUSSETRAFT_TOO_FAR: return "the greatest distance is above 510, or a distance is above the greatest";
+    default: return "no such refusal";
+    }
+}
+
+/* refusal: 0, or the number of the refusal; max_distance, the greatest raw distance: 0 where refused. */
 typedef struct {
     uint16_t refusal;
     uint16_t max_distance;
@@ -39,6 +76,29 @@ gussetraft_distance_answer gussetraft_build_distance_field(
     const uint8_t *con, size_t con_len,
     uint16_t *raw, size_t raw_len,
     uint16_t *blurred, size_t blurred_len);
+
+/* refusal: 0, or the number of the refusal; max_region, the last number given: the ids in use are exactly 1 (5 with a border) to
+ * max_region - 1, and those of the border; overlaps: how many regions, before the merge, lie over themselves. Both are 0 where refused. */
+typedef struct {
+    uint16_t refusal;
+    uint16_t max_region;
+    uint16_t overlaps;
+} gussetraft_region_answer;
+
+/* Writes the region id of each span; 0 is none. dist and max_distance are the blurred distances and the number that
+ * gussetraft_build_distance_field gives, or any others up to 510. What the workspace holds before does not matter; where the call is
+ * not refused it holds zeros after, all of it. The two areas are numbers of spans. */
+gussetraft_region_answer gussetraft_build_regions(
+    uint16_t w, uint16_t h,
+    const uint32_t *index, size_t index_len,
+    const uint8_t *count, size_t count_len,
+    const uint8_t *area, size_t area_len,
+    const uint8_t *con, size_t con_len,
+    const uint16_t *dist, size_t dist_len,
+    uint16_t max_distance,
+    uint16_t border_size, uint16_t min_region_area, uint16_t merge_region_area,
+    uint16_t *workspace, size_t workspace_len,
+    uint16_t *ids, size_t ids_len);
 
 #ifdef __cplusplus
 }

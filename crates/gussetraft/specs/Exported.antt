@@ -2,11 +2,19 @@
 use Prim.Native.Nat.{ℕ}
 use mathlib.Core.Path.{_≡_}
 use mathlib.Core.List.{List}
-use Rattle.rules.specs.Outcomes.{DistanceOutcome}
+use Rattle.rules.specs.Outcomes.{DistanceOutcome, RegionOutcome}
 use Rattle.gussetraft.specs.declared.Distances.{Distances}
+use Rattle.gussetraft.specs.declared.Regions.{Regions}
 
 pub record Gives (o : DistanceOutcome) (r : Distances) (raw blurred : List ℕ) : Type 0 where
   pub refusal : r .refusal ≡ o .refused
   pub most : r .«max_distance» ≡ o .most
   pub first : raw ≡ o .raw
   pub second : blurred ≡ o .blurred
+
+pub record GivesRegions (o : RegionOutcome) (r : Regions) (workspace ids : List ℕ) : Type 0 where
+  pub refusal : r .refusal ≡ o .refused
+  pub most : r .«max_region» ≡ o .most
+  pub over : r .overlaps ≡ o .over
+  pub cleared : workspace ≡ o .workspace
+  pub numbers : ids ≡ o .ids

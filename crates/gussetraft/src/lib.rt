@@ -1,13 +1,14 @@
 // The functions that C and Rust call (include/gussetraft.h). They take any input, as the entries do.
-use field::checker::Refusal;
 use watershed::DistanceAnswer;
+use watershed::RegionAnswer;
 use watershed::build_distance_field;
+use watershed::build_regions;
+use watershed::refusal_number;
 ghost use mathlib.Core.Path.{_≡_};
-ghost use Rattle.rules.specs.Outcomes.{distanceOutcome};
+ghost use Rattle.rules.specs.Outcomes.{distanceOutcome, regionOutcome};
 ghost use Rattle.field.specs.Lent.{lent};
-ghost use Rattle.field.specs.Answer.{numberOf};
-ghost use Rattle.watershed.specs.Answer.{refusedBy, mostIn};
-ghost use Rattle.gussetraft.specs.Exported.{Gives};
+ghost use Rattle.watershed.specs.Answer.{refusedBy, mostIn, regionsRefusedBy, maxRegionIn, overlapsIn};
+ghost use Rattle.gussetraft.specs.Exported.{Gives, GivesRegions};
 
 // The answer of the distance entry: 0 or the refusal number, and max_distance.
 #[repr(C)]
@@ -16,20 +17,12 @@ pub struct Distances {
     pub max_distance: u16,
 }
 
-// Document 01's number of a refusal.
-fn number(r: Refusal) -> u16
-    ensures { λ k. ⌜ k ≡ numberOf r ⌝ }
-{
-    match r {
-        Refusal::TooWide => 1,
-        Refusal::TooMany => 2,
-        Refusal::WrongLength => 3,
-        Refusal::WrongCells => 4,
-        Refusal::WrongReach => 5,
-        Refusal::WrongBack => 6,
-        Refusal::TooShort => 7,
-        Refusal::TooFar => 8,
-    }
+// The answer of the region entry: 0 or the refusal number, max_region, and the overlap count.
+#[repr(C)]
+pub struct Regions {
+    pub refusal: u16,
+    pub max_region: u16,
+    pub overlaps: u16,
 }
 
 fn numbers(a: DistanceAnswer) -> Distances
@@ -37,12 +30,29 @@ fn numbers(a: DistanceAnswer) -> Distances
 {
     match a {
         DistanceAnswer::Refused(r) => Distances {
-            refusal: number(r),
+            refusal: refusal_number(r),
             max_distance: 0,
         },
         DistanceAnswer::Done(m) => Distances {
             refusal: 0,
             max_distance: m,
+        },
+    }
+}
+
+fn region_numbers(a: RegionAnswer) -> Regions
+    ensures { λ r. ⌜ (r .refusal ≡ regionsRefusedBy a) × (r .«max_region» ≡ maxRegionIn a) × (r .overlaps ≡ overlapsIn a) ⌝ }
+{
+    match a {
+        RegionAnswer::Refused(r) => Regions {
+            refusal: refusal_number(r),
+            max_region: 0,
+            overlaps: 0,
+        },
+        RegionAnswer::Done(m, o) => Regions {
+            refusal: 0,
+            max_region: m,
+            overlaps: o,
         },
     }
 }
@@ -61,4 +71,39 @@ pub extern "C" fn gussetraft_build_distance_field(
     ensures { λ r. ⌜ Gives (distanceOutcome (lent w h (now (index .entry)) (now (count .entry)) (now (area .entry)) (now (con .entry))) (now (raw .entry)) (now (blurred .entry))) r (now (raw .exit)) (now (blurred .exit)) ⌝ }
 {
     numbers(build_distance_field(w, h, index, count, area, con, raw, blurred))
+}
+
+#[no_mangle]
+pub extern "C" fn gussetraft_build_regions(
+    w: u16,
+    h: u16,
+    index: &[u32],
+    count: &[u8],
+    area: &[u8],
+    con: &[u8],
+    dist: &[u16],
+    max_distance: u16,
+    border_size: u16,
+    min_region_area: u16,
+    merge_region_area: u16,
+    workspace: &mut [u16],
+    ids: &mut [u16],
+) -> Regions
+    ensures { λ r. ⌜ GivesRegions (regionOutcome (lent w h (now (index .entry)) (now (count .entry)) (now (area .entry)) (now (con .entry))) (now (dist .entry)) «max_distance» (record { border = «border_size»; least = «min_region_area»; merge = «merge_region_area» }) (now (workspace .entry)) (now (ids .entry))) r (now (workspace .exit)) (now (ids .exit)) ⌝ }
+{
+    region_numbers(build_regions(
+        w,
+        h,
+        index,
+        count,
+        area,
+        con,
+        dist,
+        max_distance,
+        border_size,
+        min_region_area,
+        merge_region_area,
+        workspace,
+        ids,
+    ))
 }

@@ -1,0 +1,34 @@
+//! side levels|growing FOLDER: writes the levels. side gussetraft|checker|rust distance|regions FILE: runs the distance entry, or both, on one.
+
+use side::{
+    measured::{compare, mark, read_level, write_levels},
+    run::{self, Entries},
+};
+use std::env;
+
+const USAGE: &str =
+    "side levels|growing FOLDER, or side gussetraft|checker|rust distance|regions FILE";
+
+fn main() {
+    let words: Vec<_> = env::args().skip(1).collect();
+    let words: Vec<_> = words.iter().map(String::as_str).collect();
+    match words[..] {
+        ["levels", folder] => write_levels(folder, false),
+        ["growing", folder] => write_levels(folder, true),
+        [who, entries, path] => {
+            let entries = match entries {
+                "distance" => Entries::Distance,
+                "regions" => Entries::Both,
+                _ => panic!("{USAGE}"),
+            };
+            let case = read_level(path);
+            match who {
+                "gussetraft" => compare(path, &run::gussetraft(&case, entries, mark)),
+                "rust" => compare(path, &run::rust(&case, entries, mark)),
+                "checker" => run::checker(&case, entries, mark),
+                _ => panic!("{USAGE}"),
+            }
+        }
+        _ => panic!("{USAGE}"),
+    }
+}

@@ -1,0 +1,145 @@
+//! The levels: made from the oracle's kinds, and some whose number of spans can be chosen.
+
+use oracle::{
+    field::{Case, Field, Settings},
+    levels::{self, Size},
+};
+
+/// Areas as a game sets them: removed below 8 by 8 spans, merged up to 20 by 20.
+const SETTINGS: Settings = Settings {
+    border_size: 0,
+    least_area: 64,
+    merge_area: 400,
+};
+
+/// Name, kind and seed of a level of the oracle's, each of some 31,000 spans.
+const KINDS: [(&str, &str, u64); 12] = [
+    ("open", "open", 71),
+    ("terrain", "terrain", 97),
+    ("buildings", "rooms", 8),
+    ("buildings, border 4", "borders", 8),
+    ("blocks", "blocks", 4),
+    ("towers, 3 storeys", "towers", 105),
+    ("spiral", "spiral", 20),
+    ("spiral stairs, 53 layers", "helix", 3),
+    ("corridor", "corridor", 36),
+    ("noise", "random", 141),
+    ("8 layers", "layers", 130),
+    ("63 layers", "layers", 110),
+];
+
+/// The numbers of spans that show how cost grows.
+const STEPS: [usize; 5] = [2_000, 4_000, 8_000, 16_000, 32_000];
+
+/// Levels of some 31,000 spans, by name.
+pub fn large() -> Vec<(String, Case)> {
+    let mut all: Vec<_> = KINDS
+        .iter()
+        .map(|&(name, kind, seed)| (name.to_owned(), large_of(kind, seed)))
+        .collect();
+    all.push(("passage".to_owned(), with_settings(passage(8_000))));
+    all
+}
+
+/// A field of a number of spans.
+type Shape = fn(usize) -> Field;
+
+/// The same shapes with more and more spans.
+pub fn growing() -> Vec<(String, Case)> {
+    let shapes: [(&str, Shape); 3] = [
+        ("open", open),
+        ("buildings", buildings),
+        ("passage", passage),
+    ];
+    let mut all = Vec::new();
+    for (name, shape) in shapes {
+        for n in STEPS {
+            // the square of 32,000 takes a counter too long
+            if name != "passage" || n <= 16_000 {
+                all.push((format!("{name} {n}"), with_settings(shape(n))));
+            }
+        }
+    }
+    all
+}
+
+fn large_of(kind: &str, seed: u64) -> Case {
+    let kind = levels::kind(kind).expect("a kind of the oracle");
+    let mut case = kind.make(Size::Large, seed);
+    case.settings = Settings {
+        border_size: if case.settings.border_size > 0 && kind.name == "borders" {
+            4
+        } else {
+            0
+        },
+        ..SETTINGS
+    };
+    case
+}
+
+fn with_settings(field: Field) -> Case {
+    Case {
+        field,
+        settings: SETTINGS,
+    }
+}
+
+/// Nearly a square.
+fn open(n: usize) -> Field {
+    flat(n, n.isqrt() as u16, |_, _| true)
+}
+
+/// Rooms of 7 by 7 with a door to the right and one below.
+fn buildings(n: usize) -> Field {
+    flat(n, (n * 5 / 4).isqrt() as u16, |x, z| match (x % 8, z % 8) {
+        (7, 7) => false,
+        (7, along) | (along, 7) => along == 3,
+        _ => true,
+    })
+}
+
+/// A hall of 12 by 12, and from it a passage one cell wide, folded: the region of the hall goes on through the passage one cell a
+/// round.
+fn passage(n: usize) -> Field {
+    flat(n, (2 * n).isqrt().min(256) as u16, |x, z| {
+        if z < 12 {
+            return x < 12;
+        }
+        let (fold, wall) = ((z - 12) / 2, z % 2 == 1);
+        let last = (2 * n).isqrt().min(256) as u16 - 1;
+        !wall || x == if fold % 2 == 0 { last } else { 0 }
+    })
+}
+
+/// Rows of w cells until there are n spans, one to a cell where there is a floor, all joined.
+fn flat(n: usize, w: u16, floor: impl Fn(u16, u16) -> bool) -> Field {
+    let mut field = Field {
+        w,
+        ..Field::default()
+    };
+    let mut room = n;
+    'rows: for z in 0..256 {
+        for x in 0..w {
+            if room == 0 && x == 0 {
+                break 'rows;
+            }
+            let there = room > 0 && floor(x, z);
+            field.index.push((n - room) as u32);
+            field.count.push(u8::from(there));
+            room -= usize::from(there);
+        }
+        field.h += 1;
+    }
+    field.area = vec![1; n - room];
+    for cell in 0..field.cells() {
+        if field.count[cell] == 1 {
+            for d in 0..4 {
+                let joined = field
+                    .cell_beside(cell, d)
+                    .is_some_and(|beside| field.count[beside] == 1);
+                field.con.push(if joined { 0 } else { 255 });
+            }
+        }
+    }
+    field
+}

@@ -1,0 +1,5 @@
+//! Gussetraft and the unchanged Rust on the same levels.
+
+pub mod level;
+pub mod measured;
+pub mod run;

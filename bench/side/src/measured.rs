@@ -1,0 +1,70 @@
+//! Files of levels and answers, and the marks that a counting emulator sees.
+
+use crate::{
+    level,
+    run::{self, Answer, Entries},
+};
+use oracle::{
+    field::Case,
+    file::{self, Limits},
+};
+use std::{env, fs, path::Path};
+
+/// Writes NUMBER.field and NUMBER.answer for each level to a folder, and prints a line for each: its number, its number of spans,
+/// its name.
+pub fn write_levels(folder: &str, growing: bool) {
+    let levels = if growing {
+        level::growing()
+    } else {
+        level::large()
+    };
+    for (number, (name, case)) in levels.into_iter().enumerate() {
+        let stem = Path::new(folder).join(number.to_string());
+        let answer = run::rust(&case, Entries::Both, |_| ());
+        fs::write(stem.with_extension("field"), file::write(&case)).expect("can write a level");
+        fs::write(stem.with_extension("answer"), bytes(&answer)).expect("can write an answer");
+        println!("{number} {} {name}", case.field.spans());
+    }
+}
+
+/// The level of a file.
+pub fn read_level(path: &str) -> Case {
+    file::read(&fs::read(path).expect("can read a level"), Limits::FORMAT).expect("a level")
+}
+
+/// The numbers of an answer, little-endian: max_distance, the distances, and if the region entry was run max_region and the ids.
+fn bytes(answer: &Answer) -> Vec<u8> {
+    let mut numbers = vec![answer.max_distance];
+    numbers.extend(&answer.distances);
+    if let Some(regions) = &answer.regions {
+        numbers.push(regions.max_region);
+        numbers.extend(&regions.ids);
+    }
+    numbers
+        .iter()
+        .flat_map(|number| number.to_le_bytes())
+        .collect()
+}
+
+/// Stops where an answer is not the one that was written for the level.
+pub fn compare(path: &str, answer: &Answer) {
+    let written =
+        fs::read(Path::new(path).with_extension("answer")).expect("can read the level's answer");
+    assert!(
+        written.starts_with(&bytes(answer)),
+        "{path}: the answers are not the same"
+    );
+}
+
+/// A mark for a counting emulator (bench/count.c), where SIDE_MARKS is set: a call of the system that there is none of.
+pub fn mark(number: u64) {
+    #[cfg(all(target_arch = "x86_64", target_os = "linux"))]
+    if env::var_os("SIDE_MARKS").is_some() {
+        // SAFETY: Linux answers an unknown number with ENOSYS and does nothing.
+        unsafe {
+            core::arch::asm!("syscall", inlateout("rax") 0x5e1_u64 => _, in("rdi") number, out("rcx") _, out("r11") _);
+        }
+    }
+    #[cfg(not(all(target_arch = "x86_64", target_os = "linux")))]
+    let _ = (number, env::var_os("SIDE_MARKS"));
+}

@@ -1,0 +1,236 @@
+//! Safe bindings to Gussetraft: from the cells, connections and area codes of a compact heightfield to distances and one
+//! region id per span.
+//!
+//! What the two functions answer is proved, for every input, damaged lists included; `docs/PROOFS.md` of the Gussetraft
+//! repository says what and where. Nothing is allocated, kept or shared: every list is the caller's, so calls on different
+//! lists may run on several threads at once.
+//!
+//! ```
+//! use gussetraft::{build_distance_field, build_regions, workspace_len, Field, Sizes};
+//!
+//! // 3 by 3 cells with one span each. A connection is the layer that it leads to; 255 is none.
+//! // The directions are (-1, 0), (0, 1), (1, 0), (0, -1).
+//! let mut con = Vec::new();
+//! for z in 0..3 {
+//!     for x in 0..3 {
+//!         for inside in [x > 0, z < 2, x < 2, z > 0] {
+//!             con.push(if inside { 0 } else { 255 });
+//!         }
+//!     }
+//! }
+//! let field = Field {
+//!     w: 3,
+//!     h: 3,
+//!     index: &[0, 1, 2, 3, 4, 5, 6, 7, 8],
+//!     count: &[1; 9],
+//!     area: &[1; 9],
+//!     con: &con,
+//! };
+//!
+//! let (mut raw, mut blurred) = ([0; 9], [0; 9]);
+//! let max_distance = build_distance_field(&field, &mut raw, &mut blurred)?;
+//! assert_eq!(max_distance, 2);
+//! assert_eq!(blurred, [0, 0, 0, 0, 2, 0, 0, 0, 0]);
+//!
+//! let sizes = Sizes { border_size: 0, min_region_area: 8, merge_region_area: 20 };
+//! let mut workspace = vec![0; workspace_len(9)];
+//! let mut ids = [0; 9];
+//! let regions = build_regions(&field, &blurred, max_distance, &sizes, &mut workspace, &mut ids)?;
+//! assert_eq!(ids, [1; 9]);
+//! assert_eq!((regions.max_region, regions.overlaps), (2, 0));
+//!
+//! // Bad input is refused, and every list holds what it held before.
+//! let damaged = Field { area: &[1; 8], ..field };
+//! let refusal = build_distance_field(&damaged, &mut raw, &mut blurred).unwrap_err();
+//! assert_eq!(refusal.number(), 3);
+//! assert_eq!(blurred[4], 2);
+//! # Ok::<(), gussetraft::Refusal>(())
+//! ```
+
+#![no_std]
+
+mod sys;
+
+use core::fmt;
+
+/// The area code of a span that cannot be walked on.
+pub const NOT_WALKABLE: u8 = 0;
+
+/// The connection byte of a side that leads nowhere.
+pub const NO_CONNECTION: u8 = 255;
+
+/// Ids with this bit are a painted border's: 1 to 4 beside it for the left columns, the right columns, the low rows and the
+/// high rows.
+pub const BORDER: u16 = 0x8000;
+
+/// The lists of a compact heightfield. Nothing is asked of them: what does not fit is refused.
+#[derive(Debug, Clone, Copy, PartialEq, Eq)]
+pub struct Field<'a> {
+    /// How many cells a row has, 256 at most.
+    pub w: u16,
+    /// How many rows there are, 256 at most.
+    pub h: u16,
+    /// For each cell, row by row and x fastest, the number of its first span: the sum of the counts before it. It is not
+    /// looked at where the cell is empty.
+    pub index: &'a [u32],
+    /// For each cell, how many spans it has, 63 at most.
+    pub count: &'a [u8],
+    /// For each span its area; [`NOT_WALKABLE`] is 0. There are 32,000 spans at most.
+    pub area: &'a [u8],
+    /// For each span four bytes, in the directions (-1, 0), (0, 1), (1, 0), (0, -1): a layer of the cell there, or
+    /// [`NO_CONNECTION`]. Each connection must be answered from the other side. (`<[[u8; 4]]>::as_flattened` gives such a
+    /// list where there are four bytes a span.)
+    pub con: &'a [u8],
+}
+
+/// The sizes that the region entry takes, the two areas in spans.
+#[derive(Debug, Clone, Copy, Default, PartialEq, Eq)]
+pub struct Sizes {
+    /// How many rows and columns are painted as a border at each side; 0 is none.
+    pub border_size: u16,
+    /// Regions that, with those they are joined to, have fewer spans are removed, unless they touch the border.
+    pub min_region_area: u16,
+    /// Regions of up to so many spans are merged into a neighbour even at a wall.
+    pub merge_region_area: u16,
+}
+
+/// What the region entry gives beside the ids.
+#[derive(Debug, Clone, Copy, PartialEq, Eq)]
+pub struct Regions {
+    /// The last number given. The ids in use are exactly 1 (5 with a border) to `max_region` - 1, and those of the border.
+    pub max_region: u16,
+    /// How many regions, before the merge, lie over themselves.
+    pub overlaps: u16,
+}
+
+/// Why a call was refused. Every lent list then holds what it held before.
+///
+/// They are looked for in this order, and the first that applies is given.
+#[derive(Debug, Clone, Copy, PartialEq, Eq, PartialOrd, Ord, Hash)]
+#[repr(u16)]
+pub enum Refusal {
+    /// 1: the width or the height is above 256.
+    TooWide = 1,
+    /// 2: there are more than 32,000 spans.
+    TooMany = 2,
+    /// 3: a list other than the workspace has the wrong length.
+    WrongLength = 3,
+    /// 4: a cell's count is above 63, its index is wrong, or the counts do not sum to the number of spans.
+    WrongCells = 4,
+    /// 5: a connection leaves the grid or names a layer that the cell lacks.
+    WrongReach = 5,
+    /// 6: a connection is not answered from the other side.
+    WrongBack = 6,
+    /// 7: the workspace is shorter than [`workspace_len`].
+    TooShort = 7,
+    /// 8: the greatest distance is above 510, or a distance is above the greatest.
+    TooFar = 8,
+}
+
+impl Refusal {
+    /// Every refusal, in the order of the numbers.
+    pub const ALL: [Self; 8] = [
+        Self::TooWide,
+        Self::TooMany,
+        Self::WrongLength,
+        Self::WrongCells,
+        Self::WrongReach,
+        Self::WrongBack,
+        Self::TooShort,
+        Self::TooFar,
+    ];
+
+    /// The number, 1 to 8.
+    pub const fn number(self) -> u16 {
+        self as u16
+    }
+
+    /// The refusal of a number.
+    pub const fn from_number(number: u16) -> Option<Self> {
+        match number {
+            1..=8 => Some(Self::ALL[number as usize - 1]),
+            _ => None,
+        }
+    }
+
+    /// What the number means.
+    pub const fn meaning(self) -> &'static str {
+        match self {
+            Self::TooWide => "the width or the height is above 256",
+            Self::TooMany => "there are more than 32,000 spans",
+            Self::WrongLength => "a list other than the workspace has the wrong length",
+            Self::WrongCells => {
+                "a cell's count is above 63, its index is wrong, or the counts do not sum to the number of spans"
+            }
+            Self::WrongReach => "a connection leaves the grid or names a layer that the cell lacks",
+            Self::WrongBack => "a connection is not answered from the other side",
+            Self::TooShort => "the workspace is shorter than 128 numbers a span and 4,096",
+            Self::TooFar => {
+                "the greatest distance is above 510, or a distance is above the greatest"
+            }
+        }
+    }
+}
+
+impl fmt::Display for Refusal {
+    fn fmt(&self, f: &mut fmt::Formatter<'_>) -> fmt::Result {
+        write!(f, "refused {}: {}", self.number(), self.meaning())
+    }
+}
+
+impl core::error::Error for Refusal {}
+
+/// How many numbers the workspace of [`build_regions`] has at least, for n spans.
+pub const fn workspace_len(n: usize) -> usize {
+    n.saturating_mul(128).saturating_add(4_096)
+}
+
+/// Writes the distances to the nearest edge, raw and blurred, one a span, and gives the greatest raw one.
+///
+/// # Errors
+///
+/// Refusals 1 to 6. Both lists then hold what they held before.
+pub fn build_distance_field(
+    field: &Field<'_>,
+    raw: &mut [u16],
+    blurred: &mut [u16],
+) -> Result<u16, Refusal> {
+    let answer = sys::distance_field(field, raw, blurred);
+    accepted(answer.refusal)?;
+    Ok(answer.max_distance)
+}
+
+/// Writes the region id of each span; 0 is none, and an id with [`BORDER`] is a painted one.
+///
+/// `distances` and `max_distance` are the blurred distances and the number that [`build_distance_field`] gives, or any others
+/// up to 510. The workspace has [`workspace_len`] numbers at least; what it holds does not matter, and it holds zeros after.
+///
+/// # Errors
+///
+/// Refusals 1 to 8. The workspace and the ids then hold what they held before.
+pub fn build_regions(
+    field: &Field<'_>,
+    distances: &[u16],
+    max_distance: u16,
+    sizes: &Sizes,
+    workspace: &mut [u16],
+    ids: &mut [u16],
+) -> Result<Regions, Refusal> {
+    let answer = sys::regions(field, distances, max_distance, sizes, workspace, ids);
+    accepted(answer.refusal)?;
+    Ok(Regions {
+        max_region: answer.max_region,
+        overlaps: answer.overlaps,
+    })
+}
+
+/// No answer of libgussetraft.a but 0 and the numbers of [`Refusal`] is possible (that is proved).
+fn accepted(number: u16) -> Result<(), Refusal> {
+    match Refusal::from_number(number) {
+        Some(refusal) => Err(refusal),
+        None => {
+            assert!(number == 0, "libgussetraft.a is not that of this crate");
+            Ok(())
+        }
+    }
+}

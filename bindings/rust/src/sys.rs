@@ -1,0 +1,116 @@
+//! The two functions of libgussetraft.a (include/gussetraft.h). A slice is passed as a pointer and a number of elements.
+
+use crate::{Field, Sizes};
+
+#[repr(C)]
+pub struct DistanceAnswer {
+    pub refusal: u16,
+    pub max_distance: u16,
+}
+
+#[repr(C)]
+pub struct RegionAnswer {
+    pub refusal: u16,
+    pub max_region: u16,
+    pub overlaps: u16,
+}
+
+extern "C" {
+    fn gussetraft_build_distance_field(
+        w: u16,
+        h: u16,
+        index: *const u32,
+        index_len: usize,
+        count: *const u8,
+        count_len: usize,
+        area: *const u8,
+        area_len: usize,
+        con: *const u8,
+        con_len: usize,
+        raw: *mut u16,
+        raw_len: usize,
+        blurred: *mut u16,
+        blurred_len: usize,
+    ) -> DistanceAnswer;
+
+    fn gussetraft_build_regions(
+        w: u16,
+        h: u16,
+        index: *const u32,
+        index_len: usize,
+        count: *const u8,
+        count_len: usize,
+        area: *const u8,
+        area_len: usize,
+        con: *const u8,
+        con_len: usize,
+        distances: *const u16,
+        distances_len: usize,
+        max_distance: u16,
+        border_size: u16,
+        min_region_area: u16,
+        merge_region_area: u16,
+        workspace: *mut u16,
+        workspace_len: usize,
+        ids: *mut u16,
+        ids_len: usize,
+    ) -> RegionAnswer;
+}
+
+pub fn distance_field(field: &Field<'_>, raw: &mut [u16], blurred: &mut [u16]) -> DistanceAnswer {
+    // SAFETY: each pointer goes with the length of its own slice, which is all that the function reads or writes, whatever the
+    // lists hold (that is proved); the borrows last as long as the call, and it keeps none of them.
+    unsafe {
+        gussetraft_build_distance_field(
+            field.w,
+            field.h,
+            field.index.as_ptr(),
+            field.index.len(),
+            field.count.as_ptr(),
+            field.count.len(),
+            field.area.as_ptr(),
+            field.area.len(),
+            field.con.as_ptr(),
+            field.con.len(),
+            raw.as_mut_ptr(),
+            raw.len(),
+            blurred.as_mut_ptr(),
+            blurred.len(),
+        )
+    }
+}
+
+pub fn regions(
+    field: &Field<'_>,
+    distances: &[u16],
+    max_distance: u16,
+    sizes: &Sizes,
+    workspace: &mut [u16],
+    ids: &mut [u16],
+) -> RegionAnswer {
+    // SAFETY: as above.
+    unsafe {
+        gussetraft_build_regions(
+            field.w,
+            field.h,
+            field.index.as_ptr(),
+            field.index.len(),
+            field.count.as_ptr(),
+            field.count.len(),
+            field.area.as_ptr(),
+            field.area.len(),
+            field.con.as_ptr(),
+            field.con.len(),
+            distances.as_ptr(),
+            distances.len(),
+            max_distance,
+            sizes.border_size,
+            sizes.min_region_area,
+            sizes.merge_region_area,
+            workspace.as_mut_ptr(),
+            workspace.len(),
+            ids.as_mut_ptr(),
+            ids.len(),
+        )
+    }
+}

@@ -1,0 +1,31 @@
+-- Two results that satisfy the promise of an exported function coincide:
+-- the promise is an equation for each number and for each lent list at exit.
+use Prim.Native.Nat.{ℕ}
+use mathlib.Core.Path.{_≡_, sym, _∙_}
+use mathlib.Core.List.{List}
+use Rattle.rules.specs.Outcomes.{DistanceOutcome, RegionOutcome}
+use Rattle.gussetraft.specs.declared.Distances.{Distances}
+use Rattle.gussetraft.specs.declared.Regions.{Regions}
+use Rattle.gussetraft.specs.Exported.{Gives, GivesRegions}
+
+distances-same : (a b : Distances) → a .refusal ≡ b .refusal → a .«max_distance» ≡ b .«max_distance» → a ≡ b
+distances-same a b e f = rw (e, f)
+
+regions-same : (a b : Regions) → a .refusal ≡ b .refusal → a .«max_region» ≡ b .«max_region» → a .overlaps ≡ b .overlaps → a ≡ b
+regions-same a b e f g = rw (e, f, g)
+
+-- `gussetraft_build_distance_field`
+pub one-distance-answer : (o : DistanceOutcome) (a b : Distances) (l m x y : List ℕ) → Gives o a l m → Gives o b x y → (a ≡ b) × (l ≡ x) × (m ≡ y)
+one-distance-answer o a b l m x y p q = (
+  distances-same a b (p .refusal ∙ sym (q .refusal)) (p .most ∙ sym (q .most)),
+  p .first ∙ sym (q .first),
+  p .second ∙ sym (q .second),
+)
+
+-- `gussetraft_build_regions`
+pub one-region-answer : (o : RegionOutcome) (a b : Regions) (l m x y : List ℕ) → GivesRegions o a l m → GivesRegions o b x y → (a ≡ b) × (l ≡ x) × (m ≡ y)
+one-region-answer o a b l m x y p q = (
+  regions-same a b (p .refusal ∙ sym (q .refusal)) (p .most ∙ sym (q .most)) (p .over ∙ sym (q .over)),
+  p .cleared ∙ sym (q .cleared),
+  p .numbers ∙ sym (q .numbers),
+)

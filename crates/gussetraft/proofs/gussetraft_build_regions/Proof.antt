@@ -1,0 +1,26 @@
+-- The entry's answer is the outcome, and its numbers are taken apart unchanged.
+-- Assumes nothing.
+use Rattle.gussetraft.proofs.Apart.{gives-regions}
+use borrow.Author.Needs.{needs}
+use Rattle.gussetraft.proofs.gussetraft_build_regions.Statement.{statement}
+use Rattle.gussetraft.proofs.gussetraft_build_regions.Tie as tie
+
+build-regions-requires : tie.Need-build-regions-requires
+build-regions-requires c κs = search needs
+
+region-numbers-requires : tie.Need-region-numbers-requires
+region-numbers-requires c κs = search needs
+
+same-length : tie.Need-same-length
+same-length c = search needs
+
+same-length-2 : tie.Need-same-length-2
+same-length-2 c = search needs
+
+returns : tie.Need-returns
+returns c = search gives-regions
+
+pub gussetraft-build-regions-spec : {M : Type 1} → statement M
+gussetraft-build-regions-spec =
+    tie.close
+    (tie.spec build-regions-requires region-numbers-requires same-length same-length-2 returns)

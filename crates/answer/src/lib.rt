@@ -144,7 +144,7 @@ fn print_first(
 }
 
 // What is printed for a file, from the beginning of out on; gives its length. The other lists are room for the field and for the entries.
-pub fn answer(
+fn answer(
     bytes: &[u8],
     index: &mut [u32],
     count: &mut [u8],

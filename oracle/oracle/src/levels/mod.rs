@@ -1,6 +1,7 @@
 //! Fields of many kinds, made from a seed. None of them is refused.
 
 mod draft;
+mod long_corridor;
 mod shapes;
 
 use crate::{
@@ -8,6 +9,7 @@ use crate::{
     file::Limits,
     rng::Rng,
 };
+pub use long_corridor::long_corridor;
 
 /// How large a field is made.
 #[derive(Debug, Clone, Copy, PartialEq, Eq)]

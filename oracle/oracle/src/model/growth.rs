@@ -1,0 +1,470 @@
+//! Flood and expansion rules: from distances to the ids before filter and merge.
+
+use super::{FLAG, Mistake, Model, is_flagged, is_grown, spans::Spans};
+
+/// What has grown.
+pub struct Grown {
+    /// The id of each span.
+    pub ids: Vec<u16>,
+    /// The next id.
+    pub next: u16,
+}
+
+/// A span on a level stack.
+#[derive(Clone, Copy)]
+struct Entry {
+    span: usize,
+    used: bool,
+}
+
+impl Entry {
+    fn new(span: usize) -> Self {
+        Self { span, used: false }
+    }
+}
+
+struct Growth<'a> {
+    model: Model,
+    spans: &'a Spans,
+    distances: &'a [u16],
+    ids: Vec<u16>,
+    source_distances: Vec<u16>,
+    next: u16,
+}
+
+pub fn grow(
+    model: Model,
+    spans: &Spans,
+    distances: &[u16],
+    max_distance: u16,
+    border_size: u16,
+) -> Grown {
+    let mut growth = Growth {
+        model,
+        spans,
+        distances,
+        ids: vec![0; spans.number()],
+        source_distances: vec![0; spans.number()],
+        next: 1,
+    };
+    if border_size > 0 {
+        growth.paint(usize::from(border_size));
+        growth.next = match model.mistake {
+            Some(Mistake::BorderNextOne) => 1,
+            Some(Mistake::BorderNextFour) => 4,
+            _ => 5,
+        };
+    }
+    growth.turns(max_distance);
+    if !model.has(Mistake::NoLastExpansion) {
+        growth.last_expansion();
+    }
+    Grown {
+        ids: growth.ids,
+        next: growth.next,
+    }
+}
+
+impl Growth<'_> {
+    fn has(&self, mistake: Mistake) -> bool {
+        self.model.has(mistake)
+    }
+
+    /// Walkable spans are painted with 0x8000 plus 1 (left columns), 2 (right), 3 (low rows), 4 (high rows), later
+    /// paint over earlier, each strip clipped to the field.
+    fn paint(&mut self, border_size: usize) {
+        let size = border_size + usize::from(self.has(Mistake::PaintOneWider));
+        let (w, h) = (self.spans.w, self.spans.h);
+        for span in 0..self.spans.number() {
+            let (x, z) = (self.spans.get(span).x, self.spans.get(span).z);
+            let mut strips = [
+                (1, x < size),
+                (2, x + size >= w),
+                (3, z < size),
+                (4, z + size >= h),
+            ];
+            if self.has(Mistake::PaintNotClipped) {
+                strips[1].1 &= size <= w;
+                strips[3].1 &= size <= h;
+            }
+            if self.has(Mistake::PaintLeftRight) {
+                (strips[0].0, strips[1].0) = (2, 1);
+            }
+            if self.has(Mistake::PaintLowHigh) {
+                (strips[2].0, strips[3].0) = (4, 3);
+            }
+            if self.has(Mistake::PaintEarlierStays) {
+                strips.reverse();
+            }
+            if self.has(Mistake::PaintRowsFirst) {
+                strips.rotate_left(2);
+            }
+            let above_lowest = self.spans.layers(x, z).start != span;
+            if self.has(Mistake::PaintLowestLayer) && above_lowest {
+                continue;
+            }
+            if !self.spans.is_walkable(span) && !self.has(Mistake::PaintUnwalkable) {
+                continue;
+            }
+            for (number, inside) in strips {
+                if inside {
+                    self.ids[span] = FLAG + number;
+                }
+            }
+        }
+    }
+
+    /// The turns, from the greatest distance down to level 0.
+    fn turns(&mut self, max_distance: u16) {
+        let mut level = match self.model.mistake {
+            Some(Mistake::LevelNotRounded) => max_distance,
+            Some(Mistake::LevelRoundedDown) => max_distance / 2 * 2,
+            _ => max_distance.div_ceil(2) * 2,
+        };
+        let lowered = if self.has(Mistake::LevelByOne) { 1 } else { 2 };
+        let turns = if self.has(Mistake::TurnsOfSeven) {
+            7
+        } else {
+            8
+        };
+        let mut stacks: [Vec<Entry>; 8] = Default::default();
+        let mut turn = 0;
+        let mut is_first = true;
+        while level > 0 {
+            if !self.has(Mistake::LevelLoweredAfter) {
+                level = level.saturating_sub(lowered);
+            }
+            if turn == 0 {
+                self.load(&mut stacks, level);
+            } else {
+                self.append(&mut stacks, turn);
+            }
+            if self.has(Mistake::ExpandAfterFloods) {
+                self.floods(&stacks[turn], level);
+                self.expand(&mut stacks[turn], level);
+            } else {
+                self.expand(&mut stacks[turn], level);
+                if is_first || !self.has(Mistake::FirstLevelOnly) {
+                    self.floods(&stacks[turn], level);
+                }
+            }
+            if self.has(Mistake::LevelLoweredAfter) {
+                level = level.saturating_sub(lowered);
+            }
+            turn = (turn + 1) % turns;
+            is_first = false;
+        }
+    }
+
+    /// All stacks are emptied and every walkable span of id 0 goes, in scan order, to the stack numbered (level/2 −
+    /// distance/2, not below 0, both halves rounded down) if below 8.
+    fn load(&self, stacks: &mut [Vec<Entry>; 8], level: u16) {
+        if !self.has(Mistake::StacksNotEmptied) {
+            stacks.iter_mut().for_each(Vec::clear);
+        }
+        let mut order: Vec<_> = (0..self.spans.number()).collect();
+        if self.has(Mistake::StackColumnByColumn) {
+            order = self.spans.column_by_column();
+        }
+        if self.has(Mistake::StackBackward) {
+            order.reverse();
+        }
+        let end = if self.has(Mistake::StackBelowSeven) {
+            7
+        } else {
+            8
+        };
+        for span in order {
+            let walkable = self.spans.is_walkable(span) || self.has(Mistake::StackUnwalkable);
+            if !walkable || self.ids[span] != 0 {
+                continue;
+            }
+            let distance = self.distances[span];
+            if self.has(Mistake::StackBelowZeroLeftOut) && level / 2 < distance / 2 {
+                continue;
+            }
+            let number = if self.has(Mistake::StackOfDifference) {
+                level.saturating_sub(distance) / 2
+            } else {
+                (level / 2).saturating_sub(distance / 2)
+            };
+            if number < end {
+                stacks[usize::from(number)].push(Entry::new(span));
+            }
+        }
+    }
+
+    /// What remains of the stack before is appended to this turn's.
+    fn append(&self, stacks: &mut [Vec<Entry>; 8], turn: usize) {
+        let remains = |entry: &&Entry| {
+            !entry.used && (self.ids[entry.span] == 0 || self.has(Mistake::AppendWithIds))
+        };
+        let rest: Vec<_> = stacks[turn - 1].iter().filter(remains).copied().collect();
+        if self.has(Mistake::AppendNothing) {
+            return;
+        }
+        if self.has(Mistake::AppendBefore) {
+            stacks[turn].splice(0..0, rest);
+        } else {
+            stacks[turn].extend(rest);
+        }
+    }
+
+    /// First, entries that have an id are marked used. Then rounds, until one in which nothing changed, or the eighth
+    /// at a level above 0.
+    fn expand(&mut self, stack: &mut [Entry], level: u16) {
+        for entry in stack.iter_mut() {
+            if self.ids[entry.span] != 0 && !self.has(Mistake::ExpandNotMarked) {
+                entry.used = true;
+            }
+        }
+        let rounds = match self.model.mistake {
+            Some(Mistake::ExpandSevenRounds) => 7,
+            Some(Mistake::ExpandNineRounds) => 9,
+            _ => 8,
+        };
+        let limited = (level > 0 && !self.has(Mistake::ExpandUnlimited))
+            || self.has(Mistake::ExpandLimitedAtZero);
+        let mut round = 0;
+        loop {
+            let changed = self.round(stack);
+            round += 1;
+            if !changed || (limited && round == rounds) {
+                break;
+            }
+        }
+    }
+
+    /// Every unused entry takes the id of a neighbour, and is used then. All are written together at the round's end.
+    fn round(&mut self, stack: &mut [Entry]) -> bool {
+        let mut changes = Vec::new();
+        let mut changed = false;
+        for entry in stack.iter_mut() {
+            let again = self.has(Mistake::ExpandLooksAgain) && is_grown(self.ids[entry.span]);
+            if entry.used && !again {
+                continue;
+            }
+            let Some((id, sum)) = self.nearest(entry.span) else {
+                continue;
+            };
+            if again && sum >= self.source_distances[entry.span] {
+                continue;
+            }
+            entry.used = true;
+            changed = true;
+            if self.has(Mistake::ExpandAtOnce) {
+                self.take(entry.span, id, sum);
+            } else {
+                changes.push((entry.span, id, sum));
+            }
+        }
+        for (span, id, sum) in changes {
+            self.take(span, id, sum);
+        }
+        changed
+    }
+
+    fn take(&mut self, span: usize, id: u16, sum: u16) {
+        self.ids[span] = id;
+        if !self.has(Mistake::ExpandNoSource) {
+            self.source_distances[span] = sum;
+        }
+    }
+
+    /// Among same-area neighbours of nonzero unflagged ids, in direction order, the id of the first with the least
+    /// source distance plus 2, and that sum.
+    fn nearest(&self, span: usize) -> Option<(u16, u16)> {
+        let mut nearest: Option<(u16, u16)> = None;
+        for d in 0..4 {
+            let neighbour = if self.has(Mistake::ExpandAcrossAreas) {
+                self.spans.neighbour(span, d)
+            } else {
+                self.spans.same_area_neighbour(span, d)
+            };
+            let Some(neighbour) = neighbour else {
+                continue;
+            };
+            let id = self.ids[neighbour];
+            let added = if self.has(Mistake::ExpandPlusOne) {
+                1
+            } else {
+                2
+            };
+            let sum = self.source_distances[neighbour] + added;
+            let takes_flagged = self.has(Mistake::ExpandFlagged);
+            if !(is_grown(id) || (takes_flagged && is_flagged(id))) {
+                continue;
+            }
+            let is_better = nearest.is_none_or(|(_, least)| {
+                if self.has(Mistake::ExpandTieToLast) {
+                    sum <= least
+                } else {
+                    sum < least && !self.has(Mistake::ExpandFirst)
+                }
+            });
+            if is_better {
+                nearest = Some((id, sum));
+            }
+        }
+        nearest
+    }
+
+    /// Flood from each unused entry of id 0, in stack order, with the next id; only success advances it.
+    fn floods(&mut self, stack: &[Entry], level: u16) {
+        let mut order = stack.to_vec();
+        if self.has(Mistake::FloodsBackward) {
+            order.reverse();
+        }
+        if self.has(Mistake::FloodsInScanOrder) {
+            order.sort_by_key(|entry| entry.span);
+        }
+        for entry in order {
+            if entry.used || self.ids[entry.span] != 0 {
+                continue;
+            }
+            if self.flood(entry.span, level) || self.has(Mistake::FailedFloodTakesNumber) {
+                self.next += 1;
+            }
+        }
+    }
+
+    /// Last in, first out. With an objection a span returns to id 0. Otherwise it counts, and its neighbours join.
+    /// Count 0 is failure.
+    fn flood(&mut self, start: usize, level: u16) -> bool {
+        let limit = match self.model.mistake {
+            Some(Mistake::LimitLevel) => level,
+            Some(Mistake::LimitLevelLessOne) => level.saturating_sub(1),
+            Some(Mistake::LimitLevelLessFour) => level.saturating_sub(4),
+            Some(Mistake::LimitExcluded) => level.saturating_sub(2) + 1,
+            Some(Mistake::NoLimit) => 0,
+            _ => level.saturating_sub(2),
+        };
+        let mut stack = Vec::new();
+        let mut count = 0;
+        self.join(start, &mut stack);
+        while !stack.is_empty() {
+            let place = if self.has(Mistake::FloodFirstInFirstOut) {
+                0
+            } else {
+                stack.len() - 1
+            };
+            let span = stack.remove(place);
+            if self.has_objection(span) {
+                if !self.has(Mistake::ObjectionKeepsId) {
+                    self.ids[span] = 0;
+                }
+                if self.has(Mistake::ObjectionEndsFlood) {
+                    break;
+                }
+                continue;
+            }
+            count += 1;
+            for d in 0..4 {
+                let d = if self.has(Mistake::FloodPushesBackward) {
+                    3 - d
+                } else {
+                    d
+                };
+                let neighbour = if self.has(Mistake::FloodAcrossAreas) {
+                    self.spans.neighbour(span, d)
+                } else {
+                    self.spans.same_area_neighbour(span, d)
+                };
+                if let Some(neighbour) = neighbour
+                    && self.ids[neighbour] == 0
+                    && self.distances[neighbour] >= limit
+                {
+                    self.join(neighbour, &mut stack);
+                }
+            }
+        }
+        count > 0
+    }
+
+    /// The span gets the next id and is pushed. Its source distance is 0 again.
+    fn join(&mut self, span: usize, stack: &mut Vec<usize>) {
+        self.ids[span] = self.next;
+        if !self.has(Mistake::SourceKeptByFlood) {
+            self.source_distances[span] = 0;
+        }
+        stack.push(span);
+    }
+
+    /// Directions 0 to 3 over same-area neighbours: a flagged neighbour ends the looking with no objection; another
+    /// nonzero id there is an objection; so is another nonzero id on its corner neighbour, if that has the area too,
+    /// flagged ids included.
+    fn has_objection(&self, span: usize) -> bool {
+        let is_other = |id| id != 0 && id != self.next;
+        let area = self.spans.area(span);
+        let mut corner_objects = false;
+        for d in 0..4 {
+            let Some(neighbour) = self.spans.neighbour(span, d) else {
+                continue;
+            };
+            let id = self.ids[neighbour];
+            let same_area = self.spans.area(neighbour) == area;
+            if same_area {
+                if is_flagged(id) {
+                    match self.model.mistake {
+                        Some(Mistake::FlaggedNeighbourPasses) => continue,
+                        Some(Mistake::FlaggedNeighbourObjects) => return true,
+                        _ => break,
+                    }
+                }
+                if is_other(id) && !self.has(Mistake::NoNeighbourObjection) {
+                    if self.has(Mistake::FlaggedNeighbourCancels) {
+                        return !self.sees_flagged(span);
+                    }
+                    return true;
+                }
+            } else {
+                if is_flagged(id) && self.has(Mistake::FlaggedNeighbourOfAnyArea) {
+                    break;
+                }
+                if !self.has(Mistake::CornerBeyondOtherArea) {
+                    continue;
+                }
+            }
+            let turn = if self.has(Mistake::CornerOtherTurn) {
+                3
+            } else {
+                1
+            };
+            let Some(corner) = self.spans.neighbour(neighbour, d + turn) else {
+                continue;
+            };
+            let seen = self.spans.area(corner) == area || self.has(Mistake::CornerOfAnyArea);
+            if !seen || self.has(Mistake::NoCorners) || !is_other(self.ids[corner]) {
+                continue;
+            }
+            if is_flagged(self.ids[corner]) {
+                match self.model.mistake {
+                    Some(Mistake::FlaggedCornerPasses) => continue,
+                    Some(Mistake::FlaggedCornerEnds) => break,
+                    _ => {}
+                }
+            }
+            match self.model.mistake {
+                Some(Mistake::FlaggedNeighbourCancels) => return !self.sees_flagged(span),
+                Some(Mistake::CornersAfterNeighbours) => corner_objects = true,
+                _ => return true,
+            }
+        }
+        corner_objects && !self.sees_flagged(span)
+    }
+
+    /// Whether any same-area neighbour is flagged.
+    fn sees_flagged(&self, span: usize) -> bool {
+        (0..4)
+            .filter_map(|d| self.spans.same_area_neighbour(span, d))
+            .any(|neighbour| is_flagged(self.ids[neighbour]))
+    }
+
+    /// Last, all walkable spans of id 0 are expanded at level 0.
+    fn last_expansion(&mut self) {
+        let is_left = |&span: &usize| self.spans.is_walkable(span) && self.ids[span] == 0;
+        let left = (0..self.spans.number()).filter(is_left);
+        let mut stack: Vec<_> = left.map(Entry::new).collect();
+        self.expand(&mut stack, 0);
+    }
+}

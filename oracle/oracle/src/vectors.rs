@@ -1,0 +1,80 @@
+//! The stored vectors: small field files, sound and damaged, chosen so that mistakes show.
+
+mod batch;
+mod edges;
+mod plan;
+mod search;
+
+use crate::{
+    damage::DAMAGES,
+    file::{self, Limits},
+    levels::{KINDS, Size},
+    listing,
+    model::{Mistake, Model},
+    rng::Rng,
+    sketch,
+};
+pub use batch::{pack, unpack};
+
+/// Fields drawn for mistakes that the search does not find by itself.
+const DRAFTS: [&str; 7] = [
+    include_str!("vectors/drafts/corner-of-the-blur.draft"),
+    include_str!("vectors/drafts/last-stack.draft"),
+    include_str!("vectors/drafts/later-round.draft"),
+    include_str!("vectors/drafts/no-second-choice.draft"),
+    include_str!("vectors/drafts/removed-is-not-picked.draft"),
+    include_str!("vectors/drafts/removed-is-not-zero.draft"),
+    include_str!("vectors/drafts/whole-round.draft"),
+];
+
+/// How many files of each kind are taken by their seeds alone.
+const OF_EACH_KIND: u64 = 12;
+
+/// The files of the vectors. They are the same on every machine.
+pub fn choose() -> Vec<Vec<u8>> {
+    let mut files = edges::files();
+    files.extend(DRAFTS.iter().map(|draft| {
+        let case = sketch::read(draft).expect("the drafts are well drawn");
+        file::write(&case)
+    }));
+    for seed in 0..OF_EACH_KIND {
+        let sound = KINDS
+            .iter()
+            .map(|kind| file::write(&kind.make(Size::Small, seed)));
+        files.extend(sound);
+        files.extend(DAMAGES.iter().map(|damage| damage.make(seed)));
+        files.push(spoilt(seed));
+    }
+    search::extend(&mut files);
+    files
+}
+
+/// A sound file with a few bytes overwritten, whatever comes of it.
+fn spoilt(seed: u64) -> Vec<u8> {
+    let mut rng = Rng::new(seed);
+    let kind = rng.pick(&KINDS);
+    let mut file = file::write(&kind.make(Size::Small, rng.number()));
+    for _ in 0..rng.within(1..=3) {
+        let place = rng.within(0..=file.len() - 1);
+        file[place] = rng.pick(&[0, 1, 2, 3, 4, 5, 64, 255]);
+    }
+    file
+}
+
+/// The unchanged Rust's answers to files, one after the other.
+pub fn answers(files: &[Vec<u8>]) -> String {
+    let answer = |file: &Vec<u8>| listing::answer(file, Limits::PROGRAM);
+    files.iter().map(answer).collect()
+}
+
+/// How many of the files catch each mistake: the mistaken model answers otherwise than the unchanged Rust.
+pub fn count_caught(files: &[Vec<u8>]) -> Vec<(Mistake, usize)> {
+    let mut counts: Vec<_> = Mistake::ALL.iter().map(|&mistake| (mistake, 0)).collect();
+    for file in files {
+        let right = listing::answer(file, Limits::PROGRAM);
+        for (mistake, count) in &mut counts {
+            *count += usize::from(Model::with(*mistake).answer(file) != right);
+        }
+    }
+    counts
+}

@@ -54,7 +54,10 @@ pub fn growing() -> Vec<(String, Case)> {
     let mut all = Vec::new();
     for (name, shape) in shapes {
         for n in STEPS {
-            all.push((format!("{name} {n}"), with_settings(shape(n))));
+            // the square of 32,000 takes a counter too long
+            if name != "passage" || n <= 16_000 {
+                all.push((format!("{name} {n}"), with_settings(shape(n))));
+            }
         }
     }
     all

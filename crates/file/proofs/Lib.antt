@@ -8,3 +8,4 @@ pub mod Steps
 pub mod Turns
 pub mod Whole
 pub mod OneReading
+pub mod FirstBytes

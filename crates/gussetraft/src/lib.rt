@@ -1,13 +1,12 @@
 // The functions that C and Rust call (include/gussetraft.h). They take any input, as the entries do.
-use field::checker::Refusal;
 use watershed::DistanceAnswer;
 use watershed::RegionAnswer;
 use watershed::build_distance_field;
 use watershed::build_regions;
+use watershed::refusal_number;
 ghost use mathlib.Core.Path.{_≡_};
 ghost use Rattle.rules.specs.Outcomes.{distanceOutcome, regionOutcome};
 ghost use Rattle.field.specs.Lent.{lent};
-ghost use Rattle.field.specs.Answer.{numberOf};
 ghost use Rattle.watershed.specs.Answer.{refusedBy, mostIn, regionsRefusedBy, maxRegionIn, overlapsIn};
 ghost use Rattle.gussetraft.specs.Exported.{Gives, GivesRegions};
 
@@ -26,28 +25,12 @@ pub struct Regions {
     pub overlaps: u16,
 }
 
-// Document 01's number of a refusal.
-fn number(r: Refusal) -> u16
-    ensures { λ k. ⌜ k ≡ numberOf r ⌝ }
-{
-    match r {
-        Refusal::TooWide => 1,
-        Refusal::TooMany => 2,
-        Refusal::WrongLength => 3,
-        Refusal::WrongCells => 4,
-        Refusal::WrongReach => 5,
-        Refusal::WrongBack => 6,
-        Refusal::TooShort => 7,
-        Refusal::TooFar => 8,
-    }
-}
-
 fn numbers(a: DistanceAnswer) -> Distances
     ensures { λ r. ⌜ (r .refusal ≡ refusedBy a) × (r .«max_distance» ≡ mostIn a) ⌝ }
 {
     match a {
         DistanceAnswer::Refused(r) => Distances {
-            refusal: number(r),
+            refusal: refusal_number(r),
             max_distance: 0,
         },
         DistanceAnswer::Done(m) => Distances {
@@ -62,7 +45,7 @@ fn region_numbers(a: RegionAnswer) -> Regions
 {
     match a {
         RegionAnswer::Refused(r) => Regions {
-            refusal: number(r),
+            refusal: refusal_number(r),
             max_region: 0,
             overlaps: 0,
         },

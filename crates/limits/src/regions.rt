@@ -3,16 +3,16 @@ use crate::fields::CON;
 use crate::fields::COUNT;
 use crate::fields::INDEX;
 use crate::show::list;
-use crate::show::refusal_number;
 use watershed::RegionAnswer;
 use watershed::build_regions;
+use watershed::refusal_number;
 
 // A line for the answer: refused and its number, or max_region and the overlap count.
 fn answer(r: RegionAnswer) {
     match r {
         RegionAnswer::Refused(k) => {
             io::write_all(1, b"refused ");
-            io::print_decimal(1, refusal_number(k));
+            io::print_decimal(1, refusal_number(k) as u64);
         }
         RegionAnswer::Done(m, o) => {
             io::write_all(1, b"max_region ");

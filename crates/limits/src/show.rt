@@ -1,14 +1,14 @@
 // A call of the entry, and what it gave.
-use field::checker::Refusal;
 use watershed::DistanceAnswer;
 use watershed::build_distance_field;
+use watershed::refusal_number;
 
 // A line for the answer: refused and its number, or max_distance and its value.
 fn answer(r: DistanceAnswer) {
     match r {
         DistanceAnswer::Refused(k) => {
             io::write_all(1, b"refused ");
-            io::print_decimal(1, refusal_number(k));
+            io::print_decimal(1, refusal_number(k) as u64);
         }
         DistanceAnswer::Done(m) => {
             io::write_all(1, b"max_distance ");
@@ -16,20 +16,6 @@ fn answer(r: DistanceAnswer) {
         }
     }
     io::write_all(1, b"\n");
-}
-
-// Document 01's number.
-pub(crate) fn refusal_number(r: Refusal) -> u64 {
-    match r {
-        Refusal::TooWide => 1,
-        Refusal::TooMany => 2,
-        Refusal::WrongLength => 3,
-        Refusal::WrongCells => 4,
-        Refusal::WrongReach => 5,
-        Refusal::WrongBack => 6,
-        Refusal::TooShort => 7,
-        Refusal::TooFar => 8,
-    }
 }
 
 // One number more of a list's digest.

@@ -1,0 +1,87 @@
+-- The first 3,261 bytes of a file decide what is printed for it: a header is 11 bytes, a cell 2, a span 6 and the end 1, and past 1,024 cells or 200 spans the reading is over.
+-- So where the end is read, a byte after it is among them.
+use Prim.Native.Nat.{ℕ, zero, suc, _+_, _-_, _*_, _≤_, _<_}
+use native.Mathlib.Omega.{arith}
+use native.Mathlib.Decide.{decLt}
+use mathlib.Core.Path.{_≡_, refl, sym, ap, _∙_}
+use mathlib.Core.List.{List, [], _∷_}
+use lib.ListN.{length, getD, take, drop, length-take, length-drop}
+use lib.Seq.{take-all, take-nil, take-take, getD-take, length-take-le}
+use lib.Dec.{leb, eqb}
+use borrow.Author.Tests.{lt-ltb, le-leb, ne-eqb}
+use Rattle.rules.specs.Base.{if_then_else_}
+use Rattle.rules.specs.Field.{Field}
+use Rattle.rules.specs.Outcomes.{Sizes}
+use Rattle.rules.specs.File.{withSpan, withCell, word, readOn, readFile, emptyField}
+use Rattle.rules.specs.Listing.{printed}
+use Rattle.laws.proofs.FileEnds.{reading-fuel}
+
+drop-take : (n m : ℕ) (l : List ℕ) → drop n (take m l) ≡ take (m - n) (drop n l)
+drop-take zero m l = let e : m ≡ m - 0 = omega arith in ap (λ (j : ℕ). take j l) e
+drop-take (suc n) zero l = let e : 0 ≡ 0 - suc n = omega arith in ap (λ (j : ℕ). take j (drop (suc n) l)) e
+drop-take (suc n) (suc m) [] = sym (take-nil (suc m - suc n))
+drop-take (suc n) (suc m) (x ∷ l) = let e : m - n ≡ suc m - suc n = omega arith in drop-take n m l ∙ ap (λ (j : ℕ). take j (drop n l)) e
+
+-- as many bytes are there as are asked for
+leb-take : (n m : ℕ) (l : List ℕ) → n ≤ m → leb n (length (take m l)) ≡ leb n (length l)
+leb-take n m l h =
+    elim (decLt m (length l)) [
+      | yes g ↦ rw (length-take-le m l (omega arith), le-leb n m h, le-leb n (length l) (omega arith)) refl
+      | no g ↦ rw (take-all m l (omega arith)) refl
+    ]
+
+none-take : (m : ℕ) (l : List ℕ) → 1 ≤ m → eqb (length (take m l)) 0 ≡ eqb (length l) 0
+none-take zero l h = absurd (omega arith)
+none-take (suc m) [] h = refl
+none-take (suc m) (x ∷ l) h = ne-eqb (suc (length (take m l))) 0 (λ e. omega arith) ∙ sym (ne-eqb (suc (length l)) 0 (λ e. omega arith))
+
+-- what can still be read: so many cells, so many spans, the end, and a byte after it
+first-on : (k cells due promised : ℕ) (bytes : List ℕ) (m : ℕ) (F : Field) (z : Sizes) → promised ≤ 200 → 2 * cells + 6 * (due + (200 - promised)) + 2 ≤ m
+    → readOn k cells due promised (take m bytes) F z ≡ readOn k cells due promised bytes F z
+unfolding readOn if_then_else_
+first-on zero cells due promised bytes m F z p h = refl
+first-on (suc k) cells due promised bytes zero F z p h = absurd (omega arith)
+first-on (suc k) cells due promised [] (suc m) F z p h = refl
+first-on (suc k) cells (suc due) promised (kind ∷ rest) (suc m) F z p h =
+    let on = first-on k cells due promised (drop 5 rest) (m - 5) (withSpan (take 5 rest) F) z p (omega arith) in
+    rw (leb-take 5 m rest (omega arith), drop-take 5 m rest, take-take 5 m rest (omega arith), on) refl
+first-on (suc k) (suc cells) zero promised (kind ∷ rest) (suc m) F z p h =
+    let g = getD-take m rest 0 0 (omega arith) in
+    elim (decLt 200 (promised + getD rest 0 0)) [
+      | yes o ↦ rw (leb-take 1 m rest (omega arith), g, lt-ltb 200 (promised + getD rest 0 0) o) refl
+      | no o ↦
+          let on = first-on k cells (getD rest 0 0) (promised + getD rest 0 0) (drop 1 rest) (m - 1) (withCell promised (getD rest 0 0) F) z (omega arith) (omega arith) in
+          rw (leb-take 1 m rest (omega arith), g, drop-take 1 m rest, on) refl
+    ]
+first-on (suc k) zero zero promised (kind ∷ rest) (suc m) F z p h = rw (none-take m rest (omega arith)) refl
+
+word-take : (m i : ℕ) (l : List ℕ) → i + 1 < m → word (take m l) i ≡ word l i
+unfolding word
+word-take m i l h = rw (getD-take m l i 0 (omega arith), getD-take m l (i + 1) 0 h) refl
+
+first-file : (bytes : List ℕ) (m : ℕ) → 3261 ≤ m → readFile (take m bytes) ≡ readFile bytes
+unfolding readFile if_then_else_
+first-file bytes zero h = absurd (omega arith)
+first-file [] (suc m) h = refl
+first-file (kind ∷ rest) (suc m) h =
+    let cells = word rest 0 * word rest 2 in
+    let F = emptyField (word rest 0) (word rest 2) in
+    let z : Sizes = record { border = word rest 4; least = word rest 6; merge = word rest 8 } in
+    let w = word-take m 0 rest (omega arith) in
+    let x = word-take m 2 rest (omega arith) in
+    let a = word-take m 4 rest (omega arith) in
+    let b = word-take m 6 rest (omega arith) in
+    let c = word-take m 8 rest (omega arith) in
+    let n = leb-take 10 m rest (omega arith) in
+    elim (decLt 1024 cells) [
+      | yes o ↦ rw (n, w, x, lt-ltb 1024 cells o) refl
+      | no o ↦
+          let fuel = reading-fuel (length (take m rest)) (length rest) cells 0 0 (drop 10 (take m rest)) F z (omega (arith, length-drop 10 (take m rest))) (omega (arith, length-drop 10 (take m rest), length-take m rest)) in
+          let on = first-on (length rest) cells 0 0 (drop 10 rest) (m - 10) F z (omega arith) (omega arith) in
+          rw (n, w, x, a, b, c, fuel, drop-take 10 m rest, on) refl
+    ]
+
+-- a program that reads no more than the first 3,261 bytes of a file, or any number past that, prints what the whole file prints
+pub first-bytes-decide : (bytes : List ℕ) (m : ℕ) → 3261 ≤ m → printed (take m bytes) ≡ printed bytes
+unfolding printed
+first-bytes-decide bytes m h = rw (first-file bytes m h) refl

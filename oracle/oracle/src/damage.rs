@@ -117,6 +117,18 @@ pub fn damage(name: &str) -> Option<&'static Damage> {
     DAMAGES.iter().find(|damage| damage.name == name)
 }
 
+/// A sound file with a few bytes overwritten, whatever comes of it.
+pub fn spoilt(seed: u64) -> Vec<u8> {
+    let mut rng = Rng::new(seed);
+    let kind = rng.pick(&KINDS);
+    let mut file = file::write(&kind.make(Size::Small, rng.number()));
+    for _ in 0..rng.within(1..=3) {
+        let place = rng.within(0..=file.len() - 1);
+        file[place] = rng.pick(&[0, 1, 2, 3, 4, 5, 64, 255]);
+    }
+    file
+}
+
 /// A sound case of any kind.
 fn sound_case(rng: &mut Rng) -> Case {
     let kind = rng.pick(&KINDS);

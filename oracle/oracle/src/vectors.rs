@@ -6,7 +6,7 @@ mod plan;
 mod search;
 
 use crate::{
-    damage::DAMAGES,
+    damage::{DAMAGES, spoilt},
     file::{self, Limits},
     levels::{KINDS, Size},
     listing,
@@ -15,6 +15,10 @@ use crate::{
     sketch,
 };
 pub use batch::{pack, unpack};
+use plan::Plan;
+
+/// The folder of the stored vectors: the fields in `stdin`, the answers in `stdout`.
+pub const STORED: &str = concat!(env!("CARGO_MANIFEST_DIR"), "/../../crates/vectors");
 
 /// Fields drawn for mistakes that the search does not find by itself.
 const DRAFTS: [&str; 7] = [
@@ -49,16 +53,20 @@ pub fn choose() -> Vec<Vec<u8>> {
     files
 }
 
-/// A sound file with a few bytes overwritten, whatever comes of it.
-fn spoilt(seed: u64) -> Vec<u8> {
+/// A sound file of any kind after a few changes or many, of the sorts that the search makes.
+pub fn edited(seed: u64) -> Vec<u8> {
     let mut rng = Rng::new(seed);
     let kind = rng.pick(&KINDS);
-    let mut file = file::write(&kind.make(Size::Small, rng.number()));
-    for _ in 0..rng.within(1..=3) {
-        let place = rng.within(0..=file.len() - 1);
-        file[place] = rng.pick(&[0, 1, 2, 3, 4, 5, 64, 255]);
+    let mut plan = Plan::new(&kind.make(Size::Small, rng.number()));
+    let most = rng.pick(&[3, 10, 40]);
+    for _ in 0..rng.within(1..=most) {
+        let before = plan.clone();
+        plan.edit(&mut rng);
+        if !plan.fits() {
+            plan = before;
+        }
     }
-    file
+    file::write(&plan.case())
 }
 
 /// The unchanged Rust's answers to files, one after the other.

@@ -3,7 +3,7 @@
 use oracle::{
     field::{Case, DIRECTIONS, Field, Settings},
     file::Limits,
-    levels::{KINDS, Size},
+    levels::{KINDS, Size, at_limits},
     rng::Rng,
     run::{self, Regions},
 };
@@ -199,4 +199,21 @@ fn kinds_reach_what_they_are_for() {
         );
     });
     assert_eq!(seen.len(), 10, "{seen:?}");
+}
+
+#[test]
+fn fields_at_the_limits_are_there_and_not_refused() {
+    for seed in 0..12 {
+        let rng = &mut Rng::new(seed);
+        let open = at_limits::largest_open(rng);
+        assert_eq!(open.spans(), 32_000);
+        let grid = at_limits::whole_grid(rng);
+        assert_eq!((grid.w, grid.h, grid.spans()), (256, 256, 32_000));
+        let highest = at_limits::highest(rng);
+        assert!(highest.count.iter().all(|&count| count == 63));
+        let corridor = at_limits::any_corridor(rng);
+        for field in [open, grid, highest, corridor] {
+            assert!(run::distances(&field).is_ok(), "seed {seed}");
+        }
+    }
 }

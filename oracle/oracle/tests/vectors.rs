@@ -4,22 +4,28 @@ use oracle::{
     file::Limits,
     listing,
     model::Model,
-    vectors::{self, unpack},
+    vectors::{self, STORED, unpack},
 };
+use std::fs;
 
-const FIELDS: &[u8] = include_bytes!("../../vectors/fields");
-const ANSWERS: &str = include_str!("../../vectors/answers");
+fn fields() -> Vec<u8> {
+    fs::read(format!("{STORED}/stdin")).expect("the stored fields")
+}
+
+fn answers() -> String {
+    fs::read_to_string(format!("{STORED}/stdout")).expect("the stored answers")
+}
 
 fn files() -> Vec<Vec<u8>> {
-    unpack(FIELDS).expect("a whole batch")
+    unpack(&fields()).expect("a whole batch")
 }
 
 #[test]
 fn answers_are_those_of_the_unchanged_rust_and_of_the_model() {
     let files = files();
-    assert_eq!(vectors::answers(&files), ANSWERS);
+    assert_eq!(vectors::answers(&files), answers());
     let modelled: String = files.iter().map(|file| Model::RIGHT.answer(file)).collect();
-    assert_eq!(modelled, ANSWERS);
+    assert_eq!(modelled, answers());
 }
 
 #[test]
@@ -37,7 +43,7 @@ fn every_mistake_that_can_be_seen_is_caught() {
 fn there_are_enough_of_each_sort() {
     let files = files();
     assert!(files.len() >= 600);
-    assert!(FIELDS.len() + ANSWERS.len() < 700_000);
+    assert!(fields().len() + answers().len() < 700_000);
     let refused = |number: u8| {
         let line = format!("refused {number}\n");
         let is_refused = |file: &&Vec<u8>| listing::answer(file, Limits::PROGRAM) == line;

@@ -11,11 +11,9 @@ const HELP: &str = "\
 usage: mistakes [FILE]
 
 Runs the model with each mistake on the fields of a batch file (without FILE the
-oracle's own vectors/fields), and tells which mistakes some answer shows. It
+stored crates/vectors/stdin), and tells which mistakes some answer shows. It
 fails if one is not shown that could be.
 ";
-
-const STORED: &str = concat!(env!("CARGO_MANIFEST_DIR"), "/../vectors/fields");
 
 fn main() -> ExitCode {
     match run() {
@@ -29,7 +27,9 @@ fn main() -> ExitCode {
 }
 
 fn run() -> Result<bool, String> {
-    let path = env::args().nth(1).unwrap_or_else(|| STORED.to_owned());
+    let path = env::args()
+        .nth(1)
+        .unwrap_or_else(|| format!("{}/stdin", vectors::STORED));
     if path == "--help" {
         return print(HELP).map(|()| true);
     }

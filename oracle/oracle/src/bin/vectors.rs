@@ -1,4 +1,4 @@
-//! Makes the stored vectors: `fields`, a batch of field files, and `answers`, what the unchanged Rust answers to them.
+//! Makes the stored vectors: `stdin`, a batch of field files, and `stdout`, what the unchanged Rust answers to them.
 
 use oracle::vectors;
 use std::{
@@ -11,9 +11,9 @@ use std::{
 const HELP: &str = "\
 usage: vectors [--out DIR]
 
-Chooses the fields (a minute or two) and writes DIR/fields and DIR/answers. The
-same bytes come out on every machine. Without --out, DIR is the oracle's own
-folder `vectors`.
+Chooses the fields (a minute or two) and writes DIR/stdin and DIR/stdout. The
+same bytes come out on every machine. Without --out, DIR is crates/vectors of
+the repository, where the stored vectors are.
 ";
 
 fn main() -> ExitCode {
@@ -30,7 +30,7 @@ fn run() -> Result<(), String> {
     let arguments: Vec<_> = env::args().skip(1).collect();
     let arguments: Vec<_> = arguments.iter().map(String::as_str).collect();
     match arguments[..] {
-        [] => write(&Path::new(env!("CARGO_MANIFEST_DIR")).join("../vectors")),
+        [] => write(Path::new(vectors::STORED)),
         ["--out", folder] => write(&PathBuf::from(folder)),
         ["--help"] => io::stdout()
             .write_all(HELP.as_bytes())
@@ -42,7 +42,7 @@ fn run() -> Result<(), String> {
 fn write(folder: &Path) -> Result<(), String> {
     let files = vectors::choose();
     fs::create_dir_all(folder)
-        .and_then(|()| fs::write(folder.join("fields"), vectors::pack(&files)))
-        .and_then(|()| fs::write(folder.join("answers"), vectors::answers(&files)))
+        .and_then(|()| fs::write(folder.join("stdin"), vectors::pack(&files)))
+        .and_then(|()| fs::write(folder.join("stdout"), vectors::answers(&files)))
         .map_err(|error| format!("can't write to {}: {error}", folder.display()))
 }

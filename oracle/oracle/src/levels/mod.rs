@@ -1,5 +1,6 @@
 //! Fields of many kinds, made from a seed. None of them is refused.
 
+pub mod at_limits;
 mod draft;
 mod long_corridor;
 mod shapes;

@@ -1,0 +1,92 @@
+//! The two functions of libgussetraft.a as include/gussetraft.h declares them: here the numbers beside a refusal are seen,
+//! too, which the safe package does not hand out.
+
+use gussetraft as _; // links the archive
+use oracle::field::{Field, Settings};
+
+/// What the distance entry answers.
+#[repr(C)]
+#[derive(Debug, Clone, Copy, PartialEq, Eq)]
+pub struct DistanceAnswer {
+    pub refusal: u16,
+    pub max_distance: u16,
+}
+
+/// What the region entry answers.
+#[repr(C)]
+#[derive(Debug, Clone, Copy, PartialEq, Eq)]
+pub struct RegionAnswer {
+    pub refusal: u16,
+    pub max_region: u16,
+    pub overlaps: u16,
+}
+
+#[rustfmt::skip]
+unsafe extern "C" {
+    fn gussetraft_build_distance_field(
+        w: u16, h: u16,
+        index: *const u32, index_len: usize,
+        count: *const u8, count_len: usize,
+        area: *const u8, area_len: usize,
+        con: *const u8, con_len: usize,
+        raw: *mut u16, raw_len: usize,
+        blurred: *mut u16, blurred_len: usize,
+    ) -> DistanceAnswer;
+
+    fn gussetraft_build_regions(
+        w: u16, h: u16,
+        index: *const u32, index_len: usize,
+        count: *const u8, count_len: usize,
+        area: *const u8, area_len: usize,
+        con: *const u8, con_len: usize,
+        dist: *const u16, dist_len: usize,
+        max_distance: u16,
+        border_size: u16, min_region_area: u16, merge_region_area: u16,
+        workspace: *mut u16, workspace_len: usize,
+        ids: *mut u16, ids_len: usize,
+    ) -> RegionAnswer;
+}
+
+/// The distance entry.
+#[rustfmt::skip]
+pub fn distances(field: &Field, raw: &mut [u16], blurred: &mut [u16]) -> DistanceAnswer {
+    // SAFETY: each pointer goes with the length of its own list, and the lists that are written overlap no other.
+    unsafe {
+        gussetraft_build_distance_field(
+            field.w, field.h,
+            field.index.as_ptr(), field.index.len(),
+            field.count.as_ptr(), field.count.len(),
+            field.area.as_ptr(), field.area.len(),
+            field.con.as_ptr(), field.con.len(),
+            raw.as_mut_ptr(), raw.len(),
+            blurred.as_mut_ptr(), blurred.len(),
+        )
+    }
+}
+
+/// The region entry.
+#[rustfmt::skip]
+pub fn regions(
+    field: &Field,
+    distances: &[u16],
+    max_distance: u16,
+    settings: Settings,
+    workspace: &mut [u16],
+    ids: &mut [u16],
+) -> RegionAnswer {
+    // SAFETY: as above.
+    unsafe {
+        gussetraft_build_regions(
+            field.w, field.h,
+            field.index.as_ptr(), field.index.len(),
+            field.count.as_ptr(), field.count.len(),
+            field.area.as_ptr(), field.area.len(),
+            field.con.as_ptr(), field.con.len(),
+            distances.as_ptr(), distances.len(),
+            max_distance,
+            settings.border_size, settings.least_area, settings.merge_area,
+            workspace.as_mut_ptr(), workspace.len(),
+            ids.as_mut_ptr(), ids.len(),
+        )
+    }
+}

@@ -1,0 +1,83 @@
+//! Compares what is proved with the unchanged Rust on fields by seed. `oracle/compare` runs it.
+
+mod calls;
+mod faults;
+mod large;
+mod lent;
+mod library;
+mod small;
+mod tally;
+
+use std::{env, path::PathBuf, process::ExitCode};
+
+struct Order {
+    program: PathBuf,
+    small: u64,
+    large: u64,
+    seed: u64,
+}
+
+fn main() -> ExitCode {
+    match run() {
+        Ok(true) => ExitCode::SUCCESS,
+        Ok(false) => ExitCode::FAILURE,
+        Err(message) => {
+            eprintln!("compare: {message}");
+            ExitCode::from(2)
+        }
+    }
+}
+
+/// Whether nothing differs.
+fn run() -> Result<bool, String> {
+    let order = order()?;
+    let (seed, ended) = (order.seed, "ended early: so much differs");
+    let small = small::compare(&order.program, seed, order.small)?;
+    if small.fields > 0 {
+        print!("small fields by kind, and their answers:\n{small}");
+    }
+    let large = large::compare(seed, order.large);
+    if large.fields > 0 {
+        print!("calls on large fields by kind, and their answers:\n{large}");
+    }
+    if small.is_enough() || large.is_enough() {
+        println!("{ended}");
+    }
+    let differences = small.differences + large.differences;
+    println!(
+        "compared {} small, {} large fields: {differences} differences",
+        small.fields, large.fields
+    );
+    Ok(differences == 0)
+}
+
+/// PROGRAM and the options, as the script hands them on.
+fn order() -> Result<Order, String> {
+    let mut arguments = env::args().skip(1);
+    let program = arguments.next().ok_or("PROGRAM is missing")?;
+    let mut order = Order {
+        program: program.into(),
+        small: 20_000,
+        large: 38,
+        seed: 0,
+    };
+    while let Some(option) = arguments.next() {
+        let value = arguments
+            .next()
+            .ok_or(format!("{option} lacks its value"))?;
+        let number = value
+            .parse()
+            .map_err(|_| format!("{value} is not a number"))?;
+        match option.as_str() {
+            "--small" => order.small = number,
+            "--large" => order.large = number,
+            "--seed" => order.seed = number,
+            _ => {
+                return Err(format!(
+                    "unknown option {option}; see oracle/compare --help"
+                ));
+            }
+        }
+    }
+    Ok(order)
+}

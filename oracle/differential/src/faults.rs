@@ -26,8 +26,10 @@ pub fn put(call: &mut Call, fault: usize, rng: &mut Rng) {
         9 => call.distances.resize(near(n, rng), 0),
         10 => call.ids_len = near(n, rng),
         11 | 12 => {
-            let needed = call.workspace_len;
-            call.workspace_len = rng.pick(&[needed - 1, needed - n.min(4_096), needed / 2, 1, 0]);
+            // a fault before this one may have left less than is taken away
+            let len = call.workspace_len;
+            let (one_short, far_short) = (len.saturating_sub(1), len.saturating_sub(n.min(4_096)));
+            call.workspace_len = rng.pick(&[one_short, far_short, len / 2, 1, 0]);
         }
         13 => call.max_distance = rng.pick(&[511, 512, 1_000, 65_535]),
         14 => {

@@ -4,7 +4,6 @@ use Prim.Native.Nat.{ℕ, zero, suc, _+_, _*_, _≤_}
 use native.Mathlib.Omega.{arith}
 use native.Mathlib.Decide.{ℕ-discrete}
 use mathlib.Core.Path.{_≡_, refl, sym, ap, subst, _∙_}
-use mathlib.Core.Bool.{Bool, true, false}
 use mathlib.Core.List.{List, [], _∷_, _++_}
 use lib.ListN.{length, take, replicate, length-replicate, length-take}
 use lib.Dec.{eqb}
@@ -16,12 +15,11 @@ use Rattle.rules.specs.Distance.{raw as rawOf, greatest, blur}
 use Rattle.rules.specs.Growth.{grown}
 use Rattle.rules.specs.Numbering.{regions}
 use Rattle.rules.specs.Outcomes.{Sizes, DistanceOutcome, RegionOutcome, distanceOutcome, regionOutcome}
-use Rattle.rules.specs.File.{Reading, refused, described, readFile}
+use Rattle.rules.specs.File.{refused, described, readFile}
 use Rattle.rules.specs.Listing.{rowText, rowsText, listing, refusedLine, ran, answered, printed}
 use Rattle.laws.proofs.Basics.{if-ind}
-use Rattle.laws.proofs.Cells.{passed}
 use Rattle.rooms.proofs.Rooms.{accepted}
-use Rattle.field.specs.Lent.{lent, Reached}
+use Rattle.field.specs.Lent.{lent}
 use Rattle.field.specs.Answer.{numberOf}
 use Rattle.field.specs.declared.checker.Refusal.{Refusal}
 use Rattle.field.proofs.Refused.{reached-of}
@@ -37,7 +35,7 @@ use Rattle.watershed.specs.declared.DistanceAnswer.the-variants as distance
 use Rattle.watershed.specs.declared.regions.RegionAnswer.{RegionAnswer}
 use Rattle.watershed.specs.declared.regions.RegionAnswer.the-variants as region
 use Rattle.watershed.proofs.Outcome.{number-pos}
-use Rattle.answer.specs.Answers.{Fitting, Own, second}
+use Rattle.answer.specs.Answers.{Fitting, second}
 
 -- the listing of a field is that of its cells, ids and numbers
 rows-shown : (w h : ℕ) (is ks ar cs ids : List ℕ) (k z : ℕ) → rowsText (shown w h is ks) ids k z ≡ rowsText (lent w h is ks ar cs) ids k z

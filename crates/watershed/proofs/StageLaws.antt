@@ -4,13 +4,12 @@ use Prim.Native.Nat.{ℕ, suc, _+_, _*_, _≤_, _<_}
 use native.Mathlib.Omega.{arith}
 use native.Mathlib.Decide.{ℕ-discrete}
 use mathlib.Core.Path.{_≡_, refl, sym, ap, _∙_}
-use mathlib.Core.Bool.{true}
 use mathlib.Core.List.{List}
 use lib.ListN.{length, getD, replicate, length-replicate, getD-replicate}
 use lib.Seq.{ext-getD}
-use Rattle.rules.specs.Field.{Field, spans, areaOf}
-use Rattle.rules.specs.Growth.{plain, firstId, grown}
-use Rattle.rules.specs.Records.{Rec, records}
+use Rattle.rules.specs.Field.{spans, areaOf}
+use Rattle.rules.specs.Growth.{grown}
+use Rattle.rules.specs.Records.{records}
 use Rattle.rules.specs.Filter.{filtered}
 use Rattle.rules.specs.Merge.{merged}
 use Rattle.rules.specs.Numbering.{Regions, numbered, regions}
@@ -19,9 +18,8 @@ use Rattle.laws.proofs.Lengths.{records-length, filtered-length}
 use Rattle.rooms.proofs.Joins.{plain-true}
 use Rattle.rooms.proofs.Growing.{grown-grow}
 use Rattle.space.proofs.Laws.{getD-any}
-use Rattle.field.specs.Lent.{Sound, Reached, lent}
+use Rattle.field.specs.Lent.{lent}
 use Rattle.field.proofs.Refused.{sound-reached}
-use Rattle.flood.specs.Site.{Lent}
 use Rattle.expand.specs.Layout.{Clear}
 use Rattle.growth.specs.Grow.{Poised, Full}
 use Rattle.table.specs.View.{recsOf}

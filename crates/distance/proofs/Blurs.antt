@@ -11,9 +11,9 @@ use borrow.Author.Tests.{le-leb, lt-leb}
 use Rattle.rules.specs.Base.{if_then_else_, upto}
 use Rattle.rules.specs.Field.{Field, near, corner, cellTo}
 use Rattle.rules.specs.Distance.{greatest, term, blurAt}
-use Rattle.field.specs.Lent.{Reached, Spot, SomeSpot, Leaf, consAt, lent}
+use Rattle.field.specs.Lent.{Reached, Spot, SomeSpot, Leaf, SomeLeaf, consAt, lent}
 use Rattle.field.proofs.Loops.{upto-go}
-use Rattle.field.proofs.Places.{getD-any, near-stands, near-spot, step-spot, turned}
+use Rattle.field.proofs.Places.{getD-any, near-stands, near-spot, spot-con, spot-leaf, some-leaf, step-spot, leaf-none, turned}
 use Rattle.field.proofs.Checks.{layer-spot}
 use Rattle.distance.specs.Value.{blurTo, Sized}
 use Rattle.distance.proofs.Values.{none-near}
@@ -36,54 +36,62 @@ greatest-end l i best h e =
 
 -- ---------------------------------------------------------------- the terms of a direction
 
-module _ (w : ℕ) (is cs l cons : List ℕ) (c s d v : ℕ) (o : Sized w is cs l c s) (q : cons ≡ consAt cs s) (g : d < 4) (t a : ℕ)
-    (n : (F : Field) (s : ℕ) → Leaf F w is cons c s → t ≡ near F s d) (p : a ≡ cellTo w c d) where
+module _ (w : ℕ) (is cs l cons : List ℕ) (c s d v : ℕ) (o : Sized w is cs l c s) (q : cons ≡ consAt cs s) (g : d < 4) where
   few : length l ≤ 32000
   few = omega (arith, o .spot .reached .celled .few, o .size)
 
-  at-near : (F : Field) → Spot F w is cs c s → near F s d ≡ t
-  at-near F u = sym (near-spot w is cs cons c s q d t n F u)
-
-  pub term-none : t ≡ 65535 → (F : Field) → Spot F w is cs c s → v * 2 ≡ term F l s v d
+  pub term-none : getD cons d 0 ≡ 255 → (F : Field) → Spot F w is cs c s → v * 2 ≡ term F l s v d
   unfolding term corner
   term-none z F u =
+      let m : near F s d ≡ 65535 = sym (leaf-none w is cons c d g z F s (spot-leaf F w is cs cons c s u q)) in
       let f : getD l 65535 v ≡ v = List·getD-eq-default l v (omega (arith, few)) in
-      rw (at-near F u ∙ z, none-near F (u .reached) ((d + 1) % 4) (turned d 1)) (omega arith)
+      rw (m, none-near F (u .reached) ((d + 1) % 4) (turned d 1)) (omega arith)
 
-  module _ (k : t ≡ 65535 → ⊥) where
+  -- the neighbour t, in cell a
+  module _ (t a : ℕ) (n : (F : Field) (s : ℕ) → Leaf F w is cons c s → t ≡ near F s d) (p : a ≡ cellTo w c d) (k : t ≡ 65535 → ⊥) where
+    at-near : (F : Field) → Spot F w is cs c s → near F s d ≡ t
+    at-near F u = sym (near-spot w is cs cons c s q d t n F u)
+
     stepped : (F : Field) → Spot F w is cs c s → Spot F w is cs a t
     stepped F u = step-spot w is cs cons c s q d t n F a u g p k
 
-    pub term-spot : SomeSpot w is cs a t
+    term-spot : SomeSpot w is cs a t
     term-spot = record { F = o .F; spot = stepped (o .F) (o .spot) }
 
     pub term-in : t < length l
     term-in = omega (arith, stepped (o .F) (o .spot) .stands .span, o .size)
 
-    -- the corner neighbour x
-    module _ (x : ℕ) (m : (F : Field) (s : ℕ) → Spot F w is cs a t → t ≡ near F s d → x ≡ corner F s d) where
-      at-corner : (F : Field) → Spot F w is cs c s → corner F s d ≡ x
-      at-corner F u = sym (m F s (stepped F u) (sym (at-near F u)))
+    pub term-con : 4 * t + 3 < length cs
+    term-con = spot-con w is cs a t term-spot
 
-      pub corner-in : (x ≡ 65535 → ⊥) → x < length l
-      unfolding corner
-      corner-in j =
-          let F = o .F in
-          let u = stepped F (o .spot) in
-          let e : near F t ((d + 1) % 4) ≡ x = ap (λ (y : ℕ). near F y ((d + 1) % 4)) (sym (at-near F (o .spot))) ∙ at-corner F (o .spot) in
-          let i = near-stands F (u .reached) a t ((d + 1) % 4) (u .stands) (turned d 1) (λ z. j (sym e ∙ z)) .span in
-          omega (arith, o .size)
+    -- which has the connections next
+    module _ (next : List ℕ) (b : next ≡ consAt cs t) where
+      pub term-leaf : SomeLeaf w is next a
+      term-leaf = some-leaf w is cs next a t b term-spot
 
       module _ (y : ℕ) (e : y ≡ getD l t 0) where
-        pub term-one : x ≡ 65535 → (F : Field) → Spot F w is cs c s → y + v ≡ term F l s v d
-        unfolding term
+        pub term-one : getD next ((d + 1) % 4) 0 ≡ 255 → (F : Field) → Spot F w is cs c s → y + v ≡ term F l s v d
+        unfolding term corner
         term-one z F u =
+            let m : near F t ((d + 1) % 4) ≡ 65535 = sym (leaf-none w is next a ((d + 1) % 4) (turned d 1) z F t (spot-leaf F w is cs next a t (stepped F u) b)) in
             let f : getD l 65535 v ≡ v = List·getD-eq-default l v (omega (arith, few)) in
-            rw (at-near F u, at-corner F u ∙ z) (omega (arith, getD-any l t v 0 term-in))
+            rw (at-near F u, m) (omega (arith, getD-any l t v 0 term-in))
 
-        pub term-two : (r : ℕ) → (x ≡ 65535 → ⊥) → r ≡ getD l x 0 → (F : Field) → Spot F w is cs c s → y + r ≡ term F l s v d
-        unfolding term
-        term-two r j h F u = rw (at-near F u, at-corner F u) (omega (arith, getD-any l t v 0 term-in, getD-any l x v 0 (corner-in j)))
+        -- the corner neighbour x
+        module _ (x : ℕ) (m : (F : Field) (s : ℕ) → Leaf F w is next a s → x ≡ near F s ((d + 1) % 4)) (j : x ≡ 65535 → ⊥) where
+          at-corner : (F : Field) → Spot F w is cs c s → corner F s d ≡ x
+          unfolding corner
+          at-corner F u = ap (λ (y : ℕ). near F y ((d + 1) % 4)) (at-near F u) ∙ sym (near-spot w is cs next a t b ((d + 1) % 4) x m F (stepped F u))
+
+          pub corner-in : x < length l
+          corner-in =
+              let u = stepped (o .F) (o .spot) in
+              let i = near-spot w is cs next a t b ((d + 1) % 4) x m (o .F) u in
+              omega (arith, near-stands (o .F) (u .reached) a t ((d + 1) % 4) (u .stands) (turned d 1) (λ z. j (i ∙ z)) .span, o .size)
+
+          pub term-two : (r : ℕ) → r ≡ getD l x 0 → (F : Field) → Spot F w is cs c s → y + r ≡ term F l s v d
+          unfolding term
+          term-two r h F u = rw (at-near F u, at-corner F u) (omega (arith, getD-any l t v 0 term-in, getD-any l x v 0 corner-in))
 
 -- ---------------------------------------------------------------- a span
 

@@ -8,7 +8,7 @@ use lib.ListN.{length, getD, List·getD-eq-default}
 use Rattle.rules.specs.Field.{Field, spans, near, cellTo}
 use Rattle.rules.specs.Distance.{far}
 use Rattle.field.specs.Lent.{Spot, SomeSpot, Leaf, SomeLeaf, consAt}
-use Rattle.field.proofs.Places.{getD-any, near-stands, near-spot, step-spot}
+use Rattle.field.proofs.Places.{getD-any, near-stands, near-spot, spot-con, spot-leaf, some-leaf, step-spot, leaf-none}
 use Rattle.distance.specs.Value.{side, least, Sized, Room}
 use Rattle.distance.proofs.Values.{none-near, sized-con, sized-in, sized-leaf}
 
@@ -28,65 +28,82 @@ module _ (w : ℕ) (is cs l : List ℕ) (c s d e : ℕ) (v : Room w is cs l c s 
   room-few : length l ≤ 32000
   room-few = omega (arith, v .size, v .spot .reached .celled .few)
 
-  -- neighbour t, in cell a
-  module _ (cons : List ℕ) (q : cons ≡ consAt cs s) (t a : ℕ) (n : (F : Field) (s : ℕ) → Leaf F w is cons c s → t ≡ near F s d) (g : d < 4)
-      (p : a ≡ cellTo w c d) where
-    at-near : (F : Field) → Spot F w is cs c s → near F s d ≡ t
-    at-near F u = sym (near-spot w is cs cons c s q d t n F u)
-
-    stepped : (t ≡ 65535 → ⊥) → (F : Field) → Spot F w is cs c s → Spot F w is cs a t
-    stepped k F u = step-spot w is cs cons c s q d t n F a u g p k
-
-    pub first-spot : (t ≡ 65535 → ⊥) → SomeSpot w is cs a t
-    first-spot k = record { F = v .F; spot = stepped k (v .F) (v .spot) }
-
-    pub first-in : (t ≡ 65535 → ⊥) → t < length l
-    first-in k = omega (arith, stepped k (v .F) (v .spot) .stands .span, v .size)
-
-    pub first-low : (t ≡ 65535 → ⊥) → getD l t 0 ≤ 510
-    first-low k =
-        let i : t < spans (v .F) = stepped k (v .F) (v .spot) .stands .span in
-        let b : far l t ≤ 510 = rw (at-near (v .F) (v .spot)) at (v .first (rw (at-near (v .F) (v .spot)) i)) in
-        rw (getD-any l t 0 65535 (first-in k)) b
-
-    pub side-none : (best : ℕ) → best < 65536 → e < 4 → t ≡ 65535 → (F : Field) → Spot F w is cs c s → best ≡ min best (side F l s d e)
+  module _ (cons : List ℕ) (q : cons ≡ consAt cs s) (g : d < 4) where
+    pub side-none : (best : ℕ) → best < 65536 → e < 4 → getD cons d 0 ≡ 255 → (F : Field) → Spot F w is cs c s → best ≡ min best (side F l s d e)
     unfolding side
     side-none best b h z F u =
-        let m : near F s d ≡ 65535 = at-near F u ∙ z in
+        let m : near F s d ≡ 65535 = sym (leaf-none w is cons c d g z F s (spot-leaf F w is cs cons c s u q)) in
         let f : far l 65535 ≡ 65535 = List·getD-eq-default l 65535 (omega (arith, room-few)) in
         rw (m, none-near F (u .reached) e h) (omega arith)
 
-    -- its neighbour x
-    module _ (k : t ≡ 65535 → ⊥) (best b : ℕ) (r : b ≡ min best (getD l t 0 + 2)) (x : ℕ) (m : (F : Field) → Spot F w is cs a t → x ≡ near F t e) (h : e < 4) where
-      at-second : (F : Field) → Spot F w is cs c s → near F (near F s d) e ≡ x
-      at-second F u = ap (λ (y : ℕ). near F y e) (at-near F u) ∙ sym (m F (stepped k F u))
+    -- neighbour t, in cell a
+    module _ (t a : ℕ) (n : (F : Field) (s : ℕ) → Leaf F w is cons c s → t ≡ near F s d) (p : a ≡ cellTo w c d) (k : t ≡ 65535 → ⊥) where
+      at-near : (F : Field) → Spot F w is cs c s → near F s d ≡ t
+      at-near F u = sym (near-spot w is cs cons c s q d t n F u)
 
-      pub second-in : (x ≡ 65535 → ⊥) → x < length l
-      second-in j =
-          let u = stepped k (v .F) (v .spot) in
-          let i = near-stands (v .F) (u .reached) a t e (u .stands) h (λ z. j (m (v .F) u ∙ z)) .span in
-          omega (arith, m (v .F) u, v .size)
+      stepped : (F : Field) → Spot F w is cs c s → Spot F w is cs a t
+      stepped F u = step-spot w is cs cons c s q d t n F a u g p k
 
-      pub second-low : (x ≡ 65535 → ⊥) → getD l x 0 ≤ 510
-      second-low j =
-          let i : x < spans (v .F) = omega (arith, second-in j, v .size) in
-          let f : far l x ≤ 510 = rw (at-second (v .F) (v .spot)) at (v .second (rw (at-second (v .F) (v .spot)) i)) in
-          rw (getD-any l x 0 65535 (second-in j)) f
+      first-spot : SomeSpot w is cs a t
+      first-spot = record { F = v .F; spot = stepped (v .F) (v .spot) }
+
+      pub first-in : t < length l
+      first-in = omega (arith, stepped (v .F) (v .spot) .stands .span, v .size)
+
+      pub first-con : 4 * t + 3 < length cs
+      first-con = spot-con w is cs a t first-spot
+
+      pub first-low : getD l t 0 ≤ 510
+      first-low =
+          let i : t < spans (v .F) = stepped (v .F) (v .spot) .stands .span in
+          let b : far l t ≤ 510 = rw (at-near (v .F) (v .spot)) at (v .first (rw (at-near (v .F) (v .spot)) i)) in
+          rw (getD-any l t 0 65535 first-in) b
 
       near-value : far l t ≡ getD l t 0
-      near-value = getD-any l t 65535 0 (first-in k)
+      near-value = getD-any l t 65535 0 first-in
 
-      pub side-one : best < 65536 → x ≡ 65535 → (F : Field) → Spot F w is cs c s → b ≡ min best (side F l s d e)
-      unfolding side
-      side-one o z F u =
-          let f : far l 65535 ≡ 65535 = List·getD-eq-default l 65535 (omega (arith, room-few)) in
-          rw (at-second F u ∙ z, at-near F u) (omega (arith, near-value, first-low k))
+      -- which has the connections next
+      module _ (next : List ℕ) (o : next ≡ consAt cs t) (h : e < 4) where
+        pub first-leaf : SomeLeaf w is next a
+        first-leaf = some-leaf w is cs next a t o first-spot
 
-      pub side-two : (y : ℕ) → (x ≡ 65535 → ⊥) → y ≡ min b (getD l x 0 + 3) → (F : Field) → Spot F w is cs c s → y ≡ min best (side F l s d e)
-      unfolding side
-      side-two y j o F u =
-          let f : far l x ≡ getD l x 0 = getD-any l x 65535 0 (second-in j) in
-          rw (at-second F u, at-near F u) (omega (arith, near-value))
+        module _ (best b : ℕ) (r : b ≡ min best (getD l t 0 + 2)) where
+          pub side-one : best < 65536 → getD next e 0 ≡ 255 → (F : Field) → Spot F w is cs c s → b ≡ min best (side F l s d e)
+          unfolding side
+          side-one y z F u =
+              let m : near F t e ≡ 65535 = sym (leaf-none w is next a e h z F t (spot-leaf F w is cs next a t (stepped F u) o)) in
+              let f : far l 65535 ≡ 65535 = List·getD-eq-default l 65535 (omega (arith, room-few)) in
+              rw (at-near F u, m) (omega (arith, near-value, first-low))
+
+          -- and a neighbour x
+          module _ (x : ℕ) (m : (F : Field) (s : ℕ) → Leaf F w is next a s → x ≡ near F s e) (j : x ≡ 65535 → ⊥) where
+            at-second : (F : Field) → Spot F w is cs c s → near F (near F s d) e ≡ x
+            at-second F u = ap (λ (y : ℕ). near F y e) (at-near F u) ∙ sym (near-spot w is cs next a t o e x m F (stepped F u))
+
+            pub second-in : x < length l
+            second-in =
+                let u = stepped (v .F) (v .spot) in
+                let y = near-spot w is cs next a t o e x m (v .F) u in
+                omega (arith, near-stands (v .F) (u .reached) a t e (u .stands) h (λ z. j (y ∙ z)) .span, v .size)
+
+            pub second-low : getD l x 0 ≤ 510
+            second-low =
+                let i : x < spans (v .F) = omega (arith, second-in, v .size) in
+                let f : far l x ≤ 510 = rw (at-second (v .F) (v .spot)) at (v .second (rw (at-second (v .F) (v .spot)) i)) in
+                rw (getD-any l x 0 65535 second-in) f
+
+            pub side-two : (y : ℕ) → y ≡ min b (getD l x 0 + 3) → (F : Field) → Spot F w is cs c s → y ≡ min best (side F l s d e)
+            unfolding side
+            side-two y z F u =
+                let f : far l x ≡ getD l x 0 = getD-any l x 65535 0 second-in in
+                rw (at-second F u, at-near F u) (omega (arith, near-value))
+
+-- a value of at most 2 stays, since at least 2 is added to each other
+pub least-low : (w : ℕ) (is cs l : List ℕ) (p s a b d e : ℕ) → Room w is cs l p s a b → getD l s 0 ≤ 2 → (F : Field) → Spot F w is cs p s → getD l s 0 ≡ least F a b d e s l
+unfolding least side
+least-low w is cs l p s a b d e v h F u =
+    let f : far l s ≡ getD l s 0 = getD-any l s 65535 0 (room-in w is cs l p s a b v) in
+    omega arith
 
 pub least-is : (w : ℕ) (is cs l : List ℕ) (p s a b d e x y : ℕ) → Room w is cs l p s a b
     → ((F : Field) → Spot F w is cs p s → x ≡ min (getD l s 0) (side F l s a b))

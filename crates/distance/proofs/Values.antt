@@ -1,17 +1,19 @@
 -- What a stage reads at a span and at its neighbours is what the rule reads: a neighbour that is there stands in its cell and has a value,
 -- and one that is not is past the list, where the rule reads its default.
-use Prim.Native.Nat.{ℕ, _+_, _*_, _≤_, _<_}
+use Prim.Native.Nat.{ℕ, zero, suc, _+_, _*_, _≤_, _<_}
 use native.Mathlib.Omega.{arith}
 use mathlib.Core.Path.{_≡_, refl, sym, ap, _∙_}
+use mathlib.Core.Bool.{Bool, true, false}
 use mathlib.Core.List.{List}
 use lib.ListN.{length, getD, set, List·getD-eq-default}
+use lib.Dec.{eqb}
 use borrow.Author.Tests.{eq-eqb, ne-eqb, lt-ltb, le-ltb}
 use Rattle.rules.specs.Base.{if_then_else_, upto}
 use Rattle.rules.specs.Field.{Field, spans, near, areaOf, cellTo, conOf}
 use Rattle.rules.specs.Distance.{same}
 use Rattle.laws.proofs.Cells.{near-none}
 use Rattle.field.specs.Lent.{Reached, Spot, SomeSpot, Leaf, SomeLeaf, consAt, lent}
-use Rattle.field.proofs.Places.{getD-any, near-stands, spot-leaf, spot-con, some-leaf, step-spot}
+use Rattle.field.proofs.Places.{getD-any, near-stands, spot-leaf, spot-con, some-leaf, step-spot, leaf-none}
 use Rattle.field.proofs.Checks.{layer-spot}
 use Rattle.distance.specs.Value.{startAt, startTo, Sized, SizedLeaf}
 use Rattle.field.proofs.Loops.{upto-go}
@@ -71,19 +73,20 @@ module _ (w : ℕ) (is cons ar : List ℕ) (c s d : ℕ) (v : SizedLeaf w is con
   pub four-in : s < length ar
   four-in = omega (arith, v .leaf .stands .span, v .size)
 
+module _ (w : ℕ) (is cons ar : List ℕ) (c s d : ℕ) (g : d < 4) where
+  pub same-none : getD cons d 0 ≡ 255 → getD ar s 0 < 256 → (F : Field) → Leaf F w is cons c s → F .area ≡ ar → 0 ≡ same F s d
+  unfolding same areaOf if_then_else_
+  same-none z b F u q =
+      let m : near F s d ≡ 65535 = sym (leaf-none w is cons c d g z F s u) in
+      let past : getD (F .area) (near F s d) 256 ≡ 256 = rw m (List·getD-eq-default (F .area) 256 (omega (arith, u .reached .celled .few))) in
+      let here : getD (F .area) s 256 ≡ getD ar s 0 = getD-any (F .area) s 256 0 (u .stands .span) ∙ ap (λ (x : List ℕ). getD x s 0) q in
+      rw (ne-eqb (getD (F .area) (near F s d) 256) (getD (F .area) s 256) (λ y. omega arith))
+
 module _ (w : ℕ) (is cons ar : List ℕ) (c s d t : ℕ) (g : d < 4) (n : (F : Field) (s : ℕ) → Leaf F w is cons c s → t ≡ near F s d) where
   pub four-near : SizedLeaf w is cons ar c s → (t ≡ 65535 → ⊥) → t < length ar
   four-near v k =
       let e = n (v .F) s (v .leaf) in
       omega (arith, near-stands (v .F) (v .leaf .reached) c s d (v .leaf .stands) g (λ z. k (e ∙ z)) .span, v .size)
-
-  pub same-none : t ≡ 65535 → getD ar s 0 < 256 → (F : Field) → Leaf F w is cons c s → F .area ≡ ar → 0 ≡ same F s d
-  unfolding same areaOf if_then_else_
-  same-none z b F u q =
-      let m : near F s d ≡ 65535 = sym (n F s u) ∙ z in
-      let past : getD (F .area) (near F s d) 256 ≡ 256 = rw m (List·getD-eq-default (F .area) 256 (omega (arith, u .reached .celled .few))) in
-      let here : getD (F .area) s 256 ≡ getD ar s 0 = getD-any (F .area) s 256 0 (u .stands .span) ∙ ap (λ (x : List ℕ). getD x s 0) q in
-      rw (ne-eqb (getD (F .area) (near F s d) 256) (getD (F .area) s 256) (λ y. omega arith))
 
   module _ (k : t ≡ 65535 → ⊥) (F : Field) (u : Leaf F w is cons c s) (q : F .area ≡ ar) where
     there : getD (F .area) (near F s d) 256 ≡ getD ar t 0
@@ -103,23 +106,43 @@ module _ (w : ℕ) (is cons ar : List ℕ) (c s d t : ℕ) (g : d < 4) (n : (F :
   unfolding same areaOf if_then_else_
   same-not k z F u q = rw (ne-eqb (getD (F .area) (near F s d) 256) (getD (F .area) s 256) (λ y. z (sym (there k F u q) ∙ y ∙ here k F u q)))
 
--- the four neighbours' counts, of every field that fits what is lent
-module _ (w : ℕ) (is cs ar cons : List ℕ) (c s x₀ x₁ x₂ x₃ : ℕ) (e : cons ≡ consAt cs s)
-    (e₀ : (F : Field) → Leaf F w is cons c s → F .area ≡ ar → x₀ ≡ same F s 0)
-    (e₁ : (F : Field) → Leaf F w is cons c s → F .area ≡ ar → x₁ ≡ same F s 1)
-    (e₂ : (F : Field) → Leaf F w is cons c s → F .area ≡ ar → x₂ ≡ same F s 2)
-    (e₃ : (F : Field) → Leaf F w is cons c s → F .area ≡ ar → x₃ ≡ same F s 3) where
-  pub start-none : x₀ + x₁ + x₂ + x₃ < 4 → (F : Field) → Spot F w is cs c s → F .area ≡ ar → 0 ≡ startAt F s
-  unfolding startAt if_then_else_
-  start-none h F v q =
-      let u = spot-leaf F w is cs cons c s v e in
-      rw (← e₀ F u q, ← e₁ F u q, ← e₂ F u q, ← e₃ F u q, lt-ltb (x₀ + x₁ + x₂ + x₃) 4 h)
+at-most-one : (b : Bool) → (if b then 1 else 0) ≤ 1
+unfolding if_then_else_
+at-most-one true = omega arith
+at-most-one false = omega arith
 
-  pub start-all : 4 ≤ x₀ + x₁ + x₂ + x₃ → (F : Field) → Spot F w is cs c s → F .area ≡ ar → 65535 ≡ startAt F s
+same-most : (F : Field) (s d : ℕ) → same F s d ≤ 1
+unfolding same
+same-most F s d = at-most-one (eqb (areaOf F (near F s d)) (areaOf F s))
+
+-- one that does not count is enough
+less : (F : Field) (s d : ℕ) → d < 4 → 0 ≡ same F s d → same F s 0 + same F s 1 + same F s 2 + same F s 3 < 4
+less F s zero g e = omega (arith, same-most F s 1, same-most F s 2, same-most F s 3)
+less F s (suc zero) g e = omega (arith, same-most F s 0, same-most F s 2, same-most F s 3)
+less F s (suc (suc zero)) g e = omega (arith, same-most F s 0, same-most F s 1, same-most F s 3)
+less F s (suc (suc (suc zero))) g e = omega (arith, same-most F s 0, same-most F s 1, same-most F s 2)
+less F s (suc (suc (suc (suc d)))) g e = absurd (omega arith)
+
+-- the neighbours' counts, of every field that fits what is lent
+module _ (w : ℕ) (is cs ar cons : List ℕ) (c s : ℕ) (e : cons ≡ consAt cs s) where
+  pub start-none : (d x : ℕ) → d < 4 → ((F : Field) → Leaf F w is cons c s → F .area ≡ ar → x ≡ same F s d) → x ≡ 0
+      → (F : Field) → Spot F w is cs c s → F .area ≡ ar → 0 ≡ startAt F s
   unfolding startAt if_then_else_
-  start-all h F v q =
-      let u = spot-leaf F w is cs cons c s v e in
-      rw (← e₀ F u q, ← e₁ F u q, ← e₂ F u q, ← e₃ F u q, le-ltb (x₀ + x₁ + x₂ + x₃) 4 h)
+  start-none d x g n z F v q =
+      let y : 0 ≡ same F s d = sym z ∙ n F (spot-leaf F w is cs cons c s v e) q in
+      rw (lt-ltb (same F s 0 + same F s 1 + same F s 2 + same F s 3) 4 (less F s d g y))
+
+  module _ (x₀ x₁ x₂ x₃ : ℕ)
+      (e₀ : (F : Field) → Leaf F w is cons c s → F .area ≡ ar → x₀ ≡ same F s 0)
+      (e₁ : (F : Field) → Leaf F w is cons c s → F .area ≡ ar → x₁ ≡ same F s 1)
+      (e₂ : (F : Field) → Leaf F w is cons c s → F .area ≡ ar → x₂ ≡ same F s 2)
+      (e₃ : (F : Field) → Leaf F w is cons c s → F .area ≡ ar → x₃ ≡ same F s 3) where
+    pub start-all : (x₀ ≡ 0 → ⊥) → (x₁ ≡ 0 → ⊥) → (x₂ ≡ 0 → ⊥) → (x₃ ≡ 0 → ⊥) → (F : Field) → Spot F w is cs c s → F .area ≡ ar → 65535 ≡ startAt F s
+    unfolding startAt if_then_else_
+    start-all a b y z F v q =
+        let u = spot-leaf F w is cs cons c s v e in
+        let h : 4 ≤ x₀ + x₁ + x₂ + x₃ = omega arith in
+        rw (← e₀ F u q, ← e₁ F u q, ← e₂ F u q, ← e₃ F u q, le-ltb (x₀ + x₁ + x₂ + x₃) 4 h)
 
 -- one layer more: v is what the start gives span i + j, of every field that fits what is lent
 pub start-go : (w h : ℕ) (is ks ar cs : List ℕ) (c i k j v : ℕ) (l m : List ℕ) → Reached (lent w h is ks ar cs) → i ≡ getD is c 0 → k ≡ getD ks c 0 → j < k

@@ -1,10 +1,9 @@
 // The greatest value, and the box blur.
-use field::place::NO_SPAN;
+use field::place::NO_LAYER;
 use field::place::Place;
 use field::place::SpanIx;
 use field::place::connections;
-use field::place::corner;
-use field::place::step;
+use field::place::follow;
 use field::read::at8;
 use field::read::at16;
 use field::read::at32;
@@ -54,18 +53,19 @@ fn term(
     requires { ⌜ Sized w (now index) (now con) (now raw) (p .cell) (p .span .0) × (cons ≡ consAt (now con) (p .span .0)) × (d < 4) × (v < 65536) ⌝ }
     ensures { λ r. ⌜ ((F : Field) → Spot F w (now (index .entry)) (now (con .entry)) (p .cell) (p .span .0) → r ≡ rules.term F (now (raw .entry)) (p .span .0) v d) × (r ≤ 131070) ⌝ }
 {
-    let q = step(w, index, cons, p.cell, d);
-    let t = q.span.0;
-    if t == NO_SPAN {
+    if cons[d] == NO_LAYER {
         return v * 2;
     }
-    let x = at16(raw, t);
-    let k = corner(w, index, con, q, d);
-    let u = k.0;
-    if u == NO_SPAN {
+    let q = follow(w, index, cons, p.cell, d);
+    let t = q.span;
+    let x = at16(raw, t.0);
+    let next = connections(con, t);
+    let e = (d + 1) % 4;
+    if next[e] == NO_LAYER {
         return x + v;
     }
-    x + at16(raw, u)
+    let k = follow(w, index, next, q.cell, e);
+    x + at16(raw, k.span.0)
 }
 
 // The blurred value of the span at place p.

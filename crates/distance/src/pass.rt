@@ -1,10 +1,9 @@
 // The two passes: each span takes the least of itself and of what its neighbours on two sides hold, plus 2, or plus 3 at a corner.
-use field::place::NO_SPAN;
+use field::place::NO_LAYER;
 use field::place::Place;
 use field::place::SpanIx;
 use field::place::connections;
-use field::place::step;
-use field::place::step_from;
+use field::place::follow;
 use field::read::at8;
 use field::read::at32;
 ghost use mathlib.Core.Path.{_≡_};
@@ -44,21 +43,22 @@ fn side(
     requires { ⌜ Room w (now index) (now con) (now raw) (p .cell) (p .span .0) d e × (cons ≡ consAt (now con) (p .span .0)) × (d < 4) × (e < 4) ⌝ }
     ensures { λ r. ⌜ ((F : Field) → Spot F w (now (index .entry)) (now (con .entry)) (p .cell) (p .span .0) → r ≡ min best (value.side F (now (raw .entry)) (p .span .0) d e)) ⌝ }
 {
-    let q = step(w, index, cons, p.cell, d);
-    let t = q.span.0;
-    if t == NO_SPAN {
+    if cons[d] == NO_LAYER {
         return best;
     }
-    let b = lower(raw, t, 2, best);
-    let k = step_from(w, index, con, q, e);
-    let u = k.span.0;
-    if u == NO_SPAN {
+    let q = follow(w, index, cons, p.cell, d);
+    let t = q.span;
+    let b = lower(raw, t.0, 2, best);
+    let next = connections(con, t);
+    if next[e] == NO_LAYER {
         return b;
     }
-    lower(raw, u, 3, b)
+    let k = follow(w, index, next, q.cell, e);
+    lower(raw, k.span.0, 3, b)
 }
 
-// What a pass gives the span at place p: it looks at neighbour a and its neighbour b, and at neighbour c and its neighbour e.
+// What a pass gives the span at place p: it looks at neighbour a and its neighbour b, and at neighbour c and its neighbour e. A value of at
+// most 2 can't become less, since at least 2 is added to each.
 fn lowered(
     w: usize,
     index: &[u32],
@@ -74,9 +74,12 @@ fn lowered(
     ensures { λ r. ⌜ ((F : Field) → Spot F w (now (index .entry)) (now (con .entry)) (p .cell) (p .span .0) → r ≡ least F a b c e (p .span .0) (now (raw .entry))) ⌝ }
 {
     let s = p.span;
-    let cons = connections(con, s);
     let i = p.span.0;
     let own = raw[i];
+    if own <= 2 {
+        return own;
+    }
+    let cons = connections(con, s);
     let best = side(w, index, con, raw, cons, p, a, b, own);
     side(w, index, con, raw, cons, p, c, e, best)
 }

@@ -1,9 +1,9 @@
 // The start: 65,535, and 0 for a span with fewer than four neighbours of its own area.
-use field::place::NO_SPAN;
+use field::place::NO_LAYER;
 use field::place::Place;
 use field::place::SpanIx;
 use field::place::connections;
-use field::place::step;
+use field::place::follow;
 use field::read::at8;
 use field::read::at32;
 ghost use mathlib.Core.Path.{_≡_};
@@ -22,29 +22,34 @@ fn same(w: usize, index: &[u32], area: &[u8], cons: [u8; 4], p: Place, d: usize)
 {
     let s = p.span.0;
     let own = area[s];
-    let q = step(w, index, cons, p.cell, d);
-    let t = q.span.0;
-    if t == NO_SPAN {
+    if cons[d] == NO_LAYER {
         return 0;
     }
+    let q = follow(w, index, cons, p.cell, d);
+    let t = q.span.0;
     if area[t] == own {
         return 1;
     }
     0
 }
 
-// The start of the span at place p.
+// The start of the span at place p: the first neighbour that is missing or of another area decides.
 fn start_span(w: usize, index: &[u32], con: &[u8], area: &[u8], p: Place) -> u16
     requires { ⌜ Sized w (now index) (now con) (now area) (p .cell) (p .span .0) ⌝ }
     ensures { λ r. ⌜ ((F : Field) → Spot F w (now (index .entry)) (now (con .entry)) (p .cell) (p .span .0) → F .area ≡ now (area .entry) → r ≡ startAt F (p .span .0)) ⌝ }
 {
     let s = p.span;
     let cons = connections(con, s);
-    let a = same(w, index, area, cons, p, 0);
-    let b = same(w, index, area, cons, p, 1);
-    let c = same(w, index, area, cons, p, 2);
-    let d = same(w, index, area, cons, p, 3);
-    if a + b + c + d < 4 {
+    if same(w, index, area, cons, p, 0) == 0 {
+        return 0;
+    }
+    if same(w, index, area, cons, p, 1) == 0 {
+        return 0;
+    }
+    if same(w, index, area, cons, p, 2) == 0 {
+        return 0;
+    }
+    if same(w, index, area, cons, p, 3) == 0 {
         return 0;
     }
     65535

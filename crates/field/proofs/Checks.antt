@@ -15,7 +15,7 @@ use Rattle.rules.specs.Field.{Field, spans, cellTo, leaves}
 use Rattle.rules.specs.Refusals.{goodCells, goodCon, goodBack}
 use Rattle.field.specs.Lent.{Stands, Celled, Reached, Spot, SomeSpot, consAt, names, namesAt, reachAt, backAt, inCell, lent}
 use Rattle.field.proofs.Loops.{every-go, every-halt, every-end, every-ext, every-join}
-use Rattle.field.proofs.Places.{stands-at, con-at, firstOf, first-is, total-is, across-in}
+use Rattle.field.proofs.Places.{stands-at, con-at, firstOf, first-is, total-is, across-in, room-left, room-up}
 
 pub not-not : (b : Bool) → b ≡ not (not b)
 not-not true = refl
@@ -106,6 +106,12 @@ module _ (w h : ℕ) (ks : List ℕ) (c k d : ℕ) where
 
 pub across-read : (w h c d a n : ℕ) (r : Bool) → c < w * h → n ≡ w * h → d < 4 → r ≡ leaves w h c d → r ≡ false → a ≡ cellTo w c d → a < n
 across-read w h c d a n r g e l p z q = omega (arith, across-in w h c d g l (sym p ∙ z))
+
+pub room-in-left : (w h c d : ℕ) (r : Bool) → r ≡ leaves w h c d → r ≡ false → d ≡ 0 → 1 ≤ c
+room-in-left w h c d r p z = room-left w c d h (sym p ∙ z)
+
+pub room-in-up : (w h c d : ℕ) (r : Bool) → r ≡ leaves w h c d → r ≡ false → d ≡ 3 → w ≤ c
+room-in-up w h c d r p z = room-up w c d h (sym p ∙ z)
 
 -- the loop over the directions of refusal 6, for every field that fits what is lent
 module _ (w : ℕ) (is cs : List ℕ) (c s d : ℕ) where

@@ -2,16 +2,16 @@
 -- Then the same as the code has it: what is lent is enough to say where a connection leads in every field that fits it.
 use Prim.Native.Nat.{ℕ, zero, suc, _+_, _*_, _-_, _/_, _%_, _≤_, _<_}
 use native.Mathlib.Omega.{arith}
-use native.Mathlib.Nat.{mod-lt, suc-mul, mul-comm, div-add-mod', div-lt-iff-lt-mul}
+use native.Mathlib.Nat.{mod-lt, mod-le, div-eq-of-lt, suc-mul, mul-comm, div-add-mod', div-lt-iff-lt-mul}
 use native.Mathlib.Numerals.{add-one}
-use native.Mathlib.Decide.{ℕ-discrete}
+use native.Mathlib.Decide.{ℕ-discrete, decLt}
 use lib.Arith.{digits-lt}
 use mathlib.Core.Path.{_≡_, refl, sym, ap, _∙_}
 use mathlib.Core.Bool.{true, false, false≢true}
 use mathlib.Core.List.{List, [], _∷_}
 use lib.ListN.{length, getD}
 use lib.Dec.{eqb, leb}
-use borrow.Author.Tests.{eqb-true, ne-eqb, ltb-true, not-true}
+use borrow.Author.Tests.{eqb-true, eq-eqb, ne-eqb, ltb-true, not-true}
 use Rattle.rules.specs.Base.{_or_}
 use Rattle.rules.specs.Field.{Field, spans, none, near, corner, cellOf, cellTo, leaves, conOf}
 use Rattle.rules.specs.Refusals.{goodCells, goodCon, goodBack}
@@ -29,9 +29,9 @@ getD-any (x ∷ l) (suc i) d e h = getD-any l i d e (omega arith)
 -- ---------------------------------------------------------------- the cell across, by direction
 
 module _ (w c d : ℕ) where
-  pub across-0 : d ≡ 0 → (r : ℕ) → r ≡ c - 1 → r ≡ cellTo w c d
+  pub across-0 : d ≡ 0 → c - 1 ≡ cellTo w c d
   unfolding cellTo
-  across-0 e r f = rw (e, f)
+  across-0 e = rw e
 
   pub across-1 : d ≡ 1 → c + w ≡ cellTo w c d
   unfolding cellTo
@@ -41,9 +41,9 @@ module _ (w c d : ℕ) where
   unfolding cellTo
   across-2 e = rw e
 
-  pub across-3 : d < 4 → (d ≡ 0 → ⊥) → (d ≡ 1 → ⊥) → (d ≡ 2 → ⊥) → (r : ℕ) → r ≡ c - w → r ≡ cellTo w c d
+  pub across-3 : d < 4 → (d ≡ 0 → ⊥) → (d ≡ 1 → ⊥) → (d ≡ 2 → ⊥) → c - w ≡ cellTo w c d
   unfolding cellTo
-  across-3 h a b e r f = let q : d ≡ 3 = omega arith in rw (q, f)
+  across-3 h a b e = let q : d ≡ 3 = omega arith in rw q
 
   module _ (h : ℕ) where
     pub leaves-0 : d ≡ 0 → eqb (c % w) 0 ≡ leaves w h c d
@@ -61,6 +61,19 @@ module _ (w c d : ℕ) where
     pub leaves-3 : d < 4 → (d ≡ 0 → ⊥) → (d ≡ 1 → ⊥) → (d ≡ 2 → ⊥) → eqb (c / w) 0 ≡ leaves w h c d
     unfolding leaves
     leaves-3 l a b e = let q : d ≡ 3 = omega arith in rw q
+
+    -- a cell on the left is one cell back, and one above is a row back
+    pub room-left : leaves w h c d ≡ false → d ≡ 0 → 1 ≤ c
+    unfolding leaves
+    room-left l e =
+        let z : eqb (c % w) 0 ≡ false = rw e at l in
+        elim (ℕ-discrete (c % w) 0) [ yes g ↦ absurd (false≢true (sym z ∙ eq-eqb (c % w) 0 g)) | no g ↦ omega (arith, mod-le c w) ]
+
+    pub room-up : leaves w h c d ≡ false → d ≡ 3 → w ≤ c
+    unfolding leaves
+    room-up l e =
+        let z : eqb (c / w) 0 ≡ false = rw e at l in
+        elim (decLt c w) [ yes g ↦ absurd (false≢true (sym z ∙ eq-eqb (c / w) 0 (div-eq-of-lt g))) | no g ↦ omega arith ]
 
 -- ---------------------------------------------------------------- cells
 
@@ -181,14 +194,32 @@ module _ (w : ℕ) (is cons : List ℕ) (c d : ℕ) (g : d < 4) where
       let i : getD (F .index) (cellTo (F .w) (cellOf (F .count) s) d) 0 ≡ getD is a 0 = ap (λ (x : ℕ). getD (F .index) x 0) t ∙ ap (λ (l : List ℕ). getD l a 0) (v .indexed) in
       omega arith
 
+  leaf-leads : (x : SomeLeaf w is cons c) → (getD cons d 0 ≡ 255 → ⊥) → Leads (x .F) (x .s) d
+  leaf-leads x k =
+      let v = x .leaf in
+      let e : conOf (x .F) (x .s) d ≡ getD cons d 0 = rw (v .four) (con-at (x .F) (v .reached .celled) (x .s) d (v .stands .span) g) in
+      reaches (x .F) (v .reached) (x .s) d (v .stands .span) g (λ z. k (sym e ∙ z))
+
+  -- it leads to a span, in a cell of the grid
+  pub leaf-there : (r : ℕ) → SomeLeaf w is cons c → (getD cons d 0 ≡ 255 → ⊥) → ((F : Field) (s : ℕ) → Leaf F w is cons c s → r ≡ near F s d) → r ≡ 65535 → ⊥
+  leaf-there r x k n z = omega (arith, leaf-leads x k .inside, n (x .F) (x .s) (x .leaf), x .leaf .reached .celled .few)
+
+  leaf-inner : (x : SomeLeaf w is cons c) → (getD cons d 0 ≡ 255 → ⊥) → leaves w (x .F .h) c d ≡ false
+  leaf-inner x k = rw (← x .leaf .wide, ← x .leaf .stands .cell) (leaf-leads x k .inner)
+
+  pub leaf-left : SomeLeaf w is cons c → (getD cons d 0 ≡ 255 → ⊥) → d ≡ 0 → 1 ≤ c
+  leaf-left x k = room-left w c d (x .F .h) (leaf-inner x k)
+
+  pub leaf-up : SomeLeaf w is cons c → (getD cons d 0 ≡ 255 → ⊥) → d ≡ 3 → w ≤ c
+  leaf-up x k = room-up w c d (x .F .h) (leaf-inner x k)
+
   -- the cell that it leads to has an index
   pub leaf-in : (a : ℕ) → SomeLeaf w is cons c → (getD cons d 0 ≡ 255 → ⊥) → a ≡ cellTo w c d → a < length is
   leaf-in a x k p =
       let F = x .F in
       let v = x .leaf in
       let s = x .s in
-      let e : conOf F s d ≡ getD cons d 0 = rw (v .four) (con-at F (v .reached .celled) s d (v .stands .span) g) in
-      let r = reaches F (v .reached) s d (v .stands .span) g (λ z. k (sym e ∙ z)) in
+      let r = leaf-leads x k in
       let t : cellTo (F .w) (cellOf (F .count) s) d ≡ a = ap (λ (x : ℕ). cellTo (F .w) x d) (v .stands .cell) ∙ ap (λ (x : ℕ). cellTo x c d) (v .wide) ∙ sym p in
       let z : 0 < getD (F .count) (cellTo (F .w) (cellOf (F .count) s) d) 0 = omega (arith, r .layer) in
       let l : a < length (F .count) = in-list (F .count) a (rw t at z) in

@@ -34,23 +34,13 @@ pub fn connections(con: &[u8], s: SpanIx) -> [u8; 4]
     [con[k], con[k + 1], con[k + 2], con[k + 3]]
 }
 
-// a - b, not below 0.
-fn minus(a: usize, b: usize) -> usize
-    ensures { λ r. ⌜ r ≡ a - b ⌝ }
-{
-    if a < b {
-        return 0;
-    }
-    a - b
-}
-
-// The cell across from cell c in direction d; some other cell where that leaves the grid.
+// The cell across from cell c in direction d, which is in the grid.
 pub fn cell_across(w: usize, c: usize, d: usize) -> usize
-    requires { ⌜ (w ≤ 256) × (c < 65536) × (d < 4) ⌝ }
+    requires { ⌜ (w ≤ 256) × (c < 65536) × (d < 4) × (d ≡ 0 → 1 ≤ c) × (d ≡ 3 → w ≤ c) ⌝ }
     ensures { λ r. ⌜ r ≡ cellTo w c d ⌝ }
 {
     if d == 0 {
-        return minus(c, 1);
+        return c - 1;
     }
     if d == 1 {
         return c + w;
@@ -58,7 +48,7 @@ pub fn cell_across(w: usize, c: usize, d: usize) -> usize
     if d == 2 {
         return c + 1;
     }
-    minus(c, w)
+    c - w
 }
 
 // There is no cell across.
@@ -86,21 +76,29 @@ fn span_at(index: &[u32], c: usize, l: Layer) -> SpanIx
     SpanIx(at32(index, c) + l.0 as usize)
 }
 
-// Where the connection in direction d leads, of a span in cell c that has the connections cons.
-pub fn step(w: usize, index: &[u32], cons: [u8; 4], c: usize, d: usize) -> Place
-    requires { ⌜ SomeLeaf w (now index) cons c × (d < 4) ⌝ }
-    ensures { λ r. ⌜ ((F : Field) (s : ℕ) → Leaf F w (now (index .entry)) cons c s → r .span .0 ≡ near F s d) × (r .cell ≡ cellTo w c d) ⌝ }
+// Where the connection in direction d leads, which is not none, of a span in cell c that has the connections cons.
+pub fn follow(w: usize, index: &[u32], cons: [u8; 4], c: usize, d: usize) -> Place
+    requires { ⌜ SomeLeaf w (now index) cons c × (d < 4) × (getD cons d 0 ≡ 255 → ⊥) ⌝ }
+    ensures { λ r. ⌜ ((F : Field) (s : ℕ) → Leaf F w (now (index .entry)) cons c s → r .span .0 ≡ near F s d) × (r .cell ≡ cellTo w c d) × (r .span .0 ≡ 65535 → ⊥) ⌝ }
 {
     let cell = cell_across(w, c, d);
     let k = cons[d];
-    if k == NO_LAYER {
+    let span = span_at(index, cell, Layer(k));
+    Place { cell, span }
+}
+
+// Where the connection in direction d leads, of a span in cell c that has the connections cons.
+pub fn step(w: usize, index: &[u32], cons: [u8; 4], c: usize, d: usize) -> Place
+    requires { ⌜ SomeLeaf w (now index) cons c × (d < 4) ⌝ }
+    ensures { λ r. ⌜ ((F : Field) (s : ℕ) → Leaf F w (now (index .entry)) cons c s → r .span .0 ≡ near F s d) × ((r .span .0 ≡ 65535 → ⊥) → r .cell ≡ cellTo w c d) ⌝ }
+{
+    if cons[d] == NO_LAYER {
         return Place {
-            cell,
+            cell: c,
             span: SpanIx(NO_SPAN),
         };
     }
-    let span = span_at(index, cell, Layer(k));
-    Place { cell, span }
+    follow(w, index, cons, c, d)
 }
 
 // The neighbour in direction d of a span in cell c that has the connections cons, or NO_SPAN.
@@ -115,7 +113,7 @@ pub fn neighbour(w: usize, index: &[u32], cons: [u8; 4], c: usize, d: usize) -> 
 // Where the connection in direction d of the span at place p leads.
 pub fn step_from(w: usize, index: &[u32], con: &[u8], p: Place, d: usize) -> Place
     requires { ⌜ SomeSpot w (now index) (now con) (p .cell) (p .span .0) × (d < 4) ⌝ }
-    ensures { λ r. ⌜ ((F : Field) → Spot F w (now (index .entry)) (now (con .entry)) (p .cell) (p .span .0) → r .span .0 ≡ near F (p .span .0) d) × (r .cell ≡ cellTo w (p .cell) d) ⌝ }
+    ensures { λ r. ⌜ ((F : Field) → Spot F w (now (index .entry)) (now (con .entry)) (p .cell) (p .span .0) → r .span .0 ≡ near F (p .span .0) d) × ((r .span .0 ≡ 65535 → ⊥) → r .cell ≡ cellTo w (p .cell) d) ⌝ }
 {
     let s = p.span;
     let cons = connections(con, s);

@@ -1,12 +1,13 @@
--- `cell_across` is the rule's list of four, taken direction by direction; the differences stop at 0 as the rule's do.
--- Assumes nothing.
+-- `cell_across` is the rule's list of four, taken direction by direction.
+-- The differences stay above 0, since the cell across is in the grid.
 use Rattle.field.proofs.Places.{across-0, across-1, across-2, across-3}
+use native.Mathlib.Omega.{arith}
 use borrow.Author.Needs.{needs}
 use Rattle.field.proofs.place.cell_across.Statement.{statement}
 use Rattle.field.proofs.place.cell_across.Tie as tie
 
-minus-requires : tie.Need-minus-requires
-minus-requires c κs = search needs
+sub-result : tie.Need-sub-result
+sub-result c = omega (arith, c .before .pre .3 (c .if1 .taken))
 
 returns : tie.Need-returns
 returns c = search (needs, across-0)
@@ -23,8 +24,8 @@ add-result-2 c = search needs
 returns-3 : tie.Need-returns-3
 returns-3 c = search (needs, across-2)
 
-minus-requires-2 : tie.Need-minus-requires-2
-minus-requires-2 c κs = search needs
+sub-result-2 : tie.Need-sub-result-2
+sub-result-2 c = omega (arith, c .before .before .before .pre .4 (omega arith))
 
 returns-4 : tie.Need-returns-4
 returns-4 c = search (needs, across-3)
@@ -33,11 +34,11 @@ pub cell-across-spec : {M : Type 1} → statement M
 cell-across-spec =
     tie.close
     (tie.spec
-    minus-requires
+    sub-result
     returns
     add-result
     returns-2
     add-result-2
     returns-3
-    minus-requires-2
+    sub-result-2
     returns-4)

@@ -1,25 +1,21 @@
--- `step` is the rule `near` of every field and span that fit what is lent: their connection in direction d is the one read.
--- A connection that is not none leads into the grid (refusal 5), so the cell across has an index.
-use Rattle.field.proofs.Places.{leaf-none, leaf-some, leaf-in, leaf-narrow, leaf-small}
+-- `step` follows the connection where it is not none; where it is none the rule `near` has no span either.
+-- Assumes nothing.
+use Rattle.field.proofs.Places.{leaf-none}
 use borrow.Author.Needs.{needs}
 use Rattle.field.proofs.place.step.Statement.{statement}
 use Rattle.field.proofs.place.step.Tie as tie
 
-cell-across-requires : tie.Need-cell-across-requires
-cell-across-requires c κs = (search (needs, leaf-narrow), search (needs, leaf-small), search needs)
-
-array-read-k : tie.Need-array-read-k
-array-read-k c = search needs
+array-read-if1 : tie.Need-array-read-if1
+array-read-if1 c = search needs
 
 returns : tie.Need-returns
 returns c = (search (needs, leaf-none), search needs)
 
-span-at-requires : tie.Need-span-at-requires
-span-at-requires c κs = search (needs, leaf-in)
+follow-requires : tie.Need-follow-requires
+follow-requires c κs = search needs
 
 returns-2 : tie.Need-returns-2
-returns-2 c = (search (needs, leaf-some), search needs)
+returns-2 c = (search needs, search needs)
 
 pub step-spec : {M : Type 1} → statement M
-step-spec =
-    tie.close (tie.spec cell-across-requires array-read-k returns span-at-requires returns-2)
+step-spec = tie.close (tie.spec array-read-if1 returns follow-requires returns-2)

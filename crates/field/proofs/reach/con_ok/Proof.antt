@@ -1,7 +1,7 @@
 -- `con_ok` is the rule's test of one connection, branch by branch. A way that does not leave the grid ends in it, so the count is there to read.
 -- Assumes nothing.
 use Rattle.laws.proofs.Passes.{wide-pos}
-use Rattle.field.proofs.Checks.{names-none, names-out, names-in, across-read}
+use Rattle.field.proofs.Checks.{names-none, names-out, names-in, across-read, room-in-left, room-in-up}
 use borrow.Author.Needs.{needs}
 use Rattle.field.proofs.reach.con_ok.Statement.{statement}
 use Rattle.field.proofs.reach.con_ok.Tie as tie
@@ -16,7 +16,7 @@ returns-2 : tie.Need-returns-2
 returns-2 c = search (needs, names-out)
 
 cell-across-requires : tie.Need-cell-across-requires
-cell-across-requires c κs = search needs
+cell-across-requires c κs = (search needs, search needs, search needs, search (needs, room-in-left), search (needs, room-in-up))
 
 shared-slice-read-result : tie.Need-shared-slice-read-result
 shared-slice-read-result c = search (needs, across-read)

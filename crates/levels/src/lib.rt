@@ -45,7 +45,7 @@ fn stack_of(level: u16, distance: u16) -> usize
     a - b
 }
 
-// Span i goes to its stack.
+// Span i goes to its stack. At most levels the distance rules most spans out, so it is looked at first.
 fn sort_one(
     area: &[u8],
     dist: &[u16],
@@ -60,17 +60,17 @@ fn sort_one(
     ensures { λ r. ⌜ Moved (length (now (area .entry))) base (now (ws .entry)) (l .fills) (now (ws .exit)) (r .fills) (sortedTo (now (area .entry)) (now (dist .entry)) (now (ids .entry)) level (i + 1)) ⌝ }
     ensures { λ r. ⌜ r .turn ≡ l .turn ⌝ }
 {
+    let k = stack_of(level, dist[i]);
+    if 8 <= k {
+        return l;
+    }
     if area[i] == 0 {
         return l;
     }
     if ids[i] != 0 {
         return l;
     }
-    let k = stack_of(level, dist[i]);
-    if k < 8 {
-        return push_level(ws, base, area.len(), l, k, i as u16);
-    }
-    l
+    push_level(ws, base, area.len(), l, k, i as u16)
 }
 
 // "At turn 0 all stacks are emptied and every walkable span of id 0 goes, in scan order, to the stack .. if below 8."

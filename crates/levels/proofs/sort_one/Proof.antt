@@ -5,21 +5,6 @@ use borrow.Author.Needs.{needs}
 use Rattle.levels.proofs.sort_one.Statement.{statement}
 use Rattle.levels.proofs.sort_one.Tie as tie
 
-shared-slice-read-if1 : tie.Need-shared-slice-read-if1
-shared-slice-read-if1 c = search needs
-
-returns : tie.Need-returns
-returns c = (search moved-skip-area, search needs)
-
-mul-if2 : tie.Need-mul-if2
-mul-if2 c = search needs
-
-shared-slice-read-if2 : tie.Need-shared-slice-read-if2
-shared-slice-read-if2 c = search needs
-
-returns-2 : tie.Need-returns-2
-returns-2 c = (search moved-skip-id, search needs)
-
 mul-stack-of : tie.Need-mul-stack-of
 mul-stack-of c = search needs
 
@@ -28,6 +13,24 @@ shared-slice-read-stack-of c = search needs
 
 stack-of-requires : tie.Need-stack-of-requires
 stack-of-requires c κs = search needs
+
+returns : tie.Need-returns
+returns c = (search moved-skip-high, search needs)
+
+shared-slice-read-if2 : tie.Need-shared-slice-read-if2
+shared-slice-read-if2 c = search needs
+
+returns-2 : tie.Need-returns-2
+returns-2 c = (search moved-skip-area, search needs)
+
+mul-if3 : tie.Need-mul-if3
+mul-if3 c = search needs
+
+shared-slice-read-if3 : tie.Need-shared-slice-read-if3
+shared-slice-read-if3 c = search needs
+
+returns-3 : tie.Need-returns-3
+returns-3 c = (search moved-skip-id, search needs)
 
 cast-push-level : tie.Need-cast-push-level
 cast-push-level c = search needs
@@ -38,26 +41,23 @@ push-level-requires c κs = (search needs, search needs, search sort-room, searc
 same-length : tie.Need-same-length
 same-length c = search needs
 
-returns-3 : tie.Need-returns-3
-returns-3 c = (search moved-put, search needs)
-
 returns-4 : tie.Need-returns-4
-returns-4 c = (search moved-skip-high, search needs)
+returns-4 c = (search moved-put, search needs)
 
 pub sort-one-spec : {M : Type 1} → statement M
 sort-one-spec =
     tie.close
     (tie.spec
-    shared-slice-read-if1
-    returns
-    mul-if2
-    shared-slice-read-if2
-    returns-2
     mul-stack-of
     shared-slice-read-stack-of
     stack-of-requires
+    returns
+    shared-slice-read-if2
+    returns-2
+    mul-if3
+    shared-slice-read-if3
+    returns-3
     cast-push-level
     push-level-requires
     same-length
-    returns-3
     returns-4)

@@ -13,7 +13,7 @@ use Rattle.rules.specs.Field.{Field, near}
 use Rattle.rules.specs.Contour.{across, solid, firstSolid}
 use Rattle.laws.proofs.Basics.{if-ind}
 use Rattle.field.specs.Lent.{Leaf, SomeLeaf, consAt}
-use Rattle.field.proofs.Places.{near-stands, spot-leaf}
+use Rattle.field.proofs.Places.{near-stands, spot-leaf, leaf-none}
 use Rattle.contour.specs.Ways.{Edged, SomeEdged, Ways, firstFrom, edgeOf}
 use Rattle.contour.specs.Walks.{backAt}
 use Rattle.contour.specs.declared.edge.Edge.{Edge}
@@ -30,6 +30,12 @@ ways-edged F w is cs cons ids c s e v = record { leaf = spot-leaf F w is cs cons
 
 -- ---------------------------------------------------------------- one edge
 
+pub across-none : (w : ℕ) (is cons ids : List ℕ) (c s d : ℕ) → d < 4 → getD cons d 0 ≡ 255 → (F : Field) → Edged F w is cons ids c s → _≡_ {A = ℕ} 0 (across F ids s d)
+unfolding across
+across-none w is cons ids c s d g k F l =
+    let q : near F s d ≡ 65535 = sym (leaf-none w is cons c d g k F s (l .leaf)) in
+    rw q (sym (List·getD-eq-default ids 0 (omega (arith, l .idents, l .leaf .reached .celled .few))))
+
 module _ (w : ℕ) (is cons ids : List ℕ) (c s d a : ℕ) (e : (F : Field) (s : ℕ) → Leaf F w is cons c s → a ≡ near F s d) where
   pub near-read : SomeEdged w is cons ids c s → d < 4 → (a ≡ 65535 → ⊥) → a < length ids
   near-read x g n =
@@ -37,12 +43,6 @@ module _ (w : ℕ) (is cons ids : List ℕ) (c s d a : ℕ) (e : (F : Field) (s 
       let q = e (x .F) s l in
       let r = near-stands (x .F) (l .reached) c s d (l .stands) g (λ z. n (q ∙ z)) in
       omega (arith, r .span, x .edged .idents)
-
-  pub across-none : a ≡ 65535 → (F : Field) → Edged F w is cons ids c s → _≡_ {A = ℕ} 0 (across F ids s d)
-  unfolding across
-  across-none z F l =
-      let q : near F s d ≡ 65535 = sym (e F s (l .leaf)) ∙ z in
-      rw q (sym (List·getD-eq-default ids 0 (omega (arith, l .idents, l .leaf .reached .celled .few))))
 
   pub across-some : (F : Field) → Edged F w is cons ids c s → getD ids a 0 ≡ across F ids s d
   unfolding across

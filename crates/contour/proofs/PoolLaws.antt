@@ -18,7 +18,7 @@ use Rattle.space.specs.Space.{sec}
 use Rattle.space.proofs.Laws.{length-sec, getD-sec}
 use Rattle.field.specs.Lent.{Leaf, SomeLeaf, consAt}
 use Rattle.field.specs.declared.place.Place.{Place}
-use Rattle.field.proofs.Places.{spot-leaf, spot-con, step-spot}
+use Rattle.field.proofs.Places.{spot-leaf, spot-con, spot-none, step-spot}
 use Rattle.contour.specs.Ways.{Edged, SomeEdged, Ways}
 use Rattle.contour.specs.Walks.{first}
 use Rattle.contour.specs.Pool.{turned, stepped, noted, view, Laid, lay, Standing, Start, Stridden, Begun, Trimmed}
@@ -111,8 +111,14 @@ module _ (w : ℕ) (is cs cons ids pool : List ℕ) (v u : Walker) (four : cons 
   abbrev S : ℕ
   S = v .place .span .0
 
+  -- the connection there is not none
+  pub stand-open : Standing w is cs ids v pool → (b : Bool) → ((F : Field) → Edged F w is cons ids C S → b ≡ solid F ids S (v .dir)) → b ≡ false → getD cons (v .dir) 0 ≡ 255 → ⊥
+  stand-open st b f t k =
+      let z = sym (f (st .F) (ways-edged (st .F) w is cs cons ids C S four (st .ways))) ∙ t in
+      open-near (st .F) w is cs ids C S (v .dir) (st .ways) (st .own) z (sym (spot-none w is cs cons C S (v .dir) four (st .dir) k (st .F) (st .ways .spot)))
+
   pub stride-step : Standing w is cs ids v pool → (b : Bool) → ((F : Field) → Edged F w is cons ids C S → b ≡ solid F ids S (v .dir)) → b ≡ false
-      → (to : Place) → ((F : Field) (s : ℕ) → Leaf F w is cons C s → to .span .0 ≡ near F s (v .dir)) × (to .cell ≡ cellTo w C (v .dir)) → u ≡ stepped v to
+      → (to : Place) → ((F : Field) (s : ℕ) → Leaf F w is cons C s → to .span .0 ≡ near F s (v .dir)) × (to .cell ≡ cellTo w C (v .dir)) × (to .span .0 ≡ 65535 → ⊥) → u ≡ stepped v to
       → Stridden w is cs ids pool v pool u
   unfolding view stride if_then_else_
   stride-step st b f t to g e =

@@ -1,7 +1,7 @@
 // Solid edges.
-use field::place::NO_SPAN;
+use field::place::NO_LAYER;
 use field::place::Place;
-use field::place::neighbour;
+use field::place::follow;
 ghost use mathlib.Core.Path.{_≡_};
 ghost use Prim.Native.Nat.{_<_};
 ghost use Rattle.rules.specs.Field.{Field};
@@ -13,10 +13,10 @@ pub fn across(w: usize, index: &[u32], ids: &[u16], cons: [u8; 4], p: Place, d: 
     requires { ⌜ SomeEdged w (now index) cons (now ids) (p .cell) (p .span .0) × (d < 4) ⌝ }
     ensures { λ r. ⌜ ((F : Field) → Edged F w (now (index .entry)) cons (now (ids .entry)) (p .cell) (p .span .0) → r ≡ across F (now (ids .entry)) (p .span .0) d) ⌝ }
 {
-    let t = neighbour(w, index, cons, p.cell, d).0;
-    if t == NO_SPAN {
+    if cons[d] == NO_LAYER {
         return 0;
     }
+    let t = follow(w, index, cons, p.cell, d).span.0;
     ids[t]
 }
 

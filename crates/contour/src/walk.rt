@@ -4,7 +4,7 @@ use crate::edge::is_solid_edge;
 use crate::walker::Walker;
 use field::place::Place;
 use field::place::connections;
-use field::place::step;
+use field::place::follow;
 ghost use mathlib.Core.Path.{_≡_};
 ghost use Prim.Native.Nat.{_+_, _-_, _<_, _≤_};
 ghost use lib.ListN.{length};
@@ -32,7 +32,7 @@ fn stride(w: usize, index: &[u32], con: &[u8], ids: &[u16], pool: &mut [u16], v:
         pool[end] = r;
         return v.note(r).turn();
     }
-    let to = step(w, index, cons, p.cell, d);
+    let to = follow(w, index, cons, p.cell, d);
     v.step(to)
 }
 

@@ -1,8 +1,8 @@
 // What an entry takes: the first same-area neighbour with the least source distance plus 2, among nonzero unflagged ids.
-use field::place::NO_SPAN;
+use field::place::NO_LAYER;
 use field::place::SpanIx;
 use field::place::connections;
-use field::place::neighbour;
+use field::place::follow;
 use field::read::at8;
 use field::read::at16;
 ghost use mathlib.Core.Path.{_≡_};
@@ -52,10 +52,10 @@ fn look(
     requires { ⌜ SomeSite w (now index) (now area) cons c × (d < 4) × (own < 256) × (length (now ids) ≡ length (now area)) × Calm (length (now area)) (now ws) ⌝ }
     ensures { λ r. ⌜ ((F : Field) (s : ℕ) → Site F w (now (index .entry)) (now (area .entry)) cons c s → areaOf F s ≡ own → record { id = r .id; far = r .far } ≡ look F (marksAt (length (now (area .entry))) (now (ids .entry)) (now (ws .entry))) s d (record { id = t .id; far = t .far })) ⌝ }
 {
-    let a = neighbour(w, index, cons, c, d).0;
-    if a == NO_SPAN {
+    if cons[d] == NO_LAYER {
         return t;
     }
+    let a = follow(w, index, cons, c, d).span.0;
     if at8(area, a) != own {
         return t;
     }

@@ -242,6 +242,9 @@ pub spot-con : (w : ℕ) (is cs : List ℕ) (c s : ℕ) → SomeSpot w is cs c s
 spot-con w is cs c s x =
     omega (arith, x .spot .stands .span, x .spot .reached .celled .linked, ap length (x .spot .linked))
 
+pub spot-none : (w : ℕ) (is cs cons : List ℕ) (c s d : ℕ) → cons ≡ consAt cs s → d < 4 → getD cons d 0 ≡ 255 → (F : Field) → Spot F w is cs c s → 65535 ≡ near F s d
+spot-none w is cs cons c s d e g k F v = leaf-none w is cons c d g k F s (spot-leaf F w is cs cons c s v e)
+
 -- the neighbour of a span is none only where its connection is
 pub near-con : (F : Field) → Reached F → (s d : ℕ) → s < spans F → d < 4 → near F s d ≡ 65535 → conOf F s d ≡ 255
 near-con F ok s d h g e =

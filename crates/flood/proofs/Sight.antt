@@ -3,7 +3,7 @@
 use mathlib.Core.Path.{_≡_, refl, sym, ap, _∙_}
 use mathlib.Core.Bool.{Bool, true, false, not}
 use mathlib.Core.List.{List, [], _∷_}
-use Prim.Native.Nat.{ℕ, zero, suc, _+_, _-_, _%_, _≤_, _<_}
+use Prim.Native.Nat.{ℕ, zero, suc, _+_, _*_, _-_, _%_, _≤_, _<_}
 use native.Mathlib.Omega.{arith}
 use lib.ListN.{length, getD, List·getD-eq-default}
 use lib.Dec.{eqb, leb}
@@ -14,7 +14,7 @@ use Rattle.rules.specs.Field.{Field, spans, near, corner, areaOf}
 use Rattle.rules.specs.Growth.{Marks, idOf, Seed, other, flagged, sees, orElse, objects}
 use Rattle.rules.specs.Field.{cellTo}
 use Rattle.field.specs.Lent.{Spot, Leaf, SomeLeaf, consAt}
-use Rattle.field.proofs.Places.{getD-any, near-stands, spot-leaf, step-spot}
+use Rattle.field.proofs.Places.{getD-any, near-stands, spot-leaf, spot-con, step-spot}
 use Rattle.flood.specs.Site.{Ground, SomeGround, objectsAt, seesFrom}
 
 -- ---------------------------------------------------------------- a span that is looked at
@@ -71,6 +71,9 @@ ground-leaf F w is ar cs cons c s g e = spot-leaf F w is cs cons c s (g .spot) e
 
 pub some-site-leaf : (w : ℕ) (is ar cs cons : List ℕ) (c s : ℕ) → SomeGround w is ar cs c s → cons ≡ consAt cs s → SomeLeaf w is cons c
 some-site-leaf w is ar cs cons c s x e = record { F = x .F; s = s; leaf = ground-leaf (x .F) w is ar cs cons c s (x .ground) e }
+
+pub ground-con : (w : ℕ) (is ar cs : List ℕ) (c s : ℕ) → SomeGround w is ar cs c s → 4 * s + 3 < length cs
+ground-con w is ar cs c s x = spot-con w is cs c s (record { F = x .F; spot = x .ground .spot })
 
 module _ (w : ℕ) (is ar cs cons ids : List ℕ) (c s d t qa qi ql : ℕ) (f : cons ≡ consAt cs s) (n : (F : Field) (s : ℕ) → Leaf F w is cons c s → t ≡ near F s d) where
   at-near : (F : Field) → Ground F w is ar cs c s → near F s d ≡ t

@@ -1,11 +1,11 @@
 // The flood over its stack.
 use crate::look::Seed;
 use crate::look::objects;
-use field::place::NO_SPAN;
+use field::place::NO_LAYER;
 use field::place::Place;
 use field::place::SpanIx;
 use field::place::connections;
-use field::place::neighbour;
+use field::place::follow;
 use field::read::at16;
 ghost use mathlib.Core.Path.{_≡_};
 ghost use Prim.Native.Nat.{ℕ, _+_, _-_, _<_, _≤_};
@@ -37,10 +37,10 @@ fn push_one(
     ensures { λ r. ⌜ ((F : Field) (s k : ℕ) → Site F w (now (index .entry)) (now (area .entry)) cons c s → flowAt (length (now (area .entry))) f (now (ids .exit)) (now (ws .exit)) r k ≡ pushed F (now (dist .entry)) (record { area = q .area; id = q .id; limit = q .limit }) s d (flowAt (length (now (area .entry))) f (now (ids .entry)) (now (ws .entry)) top k)) ⌝ }
     ensures { λ r. ⌜ Pushed (length (now (area .entry))) f (q .id) top (now (ws .entry)) r (now (ids .exit)) (now (ws .exit)) ⌝ }
 {
-    let t = neighbour(w, index, cons, c, d).0;
-    if t == NO_SPAN {
+    if cons[d] == NO_LAYER {
         return top;
     }
+    let t = follow(w, index, cons, c, d).span.0;
     if area[t] != q.area {
         return top;
     }

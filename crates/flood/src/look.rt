@@ -1,8 +1,8 @@
 // The objection test.
-use field::place::NO_SPAN;
+use field::place::NO_LAYER;
 use field::place::Place;
-use field::place::step;
-use field::place::step_from;
+use field::place::connections;
+use field::place::follow;
 ghost use mathlib.Core.Path.{_≡_};
 ghost use mathlib.Core.List.{List};
 ghost use Prim.Native.Nat.{ℕ, _+_, _*_, _<_, _≤_};
@@ -43,10 +43,12 @@ fn objects_at(
     requires { ⌜ SomeGround w (now index) (now area) (now con) (t .cell) (t .span .0) × (e < 4) × (length (now ids) ≡ length (now area)) × (q .area < 256) ⌝ }
     ensures { λ r. ⌜ ((F : Field) (src : List ℕ) → Ground F w (now (index .entry)) (now (area .entry)) (now (con .entry)) (t .cell) (t .span .0) → r ≡ objectsAt F (record { ids = now (ids .entry); src = src }) (q .area) (q .id) (near F (t .span .0) e)) ⌝ }
 {
-    let u = step_from(w, index, con, t, e).span.0;
-    if u == NO_SPAN {
+    let s = t.span;
+    let cons = connections(con, s);
+    if cons[e] == NO_LAYER {
         return false;
     }
+    let u = follow(w, index, cons, t.cell, e).span.0;
     if area[u] != q.area {
         return false;
     }
@@ -68,11 +70,11 @@ fn sees(
     requires { ⌜ SomeGround w (now index) (now area) (now con) (p .cell) (p .span .0) × (cons ≡ consAt (now con) (p .span .0)) × (d < 4) × (length (now ids) ≡ length (now area)) × (q .area < 256) ⌝ }
     ensures { λ r. ⌜ ((F : Field) (src : List ℕ) → Ground F w (now (index .entry)) (now (area .entry)) (now (con .entry)) (p .cell) (p .span .0) → r ≡ sees F (record { ids = now (ids .entry); src = src }) (record { area = q .area; id = q .id; limit = q .limit }) (p .span .0) d) ⌝ }
 {
-    let t = step(w, index, cons, p.cell, d);
-    let a = t.span.0;
-    if a == NO_SPAN {
+    if cons[d] == NO_LAYER {
         return 0;
     }
+    let t = follow(w, index, cons, p.cell, d);
+    let a = t.span.0;
     if area[a] != q.area {
         return 0;
     }

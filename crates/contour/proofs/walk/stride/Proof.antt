@@ -5,7 +5,7 @@ use Prim.Native.Nat.{_<_}
 use mathlib.Core.Path.{ap, _∙_}
 use lib.ListN.{length}
 use Rattle.contour.specs.Pool.{turned}
-use Rattle.contour.proofs.PoolLaws.{stride-turn, stride-note, stride-step, stand-room, stand-edged, stand-leaf, stand-con, noted-dir}
+use Rattle.contour.proofs.PoolLaws.{stride-turn, stride-note, stride-step, stand-open, stand-room, stand-edged, stand-leaf, stand-con, noted-dir}
 use native.Mathlib.Omega.{arith}
 use borrow.Author.Needs.{needs}
 use Rattle.contour.proofs.walk.stride.Statement.{statement}
@@ -55,11 +55,11 @@ returns-2 c = let e = c .before .before in
     let i = a .before .before in
     stride-note _ _ _ _ _ _ _ _ (i .before .connections .ensures) _ (i .is-solid-edge .ensures) (a .before .if1 .taken) _ (a .across .ensures) (e .if2 .left) (room e) (c .turn2 .ensures ∙ ap turned (c .before .note .ensures))
 
-step-requires : tie.Need-step-requires
-step-requires c κs = (search (needs, stand-leaf), search needs)
+follow-requires : tie.Need-follow-requires
+follow-requires c κs = (search (needs, stand-leaf), search needs, search (needs, stand-open))
 
-step-requires-2 : tie.Need-step-requires-2
-step-requires-2 c κs = search needs
+step-requires : tie.Need-step-requires
+step-requires c κs = search needs
 
 returns-3 : tie.Need-returns-3
 returns-3 c = search (needs, stride-step)
@@ -79,6 +79,6 @@ stride-spec =
     turn-requires-2
     same-length
     returns-2
+    follow-requires
     step-requires
-    step-requires-2
     returns-3)

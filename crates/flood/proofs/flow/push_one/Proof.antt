@@ -5,15 +5,17 @@ use borrow.Author.Needs.{needs}
 use denote.Ref.{now}
 use lib.ListN.{length, getD, length-set}
 use Prim.Native.Nat.{_+_, _<_}
+use mathlib.Core.Path.{refl}
+use Rattle.field.proofs.Places.{leaf-none}
 use Rattle.flood.proofs.Pushes.{pushed-inside, skip-none, skip-area, skip-id, skip-shallow, push-flow, skipped, push-fits, push-pushed}
 use Rattle.flood.proofs.flow.push_one.Statement.{statement}
 use Rattle.flood.proofs.flow.push_one.Tie as tie
 
 -- the entry
-abbrev S : tie.After-neighbour → tie.Start
+abbrev S : tie.Else1 → tie.Start
 S c = c .before .before .before .before .before .before
 
-abbrev E1 : tie.Else2 → tie.Else1
+abbrev E1 : tie.Else2 → tie.After-follow
 E1 c = c .before .before .before
 
 abbrev E2 : tie.Else3 → tie.Else2
@@ -23,8 +25,8 @@ abbrev E3 : tie.Else4 → tie.Else3
 E3 c = c .before .before .before
 
 -- the neighbour is a span
-inside : (c : tie.Else1) → c .before .neighbour .result .0 < length (now (S (c .before) .args .area))
-inside c = let s = S (c .before) in pushed-inside _ _ _ _ _ _ _ (c .before .neighbour .ensures) (s .pre .0) (s .pre .1) (c .if1 .left)
+inside : (c : tie.After-follow) → c .follow .result .span .0 < length (now (S (c .before) .args .area))
+inside c = let s = S (c .before) in pushed-inside _ _ _ _ _ _ _ (c .follow .ensures .0) (s .pre .0) (s .pre .1) (c .follow .ensures .2)
 
 -- there is room on the stack
 fits : (c : tie.Else4) → (S (E1 (E2 (E3 c)) .before) .args .top < length (now (S (E1 (E2 (E3 c)) .before) .args .area))) × (S (E1 (E2 (E3 c)) .before) .args .f + S (E1 (E2 (E3 c)) .before) .args .top < length (now (S (E1 (E2 (E3 c)) .before) .args .ws)))
@@ -33,15 +35,18 @@ fits c =
     let s = S (e .before) in
     push-fits _ _ _ _ _ _ _ _ (s .pre .2) (s .pre .3) (inside e) (E3 c .if3 .left) (s .pre .5)
 
-neighbour-requires : tie.Need-neighbour-requires
-neighbour-requires c κs =
-    let s = c .before .before .before .before .before in
-    (record { F = s .pre .0 .F; s = s .pre .0 .s; leaf = s .pre .0 .site .leaf }, s .pre .1)
+array-read-if1 : tie.Need-array-read-if1
+array-read-if1 c = search needs
 
 returns : tie.Need-returns
 returns c =
-    let s = S (c .before) in
-    (skip-none _ _ _ _ _ _ _ (c .before .neighbour .ensures) _ _ _ _ _ _ _ _ (c .if1 .taken) (s .pre .4), skipped _ _ _ _ _ _ (s .pre .5))
+    let s = c .before .before .before .before .before .before in
+    (skip-none _ _ _ _ _ _ _ (leaf-none _ _ _ _ _ (s .pre .1) (c .if1 .taken)) _ _ _ _ _ _ _ _ refl (s .pre .4), skipped _ _ _ _ _ _ (s .pre .5))
+
+follow-requires : tie.Need-follow-requires
+follow-requires c κs =
+    let s = S c in
+    (record { F = s .pre .0 .F; s = s .pre .0 .s; leaf = s .pre .0 .site .leaf }, s .pre .1, c .if1 .left)
 
 shared-slice-read-if2 : tie.Need-shared-slice-read-if2
 shared-slice-read-if2 c = inside (c .before)
@@ -50,7 +55,7 @@ returns-2 : tie.Need-returns-2
 returns-2 c =
     let e = c .before .before .before in
     let s = S (e .before) in
-    (skip-area _ _ _ _ _ _ _ (e .before .neighbour .ensures) _ _ _ _ _ _ _ _ (inside e) (c .if2 .taken), skipped _ _ _ _ _ _ (s .pre .5))
+    (skip-area _ _ _ _ _ _ _ (e .follow .ensures .0) _ _ _ _ _ _ _ _ (inside e) (c .if2 .taken), skipped _ _ _ _ _ _ (s .pre .5))
 
 mul-if3 : tie.Need-mul-if3
 mul-if3 c = omega (arith, inside (E1 c))
@@ -63,7 +68,7 @@ returns-3 c =
     let f = c .before .before in
     let e = E1 f in
     let s = S (e .before) in
-    (skip-id _ _ _ _ _ _ _ (e .before .neighbour .ensures) _ _ _ _ _ _ _ _ (inside e) (f .if2 .left) (c .if3 .taken), skipped _ _ _ _ _ _ (s .pre .5))
+    (skip-id _ _ _ _ _ _ _ (e .follow .ensures .0) _ _ _ _ _ _ _ _ (inside e) (f .if2 .left) (c .if3 .taken), skipped _ _ _ _ _ _ (s .pre .5))
 
 mul-if4 : tie.Need-mul-if4
 mul-if4 c = omega (arith, inside (E1 (E2 c)))
@@ -77,7 +82,7 @@ returns-4 c =
     let f = E2 g in
     let e = E1 f in
     let s = S (e .before) in
-    (skip-shallow _ _ _ _ _ _ _ (e .before .neighbour .ensures) _ _ _ _ _ _ _ _ (inside e) (f .if2 .left) (g .if3 .left) (c .if4 .taken), skipped _ _ _ _ _ _ (s .pre .5))
+    (skip-shallow _ _ _ _ _ _ _ (e .follow .ensures .0) _ _ _ _ _ _ _ _ (inside e) (f .if2 .left) (g .if3 .left) (c .if4 .taken), skipped _ _ _ _ _ _ (s .pre .5))
 
 mul-ids : tie.Need-mul-ids
 mul-ids c = omega (arith, inside (E1 (E2 (E3 c))))
@@ -118,7 +123,7 @@ returns-5 c =
     let f = E2 g in
     let e = E1 f in
     let s = S (e .before) in (
-      push-flow _ _ _ _ _ _ _ (e .before .neighbour .ensures) _ _ _ _ _ _ _ _ (inside e) (f .if2 .left) (g .if3 .left) (c .if4 .left) (s .pre .2 .low) (fits c .1),
+      push-flow _ _ _ _ _ _ _ (e .follow .ensures .0) _ _ _ _ _ _ _ _ (inside e) (f .if2 .left) (g .if3 .left) (c .if4 .left) (s .pre .2 .low) (fits c .1),
       push-pushed _ _ _ _ _ _ _ _ (s .pre .2) (s .pre .3) (inside e) (g .if3 .left) (s .pre .5),
     )
 
@@ -126,8 +131,9 @@ pub push-one-spec : {M : Type 1} → statement M
 push-one-spec =
     tie.close
     (tie.spec
-    neighbour-requires
+    array-read-if1
     returns
+    follow-requires
     shared-slice-read-if2
     returns-2
     mul-if3

@@ -4,36 +4,40 @@ use borrow.Author.Needs.{needs}
 use denote.Ref.{now}
 use lib.ListN.{length}
 use Prim.Native.Nat.{_<_}
-use Rattle.field.proofs.Places.{turned}
+use mathlib.Core.Path.{refl}
+use Rattle.field.proofs.Places.{turned, leaf-none}
 use Rattle.flood.proofs.Sight.{some-site-leaf, stepped-inside, some-stepped, sees-none, sees-other-area, sees-flagged, sees-other-id, sees-corner, sees-nothing}
 use Rattle.flood.proofs.look.sees.Statement.{statement}
 use Rattle.flood.proofs.look.sees.Tie as tie
 
 -- the entry
-abbrev S : tie.After-step → tie.Start
+abbrev S : tie.Else1 → tie.Start
 S c = c .before .before .before .before .before
 
-abbrev E1 : tie.Else2 → tie.Else1
+abbrev E1 : tie.Else2 → tie.After-follow
 E1 c = c .before .before .before
 
 abbrev E2 : tie.Else3 → tie.Else2
 E2 c = c .before .before
 
 -- the neighbour is a span
-inside : (c : tie.Else1) → c .before .step .result .span .0 < length (now (S (c .before) .args .area))
+inside : (c : tie.After-follow) → c .follow .result .span .0 < length (now (S (c .before) .args .area))
 inside c =
     let s = S (c .before) in
-    stepped-inside _ _ _ _ _ (now (s .args .ids)) _ _ _ _ (s .args .q .area) (s .args .q .id) (s .args .q .limit) (s .pre .1) (c .before .step .ensures .0) (s .pre .0) (s .pre .2) (c .if1 .left)
+    stepped-inside _ _ _ _ _ (now (s .args .ids)) _ _ _ _ (s .args .q .area) (s .args .q .id) (s .args .q .limit) (s .pre .1) (c .follow .ensures .0) (s .pre .0) (s .pre .2) (c .follow .ensures .2)
 
-step-requires : tie.Need-step-requires
-step-requires c κs =
-    let s = c .before .before .before .before in
-    (some-site-leaf _ _ _ _ _ _ _ (s .pre .0) (s .pre .1), s .pre .2)
+array-read-if1 : tie.Need-array-read-if1
+array-read-if1 c = search needs
 
 returns : tie.Need-returns
 returns c =
-    let s = S (c .before) in
-    sees-none _ _ _ _ _ _ _ _ _ _ _ _ _ (s .pre .1) (c .before .step .ensures .0) (c .if1 .taken) (s .pre .4)
+    let s = c .before .before .before .before .before in
+    sees-none _ _ _ _ _ _ _ _ _ _ _ _ _ (s .pre .1) (leaf-none _ _ _ _ _ (s .pre .2) (c .if1 .taken)) refl (s .pre .4)
+
+follow-requires : tie.Need-follow-requires
+follow-requires c κs =
+    let s = S c in
+    (some-site-leaf _ _ _ _ _ _ _ (s .pre .0) (s .pre .1), s .pre .2, c .if1 .left)
 
 shared-slice-read-if2 : tie.Need-shared-slice-read-if2
 shared-slice-read-if2 c = inside (c .before)
@@ -42,7 +46,7 @@ returns-2 : tie.Need-returns-2
 returns-2 c =
     let e = c .before .before .before in
     let s = S (e .before) in
-    sees-other-area _ _ _ _ _ _ _ _ _ _ _ _ _ (s .pre .1) (e .before .step .ensures .0) (inside e) (c .if2 .taken)
+    sees-other-area _ _ _ _ _ _ _ _ _ _ _ _ _ (s .pre .1) (e .follow .ensures .0) (inside e) (c .if2 .taken)
 
 mul-r : tie.Need-mul-r
 mul-r c = omega (arith, inside (E1 c))
@@ -55,7 +59,7 @@ returns-3 c =
     let f = c .before .before in
     let e = E1 f in
     let s = S (e .before) in
-    sees-flagged _ _ _ _ _ _ _ _ _ _ _ _ _ (s .pre .1) (e .before .step .ensures .0) (inside e) (f .if2 .left) (c .if3 .taken)
+    sees-flagged _ _ _ _ _ _ _ _ _ _ _ _ _ (s .pre .1) (e .follow .ensures .0) (inside e) (f .if2 .left) (c .if3 .taken)
 
 other-requires : tie.Need-other-requires
 other-requires c κs = search needs
@@ -66,7 +70,7 @@ returns-4 c =
     let f = E2 g in
     let e = E1 f in
     let s = S (e .before) in
-    sees-other-id _ _ _ _ _ _ _ _ _ _ _ _ _ (s .pre .1) (e .before .step .ensures .0) (inside e) (f .if2 .left) (g .if3 .left) _ (c .before .other .ensures) (c .if4 .taken)
+    sees-other-id _ _ _ _ _ _ _ _ _ _ _ _ _ (s .pre .1) (e .follow .ensures .0) (inside e) (f .if2 .left) (g .if3 .left) _ (c .before .other .ensures) (c .if4 .taken)
 
 add-objects-at : tie.Need-add-objects-at
 add-objects-at c = omega arith
@@ -75,7 +79,7 @@ objects-at-requires : tie.Need-objects-at-requires
 objects-at-requires c κs =
     let e = E1 (E2 (c .before .before)) in
     let s = S (e .before) in (
-      some-stepped _ _ _ _ _ (now (s .args .ids)) _ _ _ _ (s .args .q .area) (s .args .q .id) (s .args .q .limit) (s .pre .1) (e .before .step .ensures .0) _ (s .pre .0) (s .pre .2) (e .before .step .ensures .1) (e .if1 .left),
+      some-stepped _ _ _ _ _ (now (s .args .ids)) _ _ _ _ (s .args .q .area) (s .args .q .id) (s .args .q .limit) (s .pre .1) (e .follow .ensures .0) _ (s .pre .0) (s .pre .2) (e .follow .ensures .1) (e .follow .ensures .2),
       turned (s .args .d) 1,
       s .pre .3,
       s .pre .4,
@@ -88,8 +92,8 @@ returns-5 c =
     let f = E2 g in
     let e = E1 f in
     let s = S (e .before) in
-    sees-corner _ _ _ _ _ _ _ _ _ _ _ _ _ (s .pre .1) (e .before .step .ensures .0) (inside e) (f .if2 .left) (g .if3 .left) _ (h .before .other .ensures)
-    _ (s .pre .2) (e .before .step .ensures .1) (e .if1 .left) (h .if4 .left) _ (c .before .objects-at .ensures) (c .if5 .taken)
+    sees-corner _ _ _ _ _ _ _ _ _ _ _ _ _ (s .pre .1) (e .follow .ensures .0) (inside e) (f .if2 .left) (g .if3 .left) _ (h .before .other .ensures)
+    _ (s .pre .2) (e .follow .ensures .1) (e .follow .ensures .2) (h .if4 .left) _ (c .before .objects-at .ensures) (c .if5 .taken)
 
 returns-6 : tie.Need-returns-6
 returns-6 c =
@@ -98,15 +102,16 @@ returns-6 c =
     let f = E2 g in
     let e = E1 f in
     let s = S (e .before) in
-    sees-nothing _ _ _ _ _ _ _ _ _ _ _ _ _ (s .pre .1) (e .before .step .ensures .0) (inside e) (f .if2 .left) (g .if3 .left) _ (h .before .other .ensures)
-    _ (s .pre .2) (e .before .step .ensures .1) (e .if1 .left) (h .if4 .left) _ (c .before .objects-at .ensures) (c .if5 .left)
+    sees-nothing _ _ _ _ _ _ _ _ _ _ _ _ _ (s .pre .1) (e .follow .ensures .0) (inside e) (f .if2 .left) (g .if3 .left) _ (h .before .other .ensures)
+    _ (s .pre .2) (e .follow .ensures .1) (e .follow .ensures .2) (h .if4 .left) _ (c .before .objects-at .ensures) (c .if5 .left)
 
 pub sees-spec : {M : Type 1} → statement M
 sees-spec =
     tie.close
     (tie.spec
-    step-requires
+    array-read-if1
     returns
+    follow-requires
     shared-slice-read-if2
     returns-2
     mul-r

@@ -23,12 +23,12 @@ array-read-if1 c = search needs
 
 returns : tie.Need-returns
 returns c =
-    let s = c .before .before .before .before .before .before in
+    let s = c .before .before .before .before .before in
     look-none _ _ _ _ _ _ _ _ _ _ _ _ (leaf-none _ _ _ _ _ (s .pre .1) (c .if1 .taken)) refl (s .pre .2)
 
 follow-requires : tie.Need-follow-requires
 follow-requires c κs =
-    let s = c .before .before .before .before .before .before in
+    let s = c .before .before .before .before .before in
     (record { F = s .pre .0 .F; s = s .pre .0 .s; leaf = s .pre .0 .site .leaf }, s .pre .1, c .if1 .left)
 
 at8-requires : tie.Need-at8-requires

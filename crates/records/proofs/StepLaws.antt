@@ -15,6 +15,7 @@ use Rattle.rules.specs.Records.{Rec, at, fresh}
 use Rattle.table.specs.View.{recAt, recsOf}
 use Rattle.table.proofs.ViewLaws.{rec-eq}
 use Rattle.records.specs.Rows.{walked, mine, Row, Keeping, Change, Step, plusOne, overlaid, withArea}
+use Rattle.records.proofs.CellLaws.{or-true}
 use Rattle.records.proofs.CountLaws.{many-same, many-counts, many-passes, mine-yes, mine-other}
 use Rattle.records.proofs.RowLaws.{list-parts, floor-parts, at-recs, change-recs, change-keeping, store-start, store-end, store-list, store-change, store-walked, store-blank, store-after}
 
@@ -104,10 +105,6 @@ module _ (ids : List ℕ) (m top k : ℕ) (ws : List ℕ) (K : Keeping ids m top
         size = C .size;
         after = store-after ids m top k ws K q 1 low;
       }
-    where
-      or-true : (b : Bool) → b or true ≡ true
-      or-true true = refl
-      or-true false = refl
 
   pub step-not-over : Step (overlaid false) ids m r top k ws ws
   unfolding overlaid _or_

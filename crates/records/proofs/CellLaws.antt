@@ -3,7 +3,7 @@
 use Prim.Native.Nat.{ℕ, zero, suc, _+_, _-_, _≤_, _<_}
 use native.Mathlib.Omega.{arith}
 use native.Mathlib.Numerals.{add-one}
-use mathlib.Core.Path.{_≡_, refl, sym, ap, _∙_}
+use mathlib.Core.Path.{_≡_, refl, sym, _∙_}
 use mathlib.Core.Bool.{Bool, true, false, not, false≢true}
 use mathlib.Core.List.{List, [], _∷_, map}
 use lib.ListN.{length, getD, set, take, length-set, length-take}
@@ -15,7 +15,7 @@ use Rattle.rules.specs.Growth.{plain}
 use Rattle.rules.specs.Records.{has, once}
 use Rattle.laws.proofs.Basics.{if-ind}
 use Rattle.space.specs.Space.{sec}
-use Rattle.records.specs.Cell.{twin, twins, joinOne, Found, Joined}
+use Rattle.records.specs.Cell.{twin, twins, othersFrom, joinOne, Found, Joined}
 
 -- ---------------------------------------------------------------- the own id
 
@@ -49,6 +49,15 @@ module _ (ids : List ℕ) (s own size t j : ℕ) (h : j ≤ size) (e : twins ids
         let q : twin ids (t + j) s own ≡ false = sym f ∙ z in
         let a : t + (j + 1) ≡ t + j + 1 = omega arith in
         e ∙ rw (fuel, q, a)
+
+-- a span alone in its cell
+pub twins-alone : (ids : List ℕ) (s own : ℕ) → twins ids s own 1 s ≡ false
+unfolding twins twin _and_ _or_
+twins-alone ids s own = rw (eq-eqb s s refl)
+
+pub others-alone : (ids : List ℕ) (s : ℕ) → othersFrom ids s 1 s ≡ []
+unfolding othersFrom keep tab if_then_else_
+others-alone ids s = rw (eq-eqb s s refl)
 
 module _ (ids : List ℕ) (s own : ℕ) (pl : plain own ≡ true) where
   pub any-twins : (n t : ℕ) → any (eqb own) (keep plain (map (λ t. getD ids t 0) (keep (λ t. not (eqb t s)) (tab n t (λ t. t))))) ≡ twins ids s own n t

@@ -29,6 +29,14 @@ step-none f ids m r top k ws K e = record {
   after = λ j _. refl;
 }
 
+pub overlaid-not : (x : Rec) → overlaid false x ≡ x
+unfolding overlaid _or_
+overlaid-not x = go (x .overlap) refl
+  where
+    go : (b : Bool) → x .overlap ≡ b → overlaid false x ≡ x
+    go true e = rw e
+    go false e = rw e
+
 module _ (ids : List ℕ) (m top k : ℕ) (ws : List ℕ) (K : Keeping ids m top k ws) (r : ℕ) (h : r < m) where
   -- a store in a column keeps record r's places
   store-row : (k′ q v : ℕ) → q < 5 * m → getD ws (m + r) 0 ≤ getD (set ws q v) (m + r) 0 → getD (set ws q v) (m + r) 0 ≡ many (mine r) (take k′ ids) → Row ids m top k′ r (set ws q v)
@@ -107,12 +115,7 @@ module _ (ids : List ℕ) (m top k : ℕ) (ws : List ℕ) (K : Keeping ids m top
       }
 
   pub step-not-over : Step (overlaid false) ids m r top k ws ws
-  unfolding overlaid _or_
-  step-not-over = step-none (overlaid false) ids m r top k ws K (go (at (recsOf ws m) r .overlap) refl)
-    where
-      go : (b : Bool) → at (recsOf ws m) r .overlap ≡ b → overlaid false (at (recsOf ws m) r) ≡ at (recsOf ws m) r
-      go true e = rw e
-      go false e = rw e
+  step-not-over = step-none (overlaid false) ids m r top k ws K (overlaid-not (at (recsOf ws m) r))
 
   -- the area
   pub step-area : (a : ℕ) → Step (withArea a) ids m r top k ws (set ws (2 * m + r) a)

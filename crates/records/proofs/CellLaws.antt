@@ -3,19 +3,19 @@
 use Prim.Native.Nat.{ℕ, zero, suc, _+_, _-_, _≤_, _<_}
 use native.Mathlib.Omega.{arith}
 use native.Mathlib.Numerals.{add-one}
-use mathlib.Core.Path.{_≡_, refl, sym, ap, _∙_}
+use mathlib.Core.Path.{_≡_, refl, sym, _∙_}
 use mathlib.Core.Bool.{Bool, true, false, not, false≢true}
-use mathlib.Core.List.{List, _∷_, map}
-use lib.ListN.{length, getD, set, take, length-set}
-use lib.Seq.{drop-cons, take-suc-set}
+use mathlib.Core.List.{List, [], _∷_, map}
+use lib.ListN.{length, getD, set, take, length-set, length-take}
+use lib.Seq.{drop-cons, getD-take, take-suc-set}
 use lib.Dec.{eqb}
-use borrow.Author.Tests.{eqb-true, eq-eqb, ne-eqb}
+use borrow.Author.Tests.{eqb-true, eq-eqb, ne-eqb, lt-ltb, le-ltb}
 use Rattle.rules.specs.Base.{_and_, _or_, if_then_else_, keep, tab, any}
 use Rattle.rules.specs.Growth.{plain}
 use Rattle.rules.specs.Records.{has, once}
 use Rattle.laws.proofs.Basics.{if-ind}
 use Rattle.space.specs.Space.{sec}
-use Rattle.records.specs.Cell.{twin, twins, joinOne, Joined}
+use Rattle.records.specs.Cell.{twin, twins, othersFrom, joinOne, Found, Joined}
 
 -- ---------------------------------------------------------------- the own id
 
@@ -50,6 +50,15 @@ module _ (ids : List ℕ) (s own size t j : ℕ) (h : j ≤ size) (e : twins ids
         let a : t + (j + 1) ≡ t + j + 1 = omega arith in
         e ∙ rw (fuel, q, a)
 
+-- a span alone in its cell
+pub twins-alone : (ids : List ℕ) (s own : ℕ) → twins ids s own 1 s ≡ false
+unfolding twins twin _and_ _or_
+twins-alone ids s own = rw (eq-eqb s s refl)
+
+pub others-alone : (ids : List ℕ) (s : ℕ) → othersFrom ids s 1 s ≡ []
+unfolding othersFrom keep tab if_then_else_
+others-alone ids s = rw (eq-eqb s s refl)
+
 module _ (ids : List ℕ) (s own : ℕ) (pl : plain own ≡ true) where
   pub any-twins : (n t : ℕ) → any (eqb own) (keep plain (map (λ t. getD ids t 0) (keep (λ t. not (eqb t s)) (tab n t (λ t. t))))) ≡ twins ids s own n t
   unfolding any keep tab twins twin _and_ _or_
@@ -68,21 +77,36 @@ module _ (ids : List ℕ) (s own : ℕ) (pl : plain own ≡ true) where
       if-ind2 true h e = absurd (h refl)
       if-ind2 false h e = e
 
--- ---------------------------------------------------------------- whether it is listed
+-- ---------------------------------------------------------------- where it is listed
 
 sec-cons : (l : List ℕ) (i n : ℕ) → i < n → n ≤ length l → sec i (n - i) l ≡ getD l i 0 ∷ sec (i + 1) (n - (i + 1)) l
 sec-cons l i n h g =
     let q : n - i ≡ suc (n - (i + 1)) = omega arith in
     rw (q, drop-cons l i 0 (omega arith), add-one i) refl
 
-module _ (l : List ℕ) (n r i : ℕ) (h : n ≤ length l) (k : i ≤ n) (e : any (eqb r) (take n l) ≡ any (eqb r) (sec i (n - i) l)) where
-  pub has-end : n ≤ i → false ≡ any (eqb r) (take n l)
-  unfolding any
-  has-end g = let q : n - i ≡ 0 = omega arith in sym (e ∙ rw q)
+pub or-true : (b : Bool) → b or true ≡ true
+unfolding _or_
+or-true true = refl
+or-true false = refl
 
-  pub has-found : i < n → r ≡ getD l i 0 → true ≡ any (eqb r) (take n l)
-  unfolding any _or_
-  has-found g z = sym (e ∙ rw (sec-cons l i n g h, eq-eqb r (getD l i 0) z))
+any-at : (r : ℕ) (l : List ℕ) (i : ℕ) → i < length l → r ≡ getD l i 0 → any (eqb r) l ≡ true
+unfolding any _or_
+any-at r [] i h e = absurd (omega arith)
+any-at r (x ∷ l) zero h e = rw (eq-eqb r x e)
+any-at r (x ∷ l) (suc i) h e = rw (any-at r l i (omega arith) e) (or-true (eqb r x))
+
+-- wherever r stands among the first n
+pub found-here : (l : List ℕ) (n r i : ℕ) → n ≤ length l → i < n → r ≡ getD l i 0 → Found l n r i
+found-here l n r i h g z =
+    let long : i < length (take n l) = simp length-take (omega arith) in
+    record { low = omega arith; here = λ _. z; there = lt-ltb i n g ∙ sym (any-at r (take n l) i long (z ∙ sym (getD-take n l i 0 g))) }
+
+module _ (l : List ℕ) (n r i : ℕ) (h : n ≤ length l) (k : i ≤ n) (e : any (eqb r) (take n l) ≡ any (eqb r) (sec i (n - i) l)) where
+  pub found-none : n ≤ i → Found l n r n
+  unfolding any
+  found-none g =
+      let q : n - i ≡ 0 = omega arith in
+      record { low = omega arith; here = λ x. absurd (omega arith); there = le-ltb n n (omega arith) ∙ sym (e ∙ rw q) }
 
   pub has-more : i < n → (r ≡ getD l i 0 → ⊥) → any (eqb r) (take n l) ≡ any (eqb r) (sec (i + 1) (n - (i + 1)) l)
   unfolding any _or_
@@ -93,15 +117,17 @@ has-start l n r = let q : n - 0 ≡ n = omega arith in rw q
 
 -- ---------------------------------------------------------------- one joins
 
-module _ (part : List ℕ) (len r : ℕ) (b : Bool) (e : b ≡ has (take len part) r) where
-  pub once-there : b ≡ true → len < length part → Joined (once (take len part) r) len part len
+module _ (part : List ℕ) (len r p : ℕ) (f : Found part len r p) (h : len < length part) where
+  pub once-there : p < len → Joined (once (take len part) r) len part len
   unfolding once if_then_else_
-  once-there t h = let z : has (take len part) r ≡ true = sym e ∙ t in record { same = rw z; low = omega arith; high = omega arith; within = omega arith }
+  once-there g =
+      let z : has (take len part) r ≡ true = sym (f .there) ∙ lt-ltb p len g in
+      record { same = rw z; low = omega arith; high = omega arith; within = omega arith }
 
-  pub once-new : b ≡ false → len < length part → Joined (once (take len part) r) len (set part len r) (len + 1)
+  pub once-new : len ≤ p → Joined (once (take len part) r) len (set part len r) (len + 1)
   unfolding once if_then_else_
-  once-new f h =
-      let z : has (take len part) r ≡ false = sym e ∙ f in
+  once-new g =
+      let z : has (take len part) r ≡ false = sym (f .there) ∙ le-ltb p len g in
       record {
         same = rw (z, add-one len) (take-suc-set part len r h);
         low = omega arith;

@@ -12,7 +12,7 @@ use borrow.Author.Tests.{eq-eqb, ne-eqb}
 use Rattle.rules.specs.Base.{if_then_else_, many}
 use Rattle.rules.specs.Field.{Field, areaOf}
 use Rattle.rules.specs.Growth.{plain}
-use Rattle.rules.specs.Records.{Rec, at, fresh}
+use Rattle.rules.specs.Records.{Rec, at, fresh, onceAll}
 use Rattle.laws.proofs.Basics.{many-le}
 use Rattle.flood.proofs.Sight.{area-is}
 use Rattle.contour.specs.Ways.{Ways}
@@ -21,8 +21,9 @@ use Rattle.table.proofs.ViewLaws.{list-length, view-at, view-length}
 use Rattle.records.specs.Cell.{twins, othersFrom}
 use Rattle.records.specs.Rows.{Keeping, Step, Tracing, traced, plusOne, overlaid, floored, celled, withArea, withList, contoured}
 use Rattle.records.specs.Stock.{Reach, SomeReach}
+use Rattle.records.proofs.CellLaws.{twins-alone, others-alone}
 use Rattle.records.proofs.RowLaws.{list-parts, floor-parts, count-room, at-recs, step-then, store-start, store-end}
-use Rattle.records.proofs.StepLaws.{step-none, step-one, step-area}
+use Rattle.records.proofs.StepLaws.{step-none, overlaid-not, step-one, step-area}
 use Rattle.records.proofs.TraceLaws.{list-tracing}
 
 pub reach-span : (w : ℕ) (is ar cs ids : List ℕ) (c s : ℕ) → SomeReach w is ar cs ids c s → s < length ar
@@ -81,6 +82,10 @@ module _ (ids : List ℕ) (m top k : ℕ) (ws : List ℕ) (K : Keeping ids m top
 
 -- ---------------------------------------------------------------- the cell
 
+celled-alone : (ids : List ℕ) (s : ℕ) (x : Rec) → plusOne x ≡ celled ids s 1 s x
+unfolding celled floored onceAll
+celled-alone ids s x = rw (others-alone ids s, twins-alone ids s (getD ids s 0), overlaid-not (plusOne x))
+
 module _ (ids : List ℕ) (m top s : ℕ) (ws : List ℕ) (K : Keeping ids m top s ws) (r size from : ℕ) (er : r ≡ getD ids s 0) (pl : plain (getD ids s 0) ≡ true) (g : s < length ids) where
   pub own-in : r < m
   own-in = rw er (K .below s pl)
@@ -90,6 +95,12 @@ module _ (ids : List ℕ) (m top s : ℕ) (ws : List ℕ) (K : Keeping ids m top
 
   one : Step plusOne ids m r top (s + 1) ws (set ws (m + r) (getD ws (m + r) 0 + 1))
   one = step-one ids m top s ws K r own-in g er pl
+
+  -- alone in its cell, it adds one and takes nothing
+  pub cell-alone : size ≡ 1 → from ≤ s → s < from + size → Step (celled ids s size from) ids m r top (s + 1) ws (set ws (m + r) (getD ws (m + r) 0 + 1))
+  cell-alone z lo hi =
+      let f : from ≡ s = omega arith in
+      rw (z, f) (step-as plusOne (celled ids s 1 s) ids m r top (s + 1) ws _ (celled-alone ids s (at (recsOf ws m) r)) one)
 
   module _ (ws₁ ws₂ : List ℕ) (e₁ : ws₁ ≡ set ws (m + r) (getD ws (m + r) 0 + 1))
       (p : (top k : ℕ) → Keeping ids m top k ws₁ → Step (overlaid (twins ids s (getD ids s 0) size from)) ids m r top k ws₁ ws₂) where

@@ -15,6 +15,7 @@ use Rattle.rules.specs.Records.{Rec, at, fresh}
 use Rattle.table.specs.View.{recAt, recsOf}
 use Rattle.table.proofs.ViewLaws.{rec-eq}
 use Rattle.records.specs.Rows.{walked, mine, Row, Keeping, Change, Step, plusOne, overlaid, withArea}
+use Rattle.records.proofs.CellLaws.{or-true}
 use Rattle.records.proofs.CountLaws.{many-same, many-counts, many-passes, mine-yes, mine-other}
 use Rattle.records.proofs.RowLaws.{list-parts, floor-parts, at-recs, change-recs, change-keeping, store-start, store-end, store-list, store-change, store-walked, store-blank, store-after}
 
@@ -27,6 +28,14 @@ step-none f ids m r top k ws K e = record {
   size = refl;
   after = λ j _. refl;
 }
+
+pub overlaid-not : (x : Rec) → overlaid false x ≡ x
+unfolding overlaid _or_
+overlaid-not x = go (x .overlap) refl
+  where
+    go : (b : Bool) → x .overlap ≡ b → overlaid false x ≡ x
+    go true e = rw e
+    go false e = rw e
 
 module _ (ids : List ℕ) (m top k : ℕ) (ws : List ℕ) (K : Keeping ids m top k ws) (r : ℕ) (h : r < m) where
   -- a store in a column keeps record r's places
@@ -104,18 +113,9 @@ module _ (ids : List ℕ) (m top k : ℕ) (ws : List ℕ) (K : Keeping ids m top
         size = C .size;
         after = store-after ids m top k ws K q 1 low;
       }
-    where
-      or-true : (b : Bool) → b or true ≡ true
-      or-true true = refl
-      or-true false = refl
 
   pub step-not-over : Step (overlaid false) ids m r top k ws ws
-  unfolding overlaid _or_
-  step-not-over = step-none (overlaid false) ids m r top k ws K (go (at (recsOf ws m) r .overlap) refl)
-    where
-      go : (b : Bool) → at (recsOf ws m) r .overlap ≡ b → overlaid false (at (recsOf ws m) r) ≡ at (recsOf ws m) r
-      go true e = rw e
-      go false e = rw e
+  step-not-over = step-none (overlaid false) ids m r top k ws K (overlaid-not (at (recsOf ws m) r))
 
   -- the area
   pub step-area : (a : ℕ) → Step (withArea a) ids m r top k ws (set ws (2 * m + r) a)

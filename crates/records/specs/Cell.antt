@@ -4,10 +4,10 @@ use mathlib.Core.Bool.{Bool, false, not}
 use mathlib.Core.List.{List, map}
 use Prim.Native.Nat.{ℕ, zero, suc, _+_, _-_, _≤_, _<_}
 use lib.ListN.{length, getD, take}
-use lib.Dec.{eqb}
+use lib.Dec.{eqb, ltb}
 use Rattle.rules.specs.Base.{_and_, _or_, if_then_else_, keep, tab}
 use Rattle.rules.specs.Growth.{plain}
-use Rattle.rules.specs.Records.{once, onceAll}
+use Rattle.rules.specs.Records.{has, once, onceAll}
 
 unfoldable pub twin : List ℕ → ℕ → ℕ → ℕ → Bool
 twin ids t s own = not (eqb t s) and eqb own (getD ids t 0)
@@ -24,6 +24,12 @@ othersFrom ids s n t = keep plain (map (λ t. getD ids t 0) (keep (λ t. not (eq
 -- span t joins
 unfoldable pub joinOne : List ℕ → ℕ → ℕ → List ℕ → List ℕ
 joinOne ids s t l = if not (eqb t s) and plain (getD ids t 0) then once l (getD ids t 0) else l
+
+-- p is a place of r among the first n, or n where r is none of them
+pub record Found (l : List ℕ) (n r p : ℕ) : Type 0 where
+  pub low : p ≤ n
+  pub here : p < n → r ≡ getD l p 0
+  pub there : ltb p n ≡ has (take n l) r
 
 -- what joining leaves: the list l, from 0 on
 pub record Joined (l : List ℕ) (len : ℕ) (part′ : List ℕ) (k : ℕ) : Type 0 where

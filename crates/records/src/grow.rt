@@ -41,7 +41,8 @@ pub(crate) fn add_overlap(
     }
 }
 
-// The ids of the others of the size spans from `from` on join the floors of record r, which has been counted already.
+// The ids of the others of the size spans from `from` on join the floors of record r, which has been counted already. The list's end
+// is written only where the list has grown.
 pub(crate) fn add_floors(
     ids: &[u16],
     ws: &mut [u16],
@@ -58,7 +59,11 @@ pub(crate) fn add_floors(
     let a = start_of(ws, m, 11 * m, r);
     let e = end_of(ws, m, 11 * m, r);
     let z = a + 62 * at(ws, m + r);
-    let n = join(ids, &mut ws[a..z], s, from, size, e - a);
+    let len = e - a;
+    let n = join(ids, &mut ws[a..z], s, from, size, len);
+    if n == len {
+        return;
+    }
     set_part(ws, m, 11 * m, r, a, a + n);
 }
 
@@ -129,7 +134,8 @@ pub(crate) fn add_contour(
     add_list(w, index, con, ids, ws, m, p, r, top)
 }
 
-// Span s, of id r, adds one to its record; of its cell, the size spans from `from` on, it takes overlap and floors.
+// Span s, of id r, adds one to its record; of its cell, the size spans from `from` on, it takes overlap and floors,
+// and there are none where it is the only one.
 pub(crate) fn add_cell(
     ids: &[u16],
     ws: &mut [u16],
@@ -144,6 +150,9 @@ pub(crate) fn add_cell(
     ensures { λ _. ⌜ Step (celled (now (ids .entry)) s size from) (now (ids .entry)) m r top (s + 1) (now (ws .entry)) (now (ws .exit)) ⌝ }
 {
     ws[m + r] += 1;
+    if size == 1 {
+        return;
+    }
     add_overlap(ids, ws, m, s, r, from, size);
     add_floors(ids, ws, m, top, s, r, from, size);
 }

@@ -9,10 +9,10 @@ use Rattle.records.proofs.cell.join.Statement.{statement}
 use Rattle.records.proofs.cell.join.Tie as tie
 
 abbrev Inv-loop : tie.InvT-loop
-Inv-loop ids part₀ s from size len k₀ j₀ part k j = Joining ids part₀ s from size len part k j
+Inv-loop ids part₀ s from size len l₀ j₀ part l j = Joining ids part₀ s from size len part (l .len) j
 
 abbrev μ-loop : tie.MeasureT-loop
-μ-loop ids part₀ s from size len k₀ j₀ part k j = size - j
+μ-loop ids part₀ s from size len l₀ j₀ part l j = size - j
 
 loop-holds : tie.Need-loop-holds Inv-loop μ-loop
 loop-holds c = join-start _ _ _ _ _ _ (c .before .before .pre)

@@ -1,12 +1,15 @@
--- `once` leaves the rule's `once` of the first len entries: an id that is there is not listed again.
+-- `once` leaves the rule's `once` of the list: an id that is found is not listed again.
 -- Another is stored at the list's end, where there is room.
 use Rattle.records.proofs.CellLaws.{once-there, once-new}
 use borrow.Author.Needs.{needs}
 use Rattle.records.proofs.cell.once.Statement.{statement}
 use Rattle.records.proofs.cell.once.Tie as tie
 
-has-requires : tie.Need-has-requires
-has-requires c κs = search needs
+find-requires : tie.Need-find-requires
+find-requires c κs = search needs
+
+add-t9 : tie.Need-add-t9
+add-t9 c = search needs
 
 same-length : tie.Need-same-length
 same-length c = search needs
@@ -20,8 +23,11 @@ mul-part c = search needs
 slice-write-part : tie.Need-slice-write-part
 slice-write-part c = search needs
 
-add-result : tie.Need-add-result
-add-result c = search needs
+add-t10 : tie.Need-add-t10
+add-t10 c = search needs
+
+add-t12 : tie.Need-add-t12
+add-t12 c = search needs
 
 same-length-2 : tie.Need-same-length-2
 same-length-2 c = search needs
@@ -33,11 +39,13 @@ pub once-spec : {M : Type 1} → statement M
 once-spec =
     tie.close
     (tie.spec
-    has-requires
+    find-requires
+    add-t9
     same-length
     returns
     mul-part
     slice-write-part
-    add-result
+    add-t10
+    add-t12
     same-length-2
     returns-2)

@@ -1,11 +1,11 @@
 -- `add_cell` is the rule's `celled`: one more span, then overlap, then floors, each a step on record r.
--- Counting first gives the floors of this span their room.
+-- Counting first gives the floors of this span their room; a span alone in its cell has no more to give.
 use lib.ListN.{length-set}
 use Prim.Native.Nat.{_<_}
 use mathlib.Core.Path.{refl, _∙_}
 use lib.ListN.{length}
 use denote.Ref.{now}
-use Rattle.records.proofs.ContourLaws.{own-in, count-fits, counted-keeping, counted-slack, cell-step}
+use Rattle.records.proofs.ContourLaws.{own-in, count-fits, counted-keeping, counted-slack, cell-alone, cell-step}
 use native.Mathlib.Omega.{arith}
 use Rattle.records.proofs.grow.add_cell.Statement.{statement}
 use Rattle.records.proofs.grow.add_cell.Tie as tie
@@ -31,27 +31,35 @@ add-ws-2 c = let p = S c .pre in omega (arith, count-fits _ _ _ _ _ (p .0) _ 0 0
 slice-write-ws : tie.Need-slice-write-ws
 slice-write-ws c = let p = S c .pre in omega (arith, own-in _ _ _ _ _ (p .0) _ 0 0 (p .1) (p .2) (here c), p .0 .room)
 
+same-length : tie.Need-same-length
+same-length c = simp length-set
+
+returns : tie.Need-returns
+returns c = let b = c .before in
+    let p = S b .pre in
+    cell-alone _ _ _ _ _ (p .0) _ _ _ (p .1) (p .2) (here b) (c .if1 .taken) (p .5) (p .6)
+
 add-overlap-requires : tie.Need-add-overlap-requires
-add-overlap-requires c κs = let b = c .before in
+add-overlap-requires c κs = let b = c .before .before in
     let p = S b .pre in
     let o = own-in _ _ _ _ _ (p .0) _ 0 0 (p .1) (p .2) (here b) in
     (o, here b, p .4, simp length-set (omega (arith, p .0 .room)))
 
 add-floors-requires : tie.Need-add-floors-requires
 add-floors-requires c κs = let a = c .before .before .before in
-    let b = a .before .before in
+    let b = a .before .before .before in
     let p = S b .pre in
     (counted-keeping _ _ _ _ _ (p .0) _ _ _ (p .1) (p .2) (here b) _ _ refl (a .add-overlap .ensures), own-in _ _ _ _ _ (p .0) _ 0 0 (p .1) (p .2) (here b), counted-slack _ _ _ _ _ (p .0) _ _ _ (p .1) (p .2) (here b) _ _ refl (a .add-overlap .ensures), p .3, p .4, p .5, p .6)
 
-same-length : tie.Need-same-length
-same-length c = let f = c .before .before in
+same-length-2 : tie.Need-same-length-2
+same-length-2 c = let f = c .before .before in
     let a = f .before .before .before .before in
     f .add-floors .kept .1 .0 ∙ a .add-overlap .kept .1 .0 ∙ simp length-set
 
-returns : tie.Need-returns
-returns c = let f = c .before .before in
+returns-2 : tie.Need-returns-2
+returns-2 c = let f = c .before .before in
     let a = f .before .before .before .before in
-    let b = a .before .before in
+    let b = a .before .before .before in
     let p = S b .pre in
     cell-step _ _ _ _ _ (p .0) _ _ _ (p .1) (p .2) (here b) _ _ refl (a .add-overlap .ensures) _ (f .add-floors .ensures)
 
@@ -64,7 +72,9 @@ add-cell-spec =
     slice-read-ws
     add-ws-2
     slice-write-ws
+    same-length
+    returns
     add-overlap-requires
     add-floors-requires
-    same-length
-    returns)
+    same-length-2
+    returns-2)

@@ -1,4 +1,4 @@
--- The others' ids join record r's floors in its own room, and then the list's new end is stored.
+-- The others' ids join record r's floors in its own room, and then the list's end is stored, if it is a new one.
 -- The room is 62 numbers for each span counted, and this span, counted already, has at most 62 others.
 use Prim.Native.Nat.{ℕ, _+_, _*_}
 use Rattle.table.specs.View.{startOf, endOf}
@@ -6,7 +6,7 @@ use mathlib.Core.Path.{_≡_, refl, ap}
 use lib.ListN.{getD}
 use denote.Ref.{now}
 use Rattle.records.proofs.RowLaws.{floor-parts}
-use Rattle.records.proofs.FloorLaws.{room-order, room-inside, room-roomy, put-room, end-fits, step-floors}
+use Rattle.records.proofs.FloorLaws.{room-order, room-inside, room-roomy, put-room, end-fits, step-floors, step-stays}
 use native.Mathlib.Omega.{arith}
 use borrow.Author.Needs.{needs}
 use Rattle.records.proofs.grow.add_floors.Statement.{statement}
@@ -23,6 +23,9 @@ ee c = c .before .before .end-of .ensures .0
 
 ez : (c : tie.After-at) → c .before .before .before .before .start-of .result + 62 * c .at .result ≡ c .before .before .before .before .start-of .result + 62 * getD (now (S c .args .ws)) (S c .args .m + S c .args .r) 0
 ez c = ap (λ (x : ℕ). c .before .before .before .before .start-of .result + 62 * x) (c .at .ensures .0)
+
+abbrev J : tie.After-slice-known2 → tie.After-join
+J c = c .before .before
 
 mul-start-of : tie.Need-mul-start-of
 mul-start-of c = search needs
@@ -48,6 +51,9 @@ mul-z c = search needs
 add-z : tie.Need-add-z
 add-z c = search needs
 
+sub-len : tie.Need-sub-len
+sub-len c = room-order _ _ _ _ _ (S c .pre .0) _ (S c .pre .1) _ _ _ (ea c) (ee c) (ez c)
+
 mul-join : tie.Need-mul-join
 mul-join c = search needs
 
@@ -60,12 +66,18 @@ part-join-start c = search needs
 part-join-end : tie.Need-part-join-end
 part-join-end c = omega (arith, room-inside _ _ _ _ _ (S c .pre .0) _ (S c .pre .1) _ _ _ (ea c) (ee c) (ez c), S c .pre .0 .room)
 
-sub-join-2 : tie.Need-sub-join-2
-sub-join-2 c = room-order _ _ _ _ _ (S (c .before) .pre .0) _ (S (c .before) .pre .1) _ _ _ (ea (c .before)) (ee (c .before)) (ez (c .before))
-
 join-requires : tie.Need-join-requires
 join-requires c κs = let p = S (c .before) .pre in
     room-roomy _ _ _ _ _ (p .0) _ (p .1) _ _ _ (ea (c .before)) (ee (c .before)) (ez (c .before)) _ _ _ (omega (arith, p .2, ea (c .before), ee (c .before), ez (c .before))) (p .3) (p .4) (p .5) (p .6)
+
+same-length : tie.Need-same-length
+same-length c = search needs
+
+returns : tie.Need-returns
+returns c = let j = J (c .before) in
+    let t = j .before .before in
+    let p = S t .pre in
+    step-stays _ _ _ _ _ (p .0) _ (p .1) _ _ _ (ea t) (ee t) (ez t) _ _ _ _ (j .join .kept .1 .0) (j .join .ensures) refl (c .if1 .taken)
 
 mul-set-part : tie.Need-mul-set-part
 mul-set-part c = search needs
@@ -74,21 +86,21 @@ add-set-part : tie.Need-add-set-part
 add-set-part c = search needs
 
 set-part-requires : tie.Need-set-part-requires
-set-part-requires c κs = let j = c .before .before .before in
+set-part-requires c κs = let j = J (c .before .before) in
     let t = j .before .before in
     let p = S t .pre in
     let f = end-fits _ _ _ _ _ (p .0) _ (p .1) _ _ _ (ea t) (ee t) (ez t) _ _ _ (j .join .kept .1 .0) (j .join .ensures) in
     (put-room _ _ _ _ _ (p .0) _ (p .1) _ _ _ (ea t) (ee t) (ez t) (j .join .last .1 .0) (j .join .kept .1 .0), (p .1, f))
 
-same-length : tie.Need-same-length
-same-length c = search needs
+same-length-2 : tie.Need-same-length-2
+same-length-2 c = search needs
 
-returns : tie.Need-returns
-returns c = let sp = c .before .before in
-    let j = sp .before .before .before .before in
+returns-2 : tie.Need-returns-2
+returns-2 c = let sp = c .before .before in
+    let j = J (sp .before .before .before) in
     let t = j .before .before in
     let p = S t .pre in
-    step-floors _ _ _ _ _ (p .0) _ (p .1) _ _ _ (ea t) (ee t) (ez t) _ _ _ _ _ (j .join .kept .1 .0) (j .join .ensures) refl (sp .set-part .ensures) (sp .set-part .kept .0)
+    step-floors _ _ _ _ _ (p .0) _ (p .1) _ _ _ (ea t) (ee t) (ez t) _ _ _ _ (j .join .kept .1 .0) (j .join .ensures) refl _ (sp .set-part .ensures) (sp .set-part .kept .0)
 
 pub add-floors-spec : {M : Type 1} → statement M
 add-floors-spec =
@@ -102,14 +114,16 @@ add-floors-spec =
     at-requires
     mul-z
     add-z
+    sub-len
     mul-join
     sub-join
     part-join-start
     part-join-end
-    sub-join-2
     join-requires
+    same-length
+    returns
     mul-set-part
     add-set-part
     set-part-requires
-    same-length
-    returns)
+    same-length-2
+    returns-2)

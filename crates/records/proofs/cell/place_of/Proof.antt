@@ -6,10 +6,10 @@ use lib.ListN.{take}
 use lib.Dec.{eqb}
 use Rattle.rules.specs.Base.{any}
 use Rattle.space.specs.Space.{sec}
-use Rattle.records.proofs.CellLaws.{has-start, has-end, has-found, has-more}
+use Rattle.records.proofs.CellLaws.{has-start, has-more, found-here, found-none}
 use borrow.Author.Needs.{needs}
-use Rattle.records.proofs.cell.has.Statement.{statement}
-use Rattle.records.proofs.cell.has.Tie as tie
+use Rattle.records.proofs.cell.place_of.Statement.{statement}
+use Rattle.records.proofs.cell.place_of.Tie as tie
 
 abbrev Inv-loop : tie.InvT-loop
 Inv-loop part n r i₀ i = (i ≤ n) × (any (eqb r) (take n part) ≡ any (eqb r) (sec i (n - i) part))
@@ -27,7 +27,7 @@ shared-slice-read-if1 : tie.Need-shared-slice-read-if1 Inv-loop μ-loop
 shared-slice-read-if1 c = search needs
 
 returns : tie.Need-returns Inv-loop μ-loop
-returns c = search (needs, has-found)
+returns c = search (needs, found-here)
 
 add-i : tie.Need-add-i Inv-loop μ-loop
 add-i c = search needs
@@ -39,10 +39,10 @@ loop-again : tie.Need-loop-again Inv-loop μ-loop
 loop-again c = (search needs, search (needs, has-more))
 
 returns-2 : tie.Need-returns-2 Inv-loop μ-loop
-returns-2 c = search (needs, has-end)
+returns-2 c = search (needs, found-none)
 
-pub has-spec : {M : Type 1} → statement M
-has-spec =
+pub place-of-spec : {M : Type 1} → statement M
+place-of-spec =
     tie.close
     (tie.spec
     Inv-loop

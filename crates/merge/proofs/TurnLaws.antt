@@ -1,6 +1,6 @@
 -- A record's turn, a round, and the rounds. The picked neighbour bears its own number, so it is another record and live;
 -- each merge leaves one record fewer that bears its own number, so the rounds end.
-use Prim.Native.Nat.{ℕ, zero, suc, _+_, _-_, _*_, _≤_, _<_}
+use Prim.Native.Nat.{ℕ, zero, suc, _+_, _*_, _≤_, _<_}
 use native.Mathlib.Omega.{arith}
 use mathlib.Core.Path.{_≡_, refl, sym, ap, _∙_}
 use mathlib.Core.Logic.{⊎-elim, _⊎_, inl, inr}
@@ -13,12 +13,12 @@ use Rattle.rules.specs.Base.{_and_, _or_, if_then_else_, any, upto}
 use Rattle.rules.specs.Records.{Rec, at, has}
 use Rattle.rules.specs.Merge.{Pick, place, Merge, mergeOne}
 use Rattle.laws.proofs.Basics.{neither, if-ind, upto-next}
-use Rattle.table.specs.View.{startOf, endOf, listAt, recAt, view, recsOf, Held}
+use Rattle.table.specs.View.{listAt, recAt, view, recsOf}
 use Rattle.table.proofs.ViewLaws.{view-length, view-at, list-length}
 use Rattle.filter.specs.Group.{Calm}
 use Rattle.pool.specs.Alike.{Rep, Reps, Joined}
 use Rattle.pool.specs.Fixed.{pickedF, mayMerge, tryMerge, mergedPair, mergeOneF, mergedF}
-use Rattle.pool.specs.Pool.{lenAt, Pool, Listed}
+use Rattle.pool.specs.Pool.{lenAt, Pool, Laid, Listed}
 use Rattle.pool.proofs.PartLaws.{place-all, place-some}
 use Rattle.pool.proofs.MergeLaws.{oneF, pickF, firstPick, pick-rep, round-alike, round-falls, owners, owners-most}
 
@@ -94,13 +94,6 @@ module _ (ws : List ℕ) (m area i : ℕ) where
 
 pub place-is : (ws l : List ℕ) (m i r k : ℕ) → l ≡ listAt ws m (7 * m) i → k ≡ place l r → k ≡ place (listAt ws m (7 * m) i) r
 place-is ws l m i r k q e = e ∙ ap (λ (x : List ℕ). place x r) q
-
-pub len-is : (ws : List ℕ) (m i a e : ℕ) → a ≡ startOf ws m (7 * m) i → e ≡ endOf ws m (7 * m) i → e - a ≡ lenAt ws m i
-unfolding lenAt
-len-is ws m i a e p q = rw (p, q)
-
-pub len-sub : (ws : List ℕ) (m i a e : ℕ) → Held m (7 * m) (11 * m) ws → i < m → a ≡ startOf ws m (7 * m) i → e ≡ endOf ws m (7 * m) i → a ≤ e
-len-sub ws m i a e H h p q = omega (arith, H .lists .order i h)
 
 place-le : (l : List ℕ) (r : ℕ) → place l r ≤ length l
 unfolding place
@@ -370,6 +363,10 @@ module _ (area m : ℕ) (ws₀ ws ws′ : List ℕ) (c : ℕ) (e : record { recs
       let w : upto (length (recsOf ws m)) (mergeOneF area) (record { recs = recsOf ws m; merges = 0 }) .merges ≡ 0 = ap (λ (g : Merge). g .merges) out ∙ z in
       sym (ap (λ (g : Merge). g .recs) out) ∙ ap (λ (g : Merge). g .recs) (round-still area (length (recsOf ws m)) (record { recs = recsOf ws m; merges = 0 }) w)
       ∙ sym (T .same ∙ merged-last area (T .fuel) (recsOf ws m) w)
+
+-- before the first merge
+pub laid-start : (m p h : ℕ) (ws : List ℕ) → Laid m p h (h + p) ws
+laid-start m p h ws = record { from = omega arith; upto = omega arith; below = λ w. absurd (omega arith); apart = λ w. absurd (omega arith) }
 
 pub pool-calm : (m p h o : ℕ) (ws : List ℕ) → Pool m p h o ws → Calm m ws
 pool-calm m p h o ws P = record { held = P .held; blank = P .blank }

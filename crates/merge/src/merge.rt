@@ -1,10 +1,9 @@
 // The merge: a record, a round, all rounds.
 use crate::pick::pick;
+use pool::len_of;
 use pool::merge_regions;
 use pool::place;
-use table::end_of;
 use table::list_of;
-use table::start_of;
 ghost use mathlib.Core.Path.{_≡_};
 ghost use Prim.Native.Nat.{suc, _+_, _*_, _≤_, _<_};
 ghost use lib.ListN.{getD};
@@ -15,12 +14,13 @@ ghost use Rattle.table.specs.View.{listAt, recAt, recsOf, Held};
 ghost use Rattle.filter.specs.Group.{Calm};
 ghost use Rattle.pool.specs.Alike.{Reps, Joined};
 ghost use Rattle.pool.specs.Fixed.{mayMerge, tryMerge, mergeOneF, mergedF};
-ghost use Rattle.pool.specs.Pool.{lenAt, Pool};
+ghost use Rattle.pool.specs.Pool.{Pool, Laid};
 
-// The half of the pool that the lists are in, the other one, and how many merges there were in the round.
+// The half of the pool that the lists are in, the other one, where the lists end, and how many merges there were in the round.
 pub struct Round {
     pub now: usize,
     pub other: usize,
+    pub top: usize,
     pub merges: usize,
 }
 
@@ -67,14 +67,6 @@ fn place_of(ws: &[u16], m: usize, i: usize, r: u16) -> usize
     place(list_of(ws, m, 7 * m, i), r)
 }
 
-fn len_of(ws: &[u16], m: usize, i: usize) -> usize
-    requires { ⌜ Held m (7 * m) (11 * m) (now ws) ⌝ }
-    requires { ⌜ i < m ⌝ }
-    ensures { λ k. ⌜ k ≡ lenAt (now (ws .entry)) m i ⌝ }
-{
-    end_of(ws, m, 7 * m, i) - start_of(ws, m, 7 * m, i)
-}
-
 // The neighbour n absorbs record i, if each lists the other.
 fn try_merge(ws: &mut [u16], m: usize, p: usize, i: usize, n: usize, g: Round) -> Round
     requires { ⌜ Pool m p (g .now) (g .other) (now ws) ⌝ }
@@ -84,9 +76,11 @@ fn try_merge(ws: &mut [u16], m: usize, p: usize, i: usize, n: usize, g: Round) -
     requires { ⌜ (getD (now ws) i 0 ≡ 0 → ⊥) ⌝ }
     requires { ⌜ (getD (now ws) n 0 ≡ 0 → ⊥) ⌝ }
     requires { ⌜ g .merges < 65536 ⌝ }
+    requires { ⌜ Laid m p (g .now) (g .top) (now ws) ⌝ }
     ensures { λ r. ⌜ record { recs = recsOf (now (ws .exit)) m; merges = r .merges } ≡ tryMerge i n (record { recs = recsOf (now (ws .entry)) m; merges = g .merges }) ⌝ }
     ensures { λ r. ⌜ Pool m p (r .now) (r .other) (now (ws .exit)) ⌝ }
     ensures { λ r. ⌜ r .merges ≤ g .merges + 1 ⌝ }
+    ensures { λ r. ⌜ Laid m p (r .now) (r .top) (now (ws .exit)) ⌝ }
 {
     let a = ws[i];
     let b = ws[n];
@@ -100,10 +94,12 @@ fn try_merge(ws: &mut [u16], m: usize, p: usize, i: usize, n: usize, g: Round) -
     }
     let h = g.now;
     let o = g.other;
-    merge_regions(ws, m, n, k, i, j, h, o, p);
+    let top = g.top;
+    let half = merge_regions(ws, m, n, k, i, j, h, o, p, top);
     Round {
-        now: o,
-        other: h,
+        now: half.now,
+        other: half.other,
+        top: half.top,
         merges: g.merges + 1,
     }
 }
@@ -114,9 +110,11 @@ fn merge_one(ws: &mut [u16], m: usize, p: usize, area: u16, i: usize, g: Round) 
     requires { ⌜ Reps (recsOf (now ws) m) ⌝ }
     requires { ⌜ i < m ⌝ }
     requires { ⌜ g .merges < 65536 ⌝ }
+    requires { ⌜ Laid m p (g .now) (g .top) (now ws) ⌝ }
     ensures { λ r. ⌜ record { recs = recsOf (now (ws .exit)) m; merges = r .merges } ≡ mergeOneF area i (record { recs = recsOf (now (ws .entry)) m; merges = g .merges }) ⌝ }
     ensures { λ r. ⌜ Pool m p (r .now) (r .other) (now (ws .exit)) ⌝ }
     ensures { λ r. ⌜ r .merges ≤ g .merges + 1 ⌝ }
+    ensures { λ r. ⌜ Laid m p (r .now) (r .top) (now (ws .exit)) ⌝ }
 {
     if may_merge(ws, m, area, i) {} else {
         return g;
@@ -130,15 +128,26 @@ fn merge_one(ws: &mut [u16], m: usize, p: usize, area: u16, i: usize, g: Round) 
 }
 
 // A round: all records, in order.
-fn merge_round(ws: &mut [u16], m: usize, p: usize, area: u16, h: usize, o: usize) -> Round
+fn merge_round(
+    ws: &mut [u16],
+    m: usize,
+    p: usize,
+    area: u16,
+    h: usize,
+    o: usize,
+    top: usize,
+) -> Round
     requires { ⌜ Pool m p h o (now ws) ⌝ }
     requires { ⌜ Joined (recsOf (now ws) m) ⌝ }
+    requires { ⌜ Laid m p h top (now ws) ⌝ }
     ensures { λ r. ⌜ record { recs = recsOf (now (ws .exit)) m; merges = r .merges } ≡ upto m (mergeOneF area) (record { recs = recsOf (now (ws .entry)) m; merges = 0 }) ⌝ }
     ensures { λ r. ⌜ Pool m p (r .now) (r .other) (now (ws .exit)) ⌝ }
+    ensures { λ r. ⌜ Laid m p (r .now) (r .top) (now (ws .exit)) ⌝ }
 {
     let mut g = Round {
         now: h,
         other: o,
+        top: top,
         merges: 0,
     };
     let mut i = 0;
@@ -149,7 +158,7 @@ fn merge_round(ws: &mut [u16], m: usize, p: usize, area: u16, h: usize, o: usize
     g
 }
 
-// Rounds until one merges nothing.
+// Rounds until one merges nothing. Nothing is known of how the lists lie in their half, so all of it counts as used at first.
 pub(crate) fn merge_all(ws: &mut [u16], m: usize, p: usize, area: u16, h: usize, o: usize)
     requires { ⌜ Pool m p h o (now ws) ⌝ }
     requires { ⌜ Joined (recsOf (now ws) m) ⌝ }
@@ -158,12 +167,14 @@ pub(crate) fn merge_all(ws: &mut [u16], m: usize, p: usize, area: u16, h: usize,
 {
     let mut now = h;
     let mut other = o;
+    let mut top = h + p;
     loop {
-        let g = merge_round(ws, m, p, area, now, other);
+        let g = merge_round(ws, m, p, area, now, other, top);
         if g.merges == 0 {
             return;
         }
         now = g.now;
         other = g.other;
+        top = g.top;
     }
 }

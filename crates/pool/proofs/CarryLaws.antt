@@ -100,6 +100,9 @@ rest-skip : (ws : List ℕ) (m i n c : ℕ) → restTo ws m i n c ≤ restTo ws 
 unfolding restTo sumTo
 rest-skip ws m i n c = omega arith
 
+past-it : (c x : ℕ) → c ≤ x → (x ≡ c → ⊥) → suc c ≤ x
+past-it c x h n = omega arith
+
 pub carried-none : (m i n old new lo z : ℕ) (ws : List ℕ) → Sources m i n lo z ws → Carried m i n m old new lo lo z ws ws
 carried-none m i n old new lo z ws S = record {
   order = omega arith;
@@ -107,6 +110,7 @@ carried-none m i n old new lo z ws S = record {
   there = λ x h g _ _. absurd (omega arith);
   starts = λ x _ _. refl;
   stops = λ x _ _. refl;
+  apart = λ x y a b g _ _ _ _. absurd (omega arith);
   kept = λ j _. refl;
 }
 
@@ -175,6 +179,7 @@ module _ (m i n c old new lo hi z : ℕ) (ws₀ ws : List ℕ) (S : Sources m i 
     there = λ x k g p q. C .there x (differs x k p q) g p q;
     starts = λ x g s. C .starts x g (⊎-elim (λ (y : x < c). inl (omega arith)) (λ (y : (x ≡ i) ⊎ (x ≡ n)). inr y) s);
     stops = λ x g s. C .stops x g (⊎-elim (λ (y : x < c). inl (omega arith)) (λ (y : (x ≡ i) ⊎ (x ≡ n)). inr y) s);
+    apart = λ x y k d g a b. C .apart x y (differs x k a b) d g a b;
     kept = C .kept;
   }
     where
@@ -220,6 +225,10 @@ module _ (m i n c old new lo hi z : ℕ) (ws₀ ws : List ℕ) (S : Sources m i 
       ];
       starts = λ x g s. M .starts x g (other x s) ∙ C .starts x g (earlier x s);
       stops = λ x g s. M .stops x g (other x s) ∙ C .stops x g (earlier x s);
+      apart = λ x y k d g a b a′ b′. elim (ℕ-discrete x c) [
+        | yes e ↦ rw (e, M .start, M .stops y g (λ f. omega arith)) (C .there y (omega arith) g a′ b′ .upto)
+        | no e ↦ rw (M .starts x (omega arith) e, M .stops y g (λ f. omega arith)) (C .apart x y (past-it c x k e) d g a b a′ b′)
+      ];
       kept = λ j o. M .kept j (o .0, ⊎-elim (λ (y : j < lo). inl (omega (arith, C .order))) (λ (y : z ≤ j). inr (omega (arith, wait-room p q, len-waits))) (o .1)) ∙ C .kept j o;
     }
       where

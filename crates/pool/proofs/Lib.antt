@@ -4,6 +4,8 @@ pub mod PartLaws
 pub mod CarryLaws
 pub mod SumLaws
 pub mod AbsorbLaws
+pub mod RenameLaws
+pub mod RelistLaws
 pub mod RegionLaws
 pub mod FloorLaws
 pub mod MergeLaws

@@ -4,7 +4,7 @@ use Prim.Native.Nat.{ℕ, zero, suc, _+_, _-_, _*_, _≤_, _<_}
 use native.Mathlib.Omega.{arith}
 use native.Mathlib.Decide.{ℕ-discrete}
 use mathlib.Core.Path.{_≡_, refl, sym, ap, _∙_}
-use mathlib.Core.Logic.{⊎-elim, _⊎_, inl, inr}
+use mathlib.Core.Logic.{⊎-elim, inl, inr}
 use mathlib.Core.Bool.{true, false, not, false≢true}
 use mathlib.Core.List.{List, [], _∷_, _++_, map}
 use lib.ListN.{length, getD, set, length-set, length-map, List·getD-map}
@@ -24,7 +24,7 @@ use Rattle.table.proofs.ViewLaws.{view-length, view-at, view-by, rec-eq, list-s
 use Rattle.pool.specs.Lists.{swapOne}
 use Rattle.pool.specs.Part.{renamedList}
 use Rattle.pool.specs.Fixed.{renamedF, absorbedF, mergedPair}
-use Rattle.pool.specs.Pool.{lenAt, countAt, newList, joinedList, Pool, Listed, Outside, Relisted}
+use Rattle.pool.specs.Pool.{lenAt, countAt, newList, joinedList, Halves, Pool, Laid, Listed, Outside, Turned, Relisted}
 use Rattle.pool.proofs.FloorLaws.{swap-has, swap-old, swap-other, has-first, has-later}
 use Rattle.pool.proofs.MergeLaws.{has-some, tidy-has, append-has, around-has, renF-id, renF-count, renF-area, renF-visited, renF-overlap, renF-floors, renF-newList, renF-fresh, at-map, at-i, at-n, at-else}
 use Rattle.pool.proofs.SumLaws.{sum-split, sum-two}
@@ -94,7 +94,24 @@ pub record After (m n i old : ℕ) (ws ws′ : List ℕ) : Type 0 where
   pub none : getD ws′ (m + i) 0 ≡ 0
   pub counts : (x : ℕ) → x < m → (x ≡ i → ⊥) → (x ≡ n → ⊥) → getD ws′ (m + x) 0 ≡ getD ws (m + x) 0
 
-module _ (m p h o n k i j : ℕ) (ws ws₁ ws₃ : List ℕ) (P : Pool m p h o ws) (L : Listed m n k i j ws) (R : Relisted m p n k i j (getD ws i 0) n o ws ws₁)
+-- the halves, in either order
+module _ (m p h o b c : ℕ) (ws : List ℕ) (P : Pool m p h o ws) (W : Turned h o b c) where
+  turned-halves : Halves m p b c ws
+  turned-halves = ⊎-elim (λ (w : (b ≡ h) × (c ≡ o)). rw (w .0, w .1) (P .halves)) (λ (w : (b ≡ o) × (c ≡ h)). rw (w .0, w .1) (record {
+    past = P .halves .past′;
+    past′ = P .halves .past;
+    apart = ⊎-elim (λ (v : h + p ≤ o). inr v) (λ (v : o + p ≤ h). inl v) (P .halves .apart);
+    into = P .halves .into′;
+    into′ = P .halves .into;
+    fits = P .halves .fits′;
+    fits′ = P .halves .fits;
+  })) W
+
+  turned-floors : (r : ℕ) → r < m → (b + p ≤ startOf ws m (11 * m) r) × (c + p ≤ startOf ws m (11 * m) r)
+  turned-floors r g =
+      ⊎-elim (λ (w : (b ≡ h) × (c ≡ o)). rw (w .0, w .1) (P .floors r g)) (λ (w : (b ≡ o) × (c ≡ h)). rw (w .0, w .1) (P .floors r g .1, P .floors r g .0)) W
+
+module _ (m p h o b c n k i j : ℕ) (ws ws₁ ws₃ : List ℕ) (P : Pool m p h o ws) (W : Turned h o b c) (L : Listed m n k i j ws) (R : Relisted m p n k i j (getD ws i 0) n b ws ws₁)
     (A : After m n i (getD ws i 0) ws₁ ws₃) (l₁ : length ws₁ ≡ length ws) (l₃ : length ws₃ ≡ length ws₁) where
   abbrev old : ℕ
   old = getD ws i 0
@@ -108,11 +125,17 @@ module _ (m p h o n k i j : ℕ) (ws ws₁ ws₃ : List ℕ) (P : Pool m p h o w
   ne : i ≡ n → ⊥
   ne = L .pair .apart
 
-  kept : (y : ℕ) → 2 * m ≤ y → Outside m o (o + p) y → getD ws₃ y 0 ≡ getD ws y 0
+  H : Halves m p b c ws
+  H = turned-halves m p h o b c ws P W
+
+  floor-past : (x : ℕ) → x < m → b + p ≤ startOf ws m (11 * m) x
+  floor-past x g = turned-floors m p h o b c ws P W x g .0
+
+  kept : (y : ℕ) → 2 * m ≤ y → Outside m b (b + p) y → getD ws₃ y 0 ≡ getD ws y 0
   kept y g w = getD-after y (A .frame) g ∙ R .kept y w
 
   low : (y : ℕ) → y < 7 * m → getD ws₁ y 0 ≡ getD ws y 0
-  low y g = R .kept y (inl g, inl (omega (arith, P .halves .past′)))
+  low y g = R .kept y (inl g, inl (omega (arith, H .past)))
 
   mid : (y : ℕ) → 2 * m ≤ y → y < 7 * m → getD ws₃ y 0 ≡ getD ws y 0
   mid y a b = getD-after y (A .frame) a ∙ low y b
@@ -124,7 +147,7 @@ module _ (m p h o n k i j : ℕ) (ws ws₁ ws₃ : List ℕ) (P : Pool m p h o w
   lists-at x g = list-past m (7 * m) (R .parts) (A .frame) (omega arith) l₃ x g
 
   high : (y : ℕ) → 11 * m ≤ y → y < 15 * m → getD ws₃ y 0 ≡ getD ws y 0
-  high y a b = kept y (omega arith) (inr a, inl (omega (arith, P .halves .past′)))
+  high y a b = kept y (omega arith) (inr a, inl (omega (arith, H .past)))
 
   start-f : (x : ℕ) → x < m → startOf ws₃ m (11 * m) x ≡ startOf ws m (11 * m) x
   start-f x g = wide-same ws ws₃ m (11 * m + x) (high (11 * m + x) (omega arith) (omega arith)) (high (11 * m + x + m) (omega arith) (omega arith))
@@ -135,7 +158,7 @@ module _ (m p h o n k i j : ℕ) (ws ws₁ ws₃ : List ℕ) (P : Pool m p h o w
   floors-at : (x : ℕ) → x < m → listAt ws₃ m (11 * m) x ≡ listAt ws m (11 * m) x
   floors-at x g =
       list-same ws ws₃ m (11 * m) x (start-f x g) (stop-f x g) (P .held .floors .order x g) (P .held .floors .within x g) (l₃ ∙ l₁) (λ y a b.
-      kept y (omega (arith, P .floors x g .1, P .halves .past′)) (inr (omega (arith, P .floors x g .1, P .halves .past′)), inr (omega (arith, P .floors x g .1))))
+      kept y (omega (arith, floor-past x g, H .past)) (inr (omega (arith, floor-past x g, H .past)), inr (omega (arith, floor-past x g))))
 
   -- ---- the records
 
@@ -205,7 +228,7 @@ module _ (m p h o n k i j : ℕ) (ws ws₁ ws₃ : List ℕ) (P : Pool m p h o w
   unfolding recsOf
   merged-recs = view-by ws₃ m (7 * m) (11 * m) (mergedPair rs i old n) pair-length pair-at
 
-  -- ---- and the pool is in order, the halves swapped
+  -- ---- and the pool is in order
 
   parts₃ : Parts m (7 * m) ws₃
   parts₃ = parts-past m (7 * m) (R .parts) (A .frame) (omega arith) l₃
@@ -248,22 +271,22 @@ module _ (m p h o n k i j : ℕ) (ws ws₁ ws₃ : List ℕ) (P : Pool m p h o w
     floored = λ x g. rw (floors-at x g) (P .held .floored x g);
   }
 
-  pub merged-pool : Pool m p o h ws₃
+  pub merged-pool : Pool m p b c ws₃
   unfolding countAt
   merged-pool = record {
     held = held₃;
     halves = record {
-      past = P .halves .past′;
-      past′ = P .halves .past;
-      apart = ⊎-elim (λ (w : h + p ≤ o). inr w) (λ (w : o + p ≤ h). inl w) (P .halves .apart);
-      into = rw (l₃, l₁) (P .halves .into′);
-      into′ = rw (l₃, l₁) (P .halves .into);
-      fits = P .halves .fits′;
-      fits′ = P .halves .fits;
+      past = H .past;
+      past′ = H .past′;
+      apart = H .apart;
+      into = rw (l₃, l₁) (H .into);
+      into′ = rw (l₃, l₁) (H .into′);
+      fits = H .fits;
+      fits′ = H .fits′;
     };
     from = λ x g. rw (start-3 x g) (R .from x g);
     upto = λ x g. rw (stop-3 x g) (R .upto x g);
-    floors = λ x g. rw (start-f x g) (P .floors x g .1, P .floors x g .0);
+    floors = λ x g. rw (start-f x g) (turned-floors m p h o b c ws P W x g);
     room = rw (sum-same (lenAt ws₃ m) (lenAt ws₁ m) m len-3) (R .room);
     spans = omega (
       arith,
@@ -273,6 +296,14 @@ module _ (m p h o n k i j : ℕ) (ws ws₁ ws₃ : List ℕ) (P : Pool m p h o w
           (omega (arith, A .sum, A .none, low (m + n) (omega arith), low (m + i) (omega arith))),
     );
     blank = λ x g. mid (5 * m + x) (omega arith) (omega arith) ∙ P .blank x g;
+  }
+
+  merged-laid : (top : ℕ) → Laid m p b top ws₁ → Laid m p b top ws₃
+  merged-laid top D = record {
+    from = D .from;
+    upto = D .upto;
+    below = λ w x g. rw (stop-3 x g) (D .below w x g);
+    apart = λ w. record { apart = λ x y g q d. rw (start-3 x g, stop-3 x g, start-3 y q, stop-3 y q) (D .apart w .apart x y g q d) };
   }
 
 -- ---- the counts and the ids, as the code writes them
@@ -319,18 +350,20 @@ module _ (m n i old : ℕ) (ws₁ ws₂ ys : List ℕ) (hn : n < m) (hi : i < m)
 
 -- two counts are no more than all
 module _ (m p h o n k i j : ℕ) (ws ws₁ : List ℕ) (P : Pool m p h o ws) (L : Listed m n k i j ws) where
-  pub spans-fit : (old new : ℕ) → Relisted m p n k i j old new o ws ws₁ → getD ws₁ (m + n) 0 + getD ws₁ (m + i) 0 < 65536
+  pub spans-fit : (b c old new : ℕ) → Turned h o b c → Relisted m p n k i j old new b ws ws₁ → getD ws₁ (m + n) 0 + getD ws₁ (m + i) 0 < 65536
   unfolding countAt
-  spans-fit old new R =
-      let a : getD ws₁ (m + n) 0 ≡ getD ws (m + n) 0 = R .kept (m + n) (inl (omega (arith, L .pair .first)), inl (omega (arith, L .pair .first, P .halves .past′))) in
-      let b : getD ws₁ (m + i) 0 ≡ getD ws (m + i) 0 = R .kept (m + i) (inl (omega (arith, L .pair .second)), inl (omega (arith, L .pair .second, P .halves .past′))) in
+  spans-fit b c old new W R =
+      let H = turned-halves m p h o b c ws P W in
+      let a : getD ws₁ (m + n) 0 ≡ getD ws (m + n) 0 = R .kept (m + n) (inl (omega (arith, L .pair .first)), inl (omega (arith, L .pair .first, H .past))) in
+      let d : getD ws₁ (m + i) 0 ≡ getD ws (m + i) 0 = R .kept (m + i) (inl (omega (arith, L .pair .second)), inl (omega (arith, L .pair .second, H .past))) in
       omega (arith, P .spans, sum-split (countAt ws m) i n m (L .pair .second) (L .pair .first) (L .pair .apart))
 
   pub columns-in : length ws₁ ≡ length ws → 2 * m ≤ length ws₁
   columns-in l = omega (arith, P .held .lists .room)
 
 -- as the code has it
-module _ (m p h o n k i j : ℕ) (ws ws₁ ws₂ ys : List ℕ) (P : Pool m p h o ws) (L : Listed m n k i j ws) (R : Relisted m p n k i j (getD ws i 0) n o ws ws₁) (l₁ : length ws₁ ≡ length ws)
+module _ (m p h o b c n k i j : ℕ) (ws ws₁ ws₂ ys : List ℕ) (P : Pool m p h o ws) (L : Listed m n k i j ws) (W : Turned h o b c) (R : Relisted m p n k i j (getD ws i 0) n b ws ws₁)
+    (l₁ : length ws₁ ≡ length ws)
     (e : ws₂ ≡ set (set ws₁ (m + n) (getD ws₁ (m + n) 0 + getD ws₁ (m + i) 0)) (m + i) 0) (l₂ : length ws₂ ≡ length ws₁) (y : ys ≡ map (swapOne (getD ws i 0) n) (midOf 0 (m - 0) ws₂))
     (ly : length ys ≡ length (midOf 0 (m - 0) ws₂)) where
   after : After m n i (getD ws i 0) ws₁ (putMid 0 (m - 0) ws₂ ys)
@@ -341,10 +374,13 @@ module _ (m p h o n k i j : ℕ) (ws ws₁ ws₂ ys : List ℕ) (P : Pool m p h 
   l₃ = same-len-mid 0 (m - 0) ws₂ ys ly ∙ l₂
 
   pub region-recs : recsOf (putMid 0 (m - 0) ws₂ ys) m ≡ mergedPair (recsOf ws m) i (getD ws i 0) n
-  region-recs = merged-recs m p h o n k i j ws ws₁ (putMid 0 (m - 0) ws₂ ys) P L R after l₁ l₃
+  region-recs = merged-recs m p h o b c n k i j ws ws₁ (putMid 0 (m - 0) ws₂ ys) P W L R after l₁ l₃
 
-  pub region-pool : Pool m p o h (putMid 0 (m - 0) ws₂ ys)
-  region-pool = merged-pool m p h o n k i j ws ws₁ (putMid 0 (m - 0) ws₂ ys) P L R after l₁ l₃
+  pub region-pool : Pool m p b c (putMid 0 (m - 0) ws₂ ys)
+  region-pool = merged-pool m p h o b c n k i j ws ws₁ (putMid 0 (m - 0) ws₂ ys) P W L R after l₁ l₃
+
+  pub region-laid : (top : ℕ) → Laid m p b top ws₁ → Laid m p b top (putMid 0 (m - 0) ws₂ ys)
+  region-laid = merged-laid m p h o b c n k i j ws ws₁ (putMid 0 (m - 0) ws₂ ys) P W L R after l₁ l₃
 
 pub recount-in : (ws : List ℕ) (m n i v : ℕ) → 2 * m ≤ length ws → i < m → m + i < length (set ws (m + n) v)
 recount-in ws m n i v h g = rw (length-set ws (m + n) v) (omega arith)

@@ -1,4 +1,5 @@
--- The pool of neighbour lists: two halves of p numbers, at h and at o. The lists lie in the half at h; a merge writes them anew into the half at o.
+-- The pool of neighbour lists: two halves of p numbers, at h and at o, with the lists in the half at h. A merge writes the joined list past all lists and
+-- renames the others where they are; where the half has no room for that, it writes all lists anew into the half at o, one after the other.
 -- All lists together fit a half, since a merge never lengthens their sum.
 use Prim.Native.Nat.{ℕ, _+_, _-_, _*_, _≤_, _<_}
 use mathlib.Core.Path.{_≡_}
@@ -50,6 +51,21 @@ pub record Pool (m p h o : ℕ) (ws : List ℕ) : Type 0 where
   pub room : sumTo (lenAt ws m) m ≤ p
   pub spans : sumTo (countAt ws m) m < 65536
   pub blank : (x : ℕ) → x < 2 * m → getD ws (5 * m + x) 0 ≡ 0
+
+-- one of the lists of x and y ends before the other starts
+abbrev pub Beside : List ℕ → ℕ → ℕ → ℕ → Type 0
+Beside ws m x y = (endOf ws m (7 * m) x ≤ startOf ws m (7 * m) y) ⊎ (endOf ws m (7 * m) y ≤ startOf ws m (7 * m) x)
+
+-- the lists lie apart
+pub record Apart (m : ℕ) (ws : List ℕ) : Type 0 where
+  pub apart : (x y : ℕ) → x < m → y < m → (x ≡ y → ⊥) → Beside ws m x y
+
+-- no list in the half at h goes past top, and the lists lie apart; with top at the half's end nothing is known of them
+pub record Laid (m p h top : ℕ) (ws : List ℕ) : Type 0 where
+  pub from : h ≤ top
+  pub upto : top ≤ h + p
+  pub below : top < h + p → (x : ℕ) → x < m → endOf ws m (7 * m) x ≤ top
+  pub apart : top < h + p → Apart m ws
 
 -- neither in the table of lists nor from a up to z
 abbrev pub Outside : ℕ → ℕ → ℕ → ℕ → Type 0
@@ -104,7 +120,45 @@ pub record Carried (m i n c old new lo hi z : ℕ) (ws ws′ : List ℕ) : Type 
   pub there : (x : ℕ) → c ≤ x → x < m → (x ≡ i → ⊥) → (x ≡ n → ⊥) → There m x old new lo hi ws ws′
   pub starts : (x : ℕ) → x < m → (x < c) ⊎ ((x ≡ i) ⊎ (x ≡ n)) → startOf ws′ m (7 * m) x ≡ startOf ws m (7 * m) x
   pub stops : (x : ℕ) → x < m → (x < c) ⊎ ((x ≡ i) ⊎ (x ≡ n)) → endOf ws′ m (7 * m) x ≡ endOf ws m (7 * m) x
+  -- the last first
+  pub apart : (x y : ℕ) → c ≤ x → x < y → y < m → (x ≡ i → ⊥) → (x ≡ n → ⊥) → (y ≡ i → ⊥) → (y ≡ n → ⊥) → endOf ws′ m (7 * m) y ≤ startOf ws′ m (7 * m) x
   pub kept : (j : ℕ) → Outside m lo z j → getD ws′ j 0 ≡ getD ws j 0
+
+-- record x's list starts where it did, renamed
+pub record Shrunk (m x old new : ℕ) (ws ws′ : List ℕ) : Type 0 where
+  pub order : startOf ws m (7 * m) x ≤ endOf ws′ m (7 * m) x
+  pub upto : endOf ws′ m (7 * m) x ≤ endOf ws m (7 * m) x
+  pub list : listAt ws′ m (7 * m) x ≡ newList old new (getD ws x 0) (listAt ws m (7 * m) x)
+
+-- and no other list has changed
+pub record Renamed (m x old new : ℕ) (ws ws′ : List ℕ) : Type 0 where
+  pub shrunk : Shrunk m x old new ws ws′
+  pub starts : (y : ℕ) → y < m → startOf ws′ m (7 * m) y ≡ startOf ws m (7 * m) y
+  pub stops : (y : ℕ) → y < m → (y ≡ x → ⊥) → endOf ws′ m (7 * m) y ≡ endOf ws m (7 * m) y
+  pub kept : (j : ℕ) → Outside m (startOf ws m (7 * m) x) (endOf ws m (7 * m) x) j → getD ws′ j 0 ≡ getD ws j 0
+
+-- i and n are passed by
+pub record Passed (m x i n old new : ℕ) (ws ws′ : List ℕ) : Type 0 where
+  pub skipped : (x ≡ i) ⊎ (x ≡ n) → ws′ ≡ ws
+  pub renamed : (x ≡ i → ⊥) → (x ≡ n → ⊥) → Renamed m x old new ws ws′
+
+-- lists that can be renamed where they are
+pub record Rows (m : ℕ) (ws : List ℕ) : Type 0 where
+  pub lists : Parts m (7 * m) ws
+  pub far : (r : ℕ) → r < m → 11 * m ≤ startOf ws m (7 * m) r
+  pub apart : Apart m ws
+
+-- neither in the table of lists nor in the list of a record before c other than i and n
+pub record Free (m i n c j : ℕ) (ws : List ℕ) : Type 0 where
+  pub table : (j < 7 * m) ⊎ (11 * m ≤ j)
+  pub lists : (x : ℕ) → x < c → (x ≡ i → ⊥) → (x ≡ n → ⊥) → (j < startOf ws m (7 * m) x) ⊎ (endOf ws m (7 * m) x ≤ j)
+
+-- the records before c are renamed where they are, but i and n
+pub record Swept (m i n c old new : ℕ) (ws ws′ : List ℕ) : Type 0 where
+  pub done : (x : ℕ) → x < c → (x ≡ i → ⊥) → (x ≡ n → ⊥) → Shrunk m x old new ws ws′
+  pub starts : (x : ℕ) → x < m → startOf ws′ m (7 * m) x ≡ startOf ws m (7 * m) x
+  pub stops : (x : ℕ) → x < m → (c ≤ x) ⊎ ((x ≡ i) ⊎ (x ≡ n)) → endOf ws′ m (7 * m) x ≡ endOf ws m (7 * m) x
+  pub kept : (j : ℕ) → Free m i n c j ws → getD ws′ j 0 ≡ getD ws j 0
 
 -- two records, and where each lists the other
 pub record Pair (m n k i j : ℕ) (ws : List ℕ) : Type 0 where
@@ -118,29 +172,43 @@ pub record Pair (m n k i j : ℕ) (ws : List ℕ) : Type 0 where
 unfoldable pub joinedList : List ℕ → List ℕ → ℕ → ℕ → ℕ → ℕ → List ℕ
 joinedList l l′ k j old new = renamedList old new (tidy (around l k ++ around l′ j))
 
--- record n's list is the joined one, at o .. e, and record i's is empty
-pub record Absorbed (m n k i j old new o z e : ℕ) (ws ws′ : List ℕ) : Type 0 where
-  pub first : startOf ws′ m (7 * m) n ≡ o
+-- what the joined list needs to be written at to
+pub record Target (m n i to z : ℕ) (ws : List ℕ) : Type 0 where
+  pub lists : Parts m (7 * m) ws
+  pub apart : (endOf ws m (7 * m) n ≤ to) ⊎ (z ≤ startOf ws m (7 * m) n)
+  pub apart′ : (endOf ws m (7 * m) i ≤ to) ⊎ (z ≤ startOf ws m (7 * m) i)
+  pub past : 11 * m ≤ to
+  pub into : z ≤ length ws
+  pub fits : z < 4294967296
+  pub room : to + lenAt ws m n + lenAt ws m i ≤ z
+
+-- record n's list is the joined one, at to .. e, and record i's is empty
+pub record Absorbed (m n k i j old new to z e : ℕ) (ws ws′ : List ℕ) : Type 0 where
+  pub first : startOf ws′ m (7 * m) n ≡ to
   pub last : endOf ws′ m (7 * m) n ≡ e
   pub bare : startOf ws′ m (7 * m) i ≡ e
   pub bare′ : endOf ws′ m (7 * m) i ≡ e
-  pub list : part o e ws′ ≡ joinedList (listAt ws m (7 * m) n) (listAt ws m (7 * m) i) k j old new
-  pub order : o ≤ e
-  pub short : e ≤ o + lenAt ws m n + lenAt ws m i
+  pub list : part to e ws′ ≡ joinedList (listAt ws m (7 * m) n) (listAt ws m (7 * m) i) k j old new
+  pub order : to ≤ e
+  pub short : e ≤ to + lenAt ws m n + lenAt ws m i
   pub starts : (y : ℕ) → y < m → (y ≡ i → ⊥) → (y ≡ n → ⊥) → startOf ws′ m (7 * m) y ≡ startOf ws m (7 * m) y
   pub stops : (y : ℕ) → y < m → (y ≡ i → ⊥) → (y ≡ n → ⊥) → endOf ws′ m (7 * m) y ≡ endOf ws m (7 * m) y
-  pub kept : (y : ℕ) → Outside m o z y → getD ws′ y 0 ≡ getD ws y 0
+  pub kept : (y : ℕ) → Outside m to z y → getD ws′ y 0 ≡ getD ws y 0
 
--- all lists stand in the half at o
-pub record Relisted (m p n k i j old new o : ℕ) (ws ws′ : List ℕ) : Type 0 where
+-- b and c are the halves h and o, in this order or the other
+abbrev pub Turned : ℕ → ℕ → ℕ → ℕ → Type 0
+Turned h o b c = ((b ≡ h) × (c ≡ o)) ⊎ ((b ≡ o) × (c ≡ h))
+
+-- all lists stand in the half at b
+pub record Relisted (m p n k i j old new b : ℕ) (ws ws′ : List ℕ) : Type 0 where
   pub joined : listAt ws′ m (7 * m) n ≡ joinedList (listAt ws m (7 * m) n) (listAt ws m (7 * m) i) k j old new
   pub bare : listAt ws′ m (7 * m) i ≡ []
   pub others : (x : ℕ) → x < m → (x ≡ i → ⊥) → (x ≡ n → ⊥) → listAt ws′ m (7 * m) x ≡ newList old new (getD ws x 0) (listAt ws m (7 * m) x)
   pub parts : Parts m (7 * m) ws′
-  pub from : (x : ℕ) → x < m → o ≤ startOf ws′ m (7 * m) x
-  pub upto : (x : ℕ) → x < m → endOf ws′ m (7 * m) x ≤ o + p
+  pub from : (x : ℕ) → x < m → b ≤ startOf ws′ m (7 * m) x
+  pub upto : (x : ℕ) → x < m → endOf ws′ m (7 * m) x ≤ b + p
   pub room : sumTo (lenAt ws′ m) m ≤ p
-  pub kept : (y : ℕ) → Outside m o (o + p) y → getD ws′ y 0 ≡ getD ws y 0
+  pub kept : (y : ℕ) → Outside m b (b + p) y → getD ws′ y 0 ≡ getD ws y 0
 
 -- record i is live and lists the live record n first at j, and n lists i first at k
 pub record Listed (m n k i j : ℕ) (ws : List ℕ) : Type 0 where

@@ -3,24 +3,27 @@
 use mathlib.Core.Path.{_≡_}
 use lib.ListN.{length}
 use Rattle.table.specs.View.{recsOf}
-use Rattle.pool.specs.Pool.{Pool}
+use Rattle.pool.specs.Pool.{Pool, Laid}
 use Rattle.pool.proofs.MergeLaws.{owners}
-use Rattle.merge.proofs.TurnLaws.{Rounds, rounds-start, rounds-go, rounds-falls, rounds-done, rounds-joined, pool-calm}
+use Rattle.merge.proofs.TurnLaws.{Rounds, laid-start, rounds-start, rounds-go, rounds-falls, rounds-done, rounds-joined, pool-calm}
 use borrow.Author.Needs.{needs}
 use Rattle.merge.proofs.merge.merge_all.Statement.{statement}
 use Rattle.merge.proofs.merge.merge_all.Tie as tie
 
 abbrev Inv-loop : tie.InvT-loop
-Inv-loop ws₀ m p area h o now₀ other₀ ws now other = (length ws ≡ length ws₀) × Pool m p now other ws × Rounds area m ws₀ ws
+Inv-loop ws₀ m p area h o now₀ other₀ top₀ ws now other top = (length ws ≡ length ws₀) × Pool m p now other ws × Rounds area m ws₀ ws × Laid m p now top ws
 
 abbrev μ-loop : tie.MeasureT-loop
-μ-loop ws₀ m p area h o now₀ other₀ ws now other = owners m (recsOf ws m)
+μ-loop ws₀ m p area h o now₀ other₀ top₀ ws now other top = owners m (recsOf ws m)
+
+add-top : tie.Need-add-top Inv-loop μ-loop
+add-top c = search needs
 
 loop-holds : tie.Need-loop-holds Inv-loop μ-loop
-loop-holds c = (search needs, search needs, search rounds-start)
+loop-holds c = (search needs, search needs, search rounds-start, search laid-start)
 
 merge-round-requires : tie.Need-merge-round-requires Inv-loop μ-loop
-merge-round-requires c κs = (search needs, search rounds-joined)
+merge-round-requires c κs = (search needs, (search rounds-joined, search needs))
 
 same-length : tie.Need-same-length Inv-loop μ-loop
 same-length c = search needs
@@ -32,7 +35,7 @@ loop-less : tie.Need-loop-less Inv-loop μ-loop
 loop-less c = search rounds-falls
 
 loop-again : tie.Need-loop-again Inv-loop μ-loop
-loop-again c = (search needs, search needs, search rounds-go)
+loop-again c = (search needs, search needs, search rounds-go, search needs)
 
 pub merge-all-spec : {M : Type 1} → statement M
 merge-all-spec =
@@ -40,6 +43,7 @@ merge-all-spec =
     (tie.spec
     Inv-loop
     μ-loop
+    add-top
     loop-holds
     merge-round-requires
     same-length

@@ -11,7 +11,7 @@ same-length : tie.Need-same-length
 same-length c = search needs
 
 returns : tie.Need-returns
-returns c = (one-not _ _ _ _ _ _ _ (c .before .before .before .before .pre .0) (c .before .before .before .before .pre .1 .1 .0) _ _ (c .before .may-merge .ensures) (c .if1 .left), (c .before .before .before .before .pre .0, search needs))
+returns c = (one-not _ _ _ _ _ _ _ (c .before .before .before .before .pre .0) (c .before .before .before .before .pre .1 .1 .0) _ _ (c .before .may-merge .ensures) (c .if1 .left), (c .before .before .before .before .pre .0, (search needs, c .before .before .before .before .pre .1 .1 .1 .1)))
 
 mul-pick : tie.Need-mul-pick
 mul-pick c = search needs
@@ -32,13 +32,13 @@ same-length-2 : tie.Need-same-length-2
 same-length-2 c = search needs
 
 returns-2 : tie.Need-returns-2
-returns-2 c = (one-own _ _ _ _ _ _ _ (c .before .before .before .before .before .before .before .before .pre .0) (c .before .before .before .before .before .before .before .before .pre .1 .1 .0) _ _ (c .before .before .before .before .before .may-merge .ensures) (c .before .before .before .before .if1 .taken) _ _ (c .before .before .pick .ensures .0) (c .if2 .taken), (c .before .before .before .before .before .before .before .before .pre .0, search needs))
+returns-2 c = (one-own _ _ _ _ _ _ _ (c .before .before .before .before .before .before .before .before .pre .0) (c .before .before .before .before .before .before .before .before .pre .1 .1 .0) _ _ (c .before .before .before .before .before .may-merge .ensures) (c .before .before .before .before .if1 .taken) _ _ (c .before .before .pick .ensures .0) (c .if2 .taken), (c .before .before .before .before .before .before .before .before .pre .0, (search needs, c .before .before .before .before .before .before .before .before .pre .1 .1 .1 .1)))
 
 cast-try-merge : tie.Need-cast-try-merge
 cast-try-merge c = search needs
 
 try-merge-requires : tie.Need-try-merge-requires
-try-merge-requires c κs = (c .before .before .before .before .before .before .before .before .before .pre .0, (c .before .before .before .before .before .before .before .before .before .pre .1 .1 .0, (c .before .before .before .pick .ensures .1, (turn-apart _ _ _ _ _ _ _ (c .before .before .before .before .before .before .before .before .before .pre .0) (c .before .before .before .before .before .before .before .before .before .pre .1 .1 .0) (c .before .before .before .before .before .before .before .before .before .args .g .merges) _ (c .before .before .before .before .before .before .may-merge .ensures) (c .before .before .before .before .before .if1 .taken) _ _ (c .before .before .before .pick .ensures .0) (c .before .before .before .before .before .before .before .before .before .pre .1 .0) (c .before .if2 .left), (turn-live _ _ _ _ _ _ _ (c .before .before .before .before .before .before .before .before .before .pre .0) (c .before .before .before .before .before .before .before .before .before .pre .1 .1 .0) (c .before .before .before .before .before .before .before .before .before .args .g .merges) _ (c .before .before .before .before .before .before .may-merge .ensures) (c .before .before .before .before .before .if1 .taken) _ _ (c .before .before .before .pick .ensures .0) (c .before .before .before .before .before .before .before .before .before .pre .1 .0) (c .before .if2 .left), (turn-live-2 _ _ _ _ _ _ _ (c .before .before .before .before .before .before .before .before .before .pre .0) (c .before .before .before .before .before .before .before .before .before .pre .1 .1 .0) (c .before .before .before .before .before .before .before .before .before .args .g .merges) _ (c .before .before .before .before .before .before .may-merge .ensures) (c .before .before .before .before .before .if1 .taken) _ _ (c .before .before .before .pick .ensures .0) (c .before .before .before .before .before .before .before .before .before .pre .1 .0) (c .before .if2 .left) (c .before .before .before .pick .ensures .1), c .before .before .before .before .before .before .before .before .before .pre .1 .1 .1))))))
+try-merge-requires c κs = (c .before .before .before .before .before .before .before .before .before .pre .0, (c .before .before .before .before .before .before .before .before .before .pre .1 .1 .0, (c .before .before .before .pick .ensures .1, (turn-apart _ _ _ _ _ _ _ (c .before .before .before .before .before .before .before .before .before .pre .0) (c .before .before .before .before .before .before .before .before .before .pre .1 .1 .0) (c .before .before .before .before .before .before .before .before .before .args .g .merges) _ (c .before .before .before .before .before .before .may-merge .ensures) (c .before .before .before .before .before .if1 .taken) _ _ (c .before .before .before .pick .ensures .0) (c .before .before .before .before .before .before .before .before .before .pre .1 .0) (c .before .if2 .left), (turn-live _ _ _ _ _ _ _ (c .before .before .before .before .before .before .before .before .before .pre .0) (c .before .before .before .before .before .before .before .before .before .pre .1 .1 .0) (c .before .before .before .before .before .before .before .before .before .args .g .merges) _ (c .before .before .before .before .before .before .may-merge .ensures) (c .before .before .before .before .before .if1 .taken) _ _ (c .before .before .before .pick .ensures .0) (c .before .before .before .before .before .before .before .before .before .pre .1 .0) (c .before .if2 .left), (turn-live-2 _ _ _ _ _ _ _ (c .before .before .before .before .before .before .before .before .before .pre .0) (c .before .before .before .before .before .before .before .before .before .pre .1 .1 .0) (c .before .before .before .before .before .before .before .before .before .args .g .merges) _ (c .before .before .before .before .before .before .may-merge .ensures) (c .before .before .before .before .before .if1 .taken) _ _ (c .before .before .before .pick .ensures .0) (c .before .before .before .before .before .before .before .before .before .pre .1 .0) (c .before .if2 .left) (c .before .before .before .pick .ensures .1), (c .before .before .before .before .before .before .before .before .before .pre .1 .1 .1 .0, c .before .before .before .before .before .before .before .before .before .pre .1 .1 .1 .1)))))))
 
 same-length-3 : tie.Need-same-length-3
 same-length-3 c = search needs

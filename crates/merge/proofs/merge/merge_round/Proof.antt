@@ -1,4 +1,4 @@
--- `merge::merge::merge_round` meets its contract. The loop's invariant: records and merges are the rule's after i turns, and the lists lie in one half.
+-- `merge::merge::merge_round` meets its contract. The loop's invariant: records and merges are the rule's after i turns, and the lists lie in one half, below its top.
 -- That a record bears its own number holds at every turn, since the rule's records stay alike (`round-reps`).
 use Prim.Native.Nat.{_-_, _≤_}
 use mathlib.Core.Path.{_≡_}
@@ -7,7 +7,7 @@ use Rattle.rules.specs.Base.{upto}
 use Rattle.rules.specs.Merge.{Merge}
 use Rattle.table.specs.View.{recsOf}
 use Rattle.pool.specs.Fixed.{mergeOneF}
-use Rattle.pool.specs.Pool.{Pool}
+use Rattle.pool.specs.Pool.{Pool, Laid}
 use Rattle.merge.proofs.TurnLaws.{round-start, round-go, round-end, round-reps}
 use borrow.Author.Needs.{needs}
 use native.Mathlib.Omega.{arith}
@@ -15,17 +15,18 @@ use Rattle.merge.proofs.merge.merge_round.Statement.{statement}
 use Rattle.merge.proofs.merge.merge_round.Tie as tie
 
 abbrev Inv-loop : tie.InvT-loop
-Inv-loop ws₀ m p area h o g₀ i₀ ws g i = (i ≤ m) × (length ws ≡ length ws₀) × (g .merges ≤ i) × Pool m p (g .now) (g .other) ws
+Inv-loop ws₀ m p area h o top g₀ i₀ ws g i = (i ≤ m) × (length ws ≡ length ws₀) × (g .merges ≤ i) × Pool m p (g .now) (g .other) ws
     × (_≡_ {A = Merge} (record { recs = recsOf ws m; merges = g .merges }) (upto i (mergeOneF area) (record { recs = recsOf ws₀ m; merges = 0 })))
+    × Laid m p (g .now) (g .top) ws
 
 abbrev μ-loop : tie.MeasureT-loop
-μ-loop ws₀ m p area h o g₀ i₀ ws g i = m - i
+μ-loop ws₀ m p area h o top g₀ i₀ ws g i = m - i
 
 loop-holds : tie.Need-loop-holds Inv-loop μ-loop
-loop-holds c = (search needs, search needs, search needs, search needs, search round-start)
+loop-holds c = (search needs, search needs, search needs, search needs, search round-start, search needs)
 
 merge-one-requires : tie.Need-merge-one-requires Inv-loop μ-loop
-merge-one-requires c κs = (search needs, (search round-reps, (search needs, omega (arith, c .before .before .loop .inv .3 .held .few))))
+merge-one-requires c κs = (search needs, (search round-reps, (search needs, (omega (arith, c .before .before .loop .inv .3 .held .few), search needs))))
 
 add-i : tie.Need-add-i Inv-loop μ-loop
 add-i c = search needs
@@ -34,13 +35,13 @@ loop-less : tie.Need-loop-less Inv-loop μ-loop
 loop-less c = search needs
 
 loop-again : tie.Need-loop-again Inv-loop μ-loop
-loop-again c = (search needs, search needs, search needs, search needs, search round-go)
+loop-again c = (search needs, search needs, search needs, search needs, search round-go, search needs)
 
 same-length : tie.Need-same-length Inv-loop μ-loop
 same-length c = search needs
 
 returns : tie.Need-returns Inv-loop μ-loop
-returns c = (search round-end, search needs)
+returns c = (search round-end, (search needs, search needs))
 
 pub merge-round-spec : {M : Type 1} → statement M
 merge-round-spec =

@@ -24,7 +24,7 @@ same-length c = search needs
 
 returns : tie.Need-returns
 returns c = let j = c .before .before .before .before .before .before .before .before .before .before .join-lists in
-    absorbed-is _ _ _ _ _ _ _ _ _ (c .before .before .before .before .before .before .before .before .before .before .before .before .before .pre .0) (c .before .before .before .before .before .before .before .before .before .before .before .before .before .pre .1) _ _ _ _ _ _ (j .ensures .0) (j .ensures .1 .0) (j .ensures .1 .1) (c .before .before .before .before .before .before .set-part .ensures) (c .before .before .set-part2 .ensures)
+    absorbed-is _ _ _ _ _ _ _ _ (c .before .before .before .before .before .before .before .before .before .before .before .before .before .pre .0) (c .before .before .before .before .before .before .before .before .before .before .before .before .before .pre .1) _ _ _ _ _ _ (j .ensures .0) (j .ensures .1 .0) (j .ensures .1 .1) (c .before .before .before .before .before .before .set-part .ensures) (c .before .before .set-part2 .ensures)
 
 pub absorb-spec : {M : Type 1} → statement M
 absorb-spec =

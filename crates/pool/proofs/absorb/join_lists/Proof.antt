@@ -1,6 +1,5 @@
--- `pool::absorb::join_lists` meets its contract. Two lists joined in the other half, and renamed. Both fit it, since all lists together do.
-use Rattle.pool.proofs.AbsorbLaws.{join-top}
-use Rattle.pool.proofs.AbsorbLaws.{join-first, join-second, join-entry, join-entry-2, join-room, joined-list, joined-short, joined-frame}
+-- `pool::absorb::join_lists` meets its contract. Two lists joined apart from both, and renamed.
+use Rattle.pool.proofs.AbsorbLaws.{join-first, join-second, join-entry, join-entry-2, join-room, join-top, joined-list, joined-short, joined-frame}
 use borrow.Author.Needs.{needs}
 use Rattle.pool.proofs.absorb.join_lists.Statement.{statement}
 use Rattle.pool.proofs.absorb.join_lists.Tie as tie
@@ -29,20 +28,17 @@ mul-end-of-2 c = search needs
 end-of-requires-2 : tie.Need-end-of-requires-2
 end-of-requires-2 c κs = search needs
 
-add-join : tie.Need-add-join
-add-join c = search needs
-
 join-requires : tie.Need-join-requires
-join-requires c κs = (join-first _ _ _ _ _ _ _ _ _ (c .before .before .before .before .before .before .before .before .before .before .pre .0) (c .before .before .before .before .before .before .before .before .before .before .pre .1) _ _ _ _ (c .before .before .before .before .before .before .before .start-of .ensures .0) (c .before .before .before .before .before .end-of .ensures .0) (c .before .before .before .start-of2 .ensures .0) (c .before .end-of2 .ensures .0), (join-second _ _ _ _ _ _ _ _ _ (c .before .before .before .before .before .before .before .before .before .before .pre .0) (c .before .before .before .before .before .before .before .before .before .before .pre .1) _ _ _ _ (c .before .before .before .before .before .before .before .start-of .ensures .0) (c .before .before .before .before .before .end-of .ensures .0) (c .before .before .before .start-of2 .ensures .0) (c .before .end-of2 .ensures .0), (join-entry _ _ _ _ _ _ _ _ _ (c .before .before .before .before .before .before .before .before .before .before .pre .0) (c .before .before .before .before .before .before .before .before .before .before .pre .1) _ _ _ _ (c .before .before .before .before .before .before .before .start-of .ensures .0) (c .before .before .before .before .before .end-of .ensures .0) (c .before .before .before .start-of2 .ensures .0) (c .before .end-of2 .ensures .0), (join-entry-2 _ _ _ _ _ _ _ _ _ (c .before .before .before .before .before .before .before .before .before .before .pre .0) (c .before .before .before .before .before .before .before .before .before .before .pre .1) _ _ _ _ (c .before .before .before .before .before .before .before .start-of .ensures .0) (c .before .before .before .before .before .end-of .ensures .0) (c .before .before .before .start-of2 .ensures .0) (c .before .end-of2 .ensures .0), join-room _ _ _ _ _ _ _ _ _ (c .before .before .before .before .before .before .before .before .before .before .pre .0) (c .before .before .before .before .before .before .before .before .before .before .pre .1) _ _ _ _ (c .before .before .before .before .before .before .before .start-of .ensures .0) (c .before .before .before .before .before .end-of .ensures .0) (c .before .before .before .start-of2 .ensures .0) (c .before .end-of2 .ensures .0)))))
+join-requires c κs = (join-first _ _ _ _ _ _ _ _ (c .before .before .before .before .before .before .before .before .before .before .pre .0) (c .before .before .before .before .before .before .before .before .before .before .pre .1) _ _ _ _ (c .before .before .before .before .before .before .before .start-of .ensures .0) (c .before .before .before .before .before .end-of .ensures .0) (c .before .before .before .start-of2 .ensures .0) (c .before .end-of2 .ensures .0), (join-second _ _ _ _ _ _ _ _ (c .before .before .before .before .before .before .before .before .before .before .pre .0) (c .before .before .before .before .before .before .before .before .before .before .pre .1) _ _ _ _ (c .before .before .before .before .before .before .before .start-of .ensures .0) (c .before .before .before .before .before .end-of .ensures .0) (c .before .before .before .start-of2 .ensures .0) (c .before .end-of2 .ensures .0), (join-entry _ _ _ _ _ _ _ _ (c .before .before .before .before .before .before .before .before .before .before .pre .0) (c .before .before .before .before .before .before .before .before .before .before .pre .1) _ _ _ _ (c .before .before .before .before .before .before .before .start-of .ensures .0) (c .before .before .before .before .before .end-of .ensures .0) (c .before .before .before .start-of2 .ensures .0) (c .before .end-of2 .ensures .0), (join-entry-2 _ _ _ _ _ _ _ _ (c .before .before .before .before .before .before .before .before .before .before .pre .0) (c .before .before .before .before .before .before .before .before .before .before .pre .1) _ _ _ _ (c .before .before .before .before .before .before .before .start-of .ensures .0) (c .before .before .before .before .before .end-of .ensures .0) (c .before .before .before .start-of2 .ensures .0) (c .before .end-of2 .ensures .0), join-room _ _ _ _ _ _ _ _ (c .before .before .before .before .before .before .before .before .before .before .pre .0) (c .before .before .before .before .before .before .before .before .before .before .pre .1) _ _ _ _ (c .before .before .before .before .before .before .before .start-of .ensures .0) (c .before .before .before .before .before .end-of .ensures .0) (c .before .before .before .start-of2 .ensures .0) (c .before .end-of2 .ensures .0)))))
 
 replace-neighbour-requires : tie.Need-replace-neighbour-requires
-replace-neighbour-requires c κs = (c .before .before .before .join .ensures .1 .0 .0, join-top _ _ _ _ _ _ _ _ _ (c .before .before .before .before .before .before .before .before .before .before .before .before .before .before .pre .0) (c .before .before .before .before .before .before .before .before .before .before .before .before .before .before .pre .1) _ _ _ _ (c .before .before .before .before .before .before .before .before .before .before .before .start-of .ensures .0) (c .before .before .before .before .before .before .before .before .before .end-of .ensures .0) (c .before .before .before .before .before .before .before .start-of2 .ensures .0) (c .before .before .before .before .before .end-of2 .ensures .0) (c .before .before .before .join .last .0) _ (c .before .before .before .join .kept .0) (c .before .before .before .join .ensures .1 .0))
+replace-neighbour-requires c κs = (c .before .before .before .join .ensures .1 .0 .0, join-top _ _ _ _ _ _ _ _ (c .before .before .before .before .before .before .before .before .before .before .before .before .before .before .pre .0) (c .before .before .before .before .before .before .before .before .before .before .before .before .before .before .pre .1) _ _ _ _ (c .before .before .before .before .before .before .before .before .before .before .before .start-of .ensures .0) (c .before .before .before .before .before .before .before .before .before .end-of .ensures .0) (c .before .before .before .before .before .before .before .start-of2 .ensures .0) (c .before .before .before .before .before .end-of2 .ensures .0) (c .before .before .before .join .last .0) _ (c .before .before .before .join .kept .0) (c .before .before .before .join .ensures .1 .0))
 
 same-length : tie.Need-same-length
 same-length c = search needs
 
 returns : tie.Need-returns
-returns c = (joined-list _ _ _ _ _ _ _ _ _ (c .before .before .before .before .before .before .before .before .before .before .before .before .before .before .before .before .before .pre .0) (c .before .before .before .before .before .before .before .before .before .before .before .before .before .before .before .before .before .pre .1) _ _ _ _ (c .before .before .before .before .before .before .before .before .before .before .before .before .before .before .start-of .ensures .0) (c .before .before .before .before .before .before .before .before .before .before .before .before .end-of .ensures .0) (c .before .before .before .before .before .before .before .before .before .before .start-of2 .ensures .0) (c .before .before .before .before .before .before .before .before .end-of2 .ensures .0) _ _ _ _ _ _ (c .before .before .before .before .before .before .join .ensures .0) (c .before .before .before .before .before .before .join .ensures .1 .0) (c .before .before .before .before .before .before .join .ensures .1 .1) (c .before .before .replace-neighbour .ensures .0) (c .before .before .replace-neighbour .ensures .1 .0) (c .before .before .replace-neighbour .ensures .1 .1), (joined-short _ _ _ _ _ _ _ _ _ (c .before .before .before .before .before .before .before .before .before .before .before .before .before .before .before .before .before .pre .0) (c .before .before .before .before .before .before .before .before .before .before .before .before .before .before .before .before .before .pre .1) _ _ _ _ (c .before .before .before .before .before .before .before .before .before .before .before .before .before .before .start-of .ensures .0) (c .before .before .before .before .before .before .before .before .before .before .before .before .end-of .ensures .0) (c .before .before .before .before .before .before .before .before .before .before .start-of2 .ensures .0) (c .before .before .before .before .before .before .before .before .end-of2 .ensures .0) _ _ _ _ _ _ (c .before .before .before .before .before .before .join .ensures .0) (c .before .before .before .before .before .before .join .ensures .1 .0) (c .before .before .before .before .before .before .join .ensures .1 .1) (c .before .before .replace-neighbour .ensures .0) (c .before .before .replace-neighbour .ensures .1 .0) (c .before .before .replace-neighbour .ensures .1 .1), joined-frame _ _ _ _ _ _ _ _ _ (c .before .before .before .before .before .before .before .before .before .before .before .before .before .before .before .before .before .pre .0) (c .before .before .before .before .before .before .before .before .before .before .before .before .before .before .before .before .before .pre .1) _ _ _ _ (c .before .before .before .before .before .before .before .before .before .before .before .before .before .before .start-of .ensures .0) (c .before .before .before .before .before .before .before .before .before .before .before .before .end-of .ensures .0) (c .before .before .before .before .before .before .before .before .before .before .start-of2 .ensures .0) (c .before .before .before .before .before .before .before .before .end-of2 .ensures .0) _ _ _ _ _ _ (c .before .before .before .before .before .before .join .ensures .0) (c .before .before .before .before .before .before .join .ensures .1 .0) (c .before .before .before .before .before .before .join .ensures .1 .1) (c .before .before .replace-neighbour .ensures .0) (c .before .before .replace-neighbour .ensures .1 .0) (c .before .before .replace-neighbour .ensures .1 .1)))
+returns c = (joined-list _ _ _ _ _ _ _ _ (c .before .before .before .before .before .before .before .before .before .before .before .before .before .before .before .before .before .pre .0) (c .before .before .before .before .before .before .before .before .before .before .before .before .before .before .before .before .before .pre .1) _ _ _ _ (c .before .before .before .before .before .before .before .before .before .before .before .before .before .before .start-of .ensures .0) (c .before .before .before .before .before .before .before .before .before .before .before .before .end-of .ensures .0) (c .before .before .before .before .before .before .before .before .before .before .start-of2 .ensures .0) (c .before .before .before .before .before .before .before .before .end-of2 .ensures .0) _ _ _ _ _ _ (c .before .before .before .before .before .before .join .ensures .0) (c .before .before .before .before .before .before .join .ensures .1 .0) (c .before .before .before .before .before .before .join .ensures .1 .1) (c .before .before .replace-neighbour .ensures .0) (c .before .before .replace-neighbour .ensures .1 .0) (c .before .before .replace-neighbour .ensures .1 .1), (joined-short _ _ _ _ _ _ _ _ (c .before .before .before .before .before .before .before .before .before .before .before .before .before .before .before .before .before .pre .0) (c .before .before .before .before .before .before .before .before .before .before .before .before .before .before .before .before .before .pre .1) _ _ _ _ (c .before .before .before .before .before .before .before .before .before .before .before .before .before .before .start-of .ensures .0) (c .before .before .before .before .before .before .before .before .before .before .before .before .end-of .ensures .0) (c .before .before .before .before .before .before .before .before .before .before .start-of2 .ensures .0) (c .before .before .before .before .before .before .before .before .end-of2 .ensures .0) _ _ _ _ _ _ (c .before .before .before .before .before .before .join .ensures .0) (c .before .before .before .before .before .before .join .ensures .1 .0) (c .before .before .before .before .before .before .join .ensures .1 .1) (c .before .before .replace-neighbour .ensures .0) (c .before .before .replace-neighbour .ensures .1 .0) (c .before .before .replace-neighbour .ensures .1 .1), joined-frame _ _ _ _ _ _ _ _ (c .before .before .before .before .before .before .before .before .before .before .before .before .before .before .before .before .before .pre .0) (c .before .before .before .before .before .before .before .before .before .before .before .before .before .before .before .before .before .pre .1) _ _ _ _ (c .before .before .before .before .before .before .before .before .before .before .before .before .before .before .start-of .ensures .0) (c .before .before .before .before .before .before .before .before .before .before .before .before .end-of .ensures .0) (c .before .before .before .before .before .before .before .before .before .before .start-of2 .ensures .0) (c .before .before .before .before .before .before .before .before .end-of2 .ensures .0) _ _ _ _ _ _ (c .before .before .before .before .before .before .join .ensures .0) (c .before .before .before .before .before .before .join .ensures .1 .0) (c .before .before .before .before .before .before .join .ensures .1 .1) (c .before .before .replace-neighbour .ensures .0) (c .before .before .replace-neighbour .ensures .1 .0) (c .before .before .replace-neighbour .ensures .1 .1)))
 
 pub join-lists-spec : {M : Type 1} → statement M
 join-lists-spec =
@@ -56,7 +52,6 @@ join-lists-spec =
     start-of-requires-2
     mul-end-of-2
     end-of-requires-2
-    add-join
     join-requires
     replace-neighbour-requires
     same-length

@@ -1,8 +1,8 @@
--- `merge::merge::len_of` meets its contract. Straight line: a part ends at or after its start.
-use Rattle.merge.proofs.TurnLaws.{len-is, len-sub}
+-- `pool::relist::len_of` meets its contract. Straight line: a part ends at or after its start.
+use Rattle.pool.proofs.RelistLaws.{len-sub, len-is}
 use borrow.Author.Needs.{needs}
-use Rattle.merge.proofs.merge.len_of.Statement.{statement}
-use Rattle.merge.proofs.merge.len_of.Tie as tie
+use Rattle.pool.proofs.relist.len_of.Statement.{statement}
+use Rattle.pool.proofs.relist.len_of.Tie as tie
 
 mul-end-of : tie.Need-mul-end-of
 mul-end-of c = search needs
@@ -20,7 +20,7 @@ sub-result : tie.Need-sub-result
 sub-result c = search len-sub
 
 returns : tie.Need-returns
-returns c = search len-is
+returns c = (search len-is, search needs)
 
 pub len-of-spec : {M : Type 1} → statement M
 len-of-spec =

@@ -1,8 +1,8 @@
--- `pool::absorb::recount` meets its contract. Straight line: two stores; the sum of the two counts is bounded by the caller.
+-- `pool::regions::recount` meets its contract. Straight line: two stores; the sum of the two counts is bounded by the caller.
 use Rattle.pool.proofs.RegionLaws.{recount-in}
 use borrow.Author.Needs.{needs}
-use Rattle.pool.proofs.absorb.recount.Statement.{statement}
-use Rattle.pool.proofs.absorb.recount.Tie as tie
+use Rattle.pool.proofs.regions.recount.Statement.{statement}
+use Rattle.pool.proofs.regions.recount.Tie as tie
 
 add-ws : tie.Need-add-ws
 add-ws c = search needs

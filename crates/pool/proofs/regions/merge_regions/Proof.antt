@@ -1,0 +1,63 @@
+-- `pool::regions::merge_regions` meets its contract. Lists, counts, ids, in this order: `region-recs` is the rule's outcome; counts and ids lie below
+-- the table, so `region-pool` and `region-laid` follow from how `relist` leaves the lists.
+use Rattle.pool.proofs.RegionLaws.{spans-fit, columns-in, region-recs, region-pool, region-laid}
+use borrow.Author.Needs.{needs}
+use Rattle.pool.proofs.regions.merge_regions.Statement.{statement}
+use Rattle.pool.proofs.regions.merge_regions.Tie as tie
+
+mul-old : tie.Need-mul-old
+mul-old c = search needs
+
+slice-read-old : tie.Need-slice-read-old
+slice-read-old c = search needs
+
+cast-new : tie.Need-cast-new
+cast-new c = search needs
+
+relist-requires : tie.Need-relist-requires
+relist-requires c κs = search needs
+
+recount-requires : tie.Need-recount-requires
+recount-requires c κs = (search columns-in, (search needs, (search needs, search spans-fit)))
+
+sub-swap : tie.Need-sub-swap
+sub-swap c = search needs
+
+part-swap-start : tie.Need-part-swap-start
+part-swap-start c = search needs
+
+part-swap-end : tie.Need-part-swap-end
+part-swap-end c = search needs
+
+swap-requires : tie.Need-swap-requires
+swap-requires c κs = search needs
+
+same-length : tie.Need-same-length
+same-length c = search needs
+
+returns : tie.Need-returns
+returns c = let r = c .before .before .before .before .before .before .before .before .before .before .relist in
+    let k = c .before .before .before .before .before .before .recount in
+    let s = c .before .before .swap in (
+      region-recs _ _ _ _ _ _ _ _ _ _ _ _ _ _ (c .before .before .before .before .before .before .before .before .before .before .before .before .before .before .pre .0) (c .before .before .before .before .before .before .before .before .before .before .before .before .before .before .pre .1 .1) (r .ensures .0) (r .ensures .1 .0) (r .kept .0) (k .ensures) (k .kept .0) (s .ensures) (s .kept .0),
+      (
+        region-pool _ _ _ _ _ _ _ _ _ _ _ _ _ _ (c .before .before .before .before .before .before .before .before .before .before .before .before .before .before .pre .0) (c .before .before .before .before .before .before .before .before .before .before .before .before .before .before .pre .1 .1) (r .ensures .0) (r .ensures .1 .0) (r .kept .0) (k .ensures) (k .kept .0) (s .ensures) (s .kept .0),
+        region-laid _ _ _ _ _ _ _ _ _ _ _ _ _ _ (c .before .before .before .before .before .before .before .before .before .before .before .before .before .before .pre .0) (c .before .before .before .before .before .before .before .before .before .before .before .before .before .before .pre .1 .1) (r .ensures .0) (r .ensures .1 .0) (r .kept .0) (k .ensures) (k .kept .0) (s .ensures) (s .kept .0) _ (r .ensures .1 .1),
+      ),
+    )
+
+pub merge-regions-spec : {M : Type 1} → statement M
+merge-regions-spec =
+    tie.close
+    (tie.spec
+    mul-old
+    slice-read-old
+    cast-new
+    relist-requires
+    recount-requires
+    sub-swap
+    part-swap-start
+    part-swap-end
+    swap-requires
+    same-length
+    returns)

@@ -4,17 +4,15 @@ use Prim.Native.Nat.{ℕ, zero, suc, _+_, _*_, _-_, _/_, _%_, _≤_, _<_}
 use native.Mathlib.Omega.{arith}
 use native.Mathlib.Nat.{mod-lt, suc-mul, mul-comm, div-add-mod', div-lt-iff-lt-mul}
 use native.Mathlib.Numerals.{add-one}
-use native.Mathlib.Decide.{ℕ-discrete}
 use lib.Arith.{digits-lt}
 use mathlib.Core.Path.{_≡_, refl, sym, ap, _∙_}
 use mathlib.Core.Bool.{true, false, false≢true}
 use mathlib.Core.List.{List, [], _∷_}
 use lib.ListN.{length, getD}
 use lib.Dec.{eqb, leb}
-use borrow.Author.Tests.{eqb-true, ne-eqb, ltb-true, not-true}
-use Rattle.rules.specs.Base.{_or_}
+use borrow.Author.Tests.{eqb-true, ltb-true, not-true}
 use Rattle.rules.specs.Field.{Field, spans, none, near, corner, cellOf, cellTo, leaves, conOf}
-use Rattle.rules.specs.Refusals.{goodCells, goodCon, goodBack}
+use Rattle.rules.specs.Refusals.{goodCells, goodCon}
 use Rattle.laws.proofs.Basics.{both, either, tests, in-list}
 use Rattle.laws.proofs.Cells.{before, before-lt, cellOf-at, cellOf-in, Cell, cells-at, cells-sum, Leads, near-none, near-is}
 use Rattle.laws.proofs.Passes.{wide-pos}
@@ -136,7 +134,7 @@ con-at F ok s (suc (suc zero)) h g = getD-any (F .con) (4 * s + 2) 255 0 (omega 
 con-at F ok s (suc (suc (suc zero))) h g = getD-any (F .con) (4 * s + 3) 255 0 (omega (arith, ok .linked))
 con-at F ok s (suc (suc (suc (suc d)))) h g = absurd (omega arith)
 
--- the laws have `leads` from all six refusals; refusal 6's own check has five
+-- the laws have `leads` from all six refusals; five are enough
 module _ (F : Field) (ok : Reached F) where
   pub reaches : (s d : ℕ) → s < spans F → d < 4 → (conOf F s d ≡ 255 → ⊥) → Leads F s d
   unfolding goodCon
@@ -211,11 +209,6 @@ pub spot-con : (w : ℕ) (is cs : List ℕ) (c s : ℕ) → SomeSpot w is cs c s
 spot-con w is cs c s x =
     omega (arith, x .spot .stands .span, x .spot .reached .celled .linked, ap length (x .spot .linked))
 
--- the neighbour of a span is none only where its connection is
-pub near-con : (F : Field) → Reached F → (s d : ℕ) → s < spans F → d < 4 → near F s d ≡ 65535 → conOf F s d ≡ 255
-near-con F ok s d h g e =
-    elim (ℕ-discrete (conOf F s d) 255) [ yes k ↦ k | no k ↦ absurd (omega (arith, reaches F ok s d h g k .inside, ok .celled .few)) ]
-
 module _ (w : ℕ) (is cs cons : List ℕ) (c s : ℕ) (e : cons ≡ consAt cs s) where
   pub some-leaf : SomeSpot w is cs c s → SomeLeaf w is cons c
   some-leaf x = record { F = x .F; s = s; leaf = spot-leaf (x .F) w is cs cons c s (x .spot) e }
@@ -234,22 +227,6 @@ module _ (w : ℕ) (is cs cons : List ℕ) (c s : ℕ) (e : cons ≡ consAt cs s
       where
         stood : (F : Field) (a b x y : ℕ) → a ≡ b → x ≡ y → Stands F a x → Stands F b y
         stood F a b x y e f r = record { span = omega (arith, r .span); cell = ap (cellOf (F .count)) (sym f) ∙ r .cell ∙ e }
-
-    pub some-step : (a : ℕ) → SomeSpot w is cs c s → d < 4 → a ≡ cellTo w c d → (t ≡ 65535 → ⊥) → SomeSpot w is cs a t
-    some-step a x g p k = record { F = x .F; spot = step-spot (x .F) a (x .spot) g p k }
-
-    pub back-none : d < 4 → t ≡ 65535 → (F : Field) → Spot F w is cs c s → true ≡ goodBack F s d
-    unfolding goodBack _or_
-    back-none g z F v = rw (near-con F (v .reached) s d (v .stands .span) g (sym (near-spot F v) ∙ z))
-
-    pub back-some : (a u : ℕ) → d < 4 → a ≡ cellTo w c d → (t ≡ 65535 → ⊥)
-        → ((F : Field) → Spot F w is cs a t → u ≡ near F t ((d + 2) % 4)) → (F : Field) → Spot F w is cs c s → eqb u s ≡ goodBack F s d
-    unfolding goodBack _or_
-    back-some a u g p k m F v =
-        let q = near-spot F v in
-        let f : eqb (conOf F s d) 255 ≡ false = ne-eqb (conOf F s d) 255 (λ z. k (q ∙ near-none F s d z)) in
-        let b : u ≡ near F (near F s d) ((d + 2) % 4) = m F (step-spot F a v g p k) ∙ ap (λ (x : ℕ). near F x ((d + 2) % 4)) q in
-        rw (f, ← b)
 
 -- the corner neighbour is a neighbour of the neighbour
 pub corner-is : (w : ℕ) (is cs : List ℕ) (a t d r : ℕ) → ((F : Field) → Spot F w is cs a t → r ≡ near F t ((d + 1) % 4))

@@ -79,7 +79,7 @@ pub fn leaves_grid(w: usize, h: usize, c: usize, d: usize) -> bool
 }
 
 // The span in a layer of cell c: the one place where a layer becomes a span.
-fn span_at(index: &[u32], c: usize, l: Layer) -> SpanIx
+pub(crate) fn span_at(index: &[u32], c: usize, l: Layer) -> SpanIx
     requires { ⌜ c < length (now index) ⌝ }
     ensures { λ r. ⌜ r .0 ≡ getD (now (index .entry)) c 0 + l .0 ⌝ }
 {

@@ -12,14 +12,18 @@ use lib.Dec.{eqb, leb, ltb}
 use borrow.Author.Tests.{ne-eqb}
 use Rattle.rules.specs.Base.{_and_, _or_, every}
 use Rattle.rules.specs.Field.{Field, spans, cellTo, leaves}
-use Rattle.rules.specs.Refusals.{goodCells, goodCon, goodBack}
-use Rattle.field.specs.Lent.{Stands, Celled, Reached, Spot, SomeSpot, consAt, names, namesAt, reachAt, backAt, inCell, lent}
-use Rattle.field.proofs.Loops.{every-go, every-halt, every-end, every-ext, every-join}
+use Rattle.rules.specs.Refusals.{goodCells, goodCon}
+use Rattle.field.specs.Lent.{Stands, Celled, Reached, Spot, consAt, names, namesAt, reachAt, inCell, lent}
+use Rattle.field.proofs.Loops.{every-halt, every-end, every-ext, every-join}
 use Rattle.field.proofs.Places.{stands-at, con-at, firstOf, first-is, total-is, across-in, room-left, room-up}
 
 pub not-not : (b : Bool) → b ≡ not (not b)
 not-not true = refl
 not-not false = refl
+
+pub flip : (r b : Bool) (s : Bool) → r ≡ not b → r ≡ s → b ≡ not s
+flip r true s e f = rw (← f) (ap not (sym e))
+flip r false s e f = rw (← f) (ap not (sym e))
 
 -- ---------------------------------------------------------------- refusal 4
 
@@ -81,7 +85,7 @@ module _ (F : Field) (p : ℕ → Bool) (c i k j : ℕ) (e : i ≡ getD (F .inde
   unfolding inCell
   layers-end a h g = rw (← e, ← f) (every-end (λ j. p (i + j)) k j a h g)
 
--- ---------------------------------------------------------------- refusals 5 and 6 of a span
+-- ---------------------------------------------------------------- refusal 5 of a span
 
 pub names-at : (F : Field) → Celled F → (c s : ℕ) (cons : List ℕ) (r : Bool) → Stands F c s → cons ≡ consAt (F .con) s
     → r ≡ every 4 (namesAt (F .w) (F .h) (F .count) c cons) → r ≡ reachAt F s
@@ -113,20 +117,6 @@ room-in-left w h c d r p z = room-left w c d h (sym p ∙ z)
 pub room-in-up : (w h c d : ℕ) (r : Bool) → r ≡ leaves w h c d → r ≡ false → d ≡ 3 → w ≤ c
 room-in-up w h c d r p z = room-up w c d h (sym p ∙ z)
 
--- the loop over the directions of refusal 6, for every field that fits what is lent
-module _ (w : ℕ) (is cs : List ℕ) (c s d : ℕ) where
-  pub back-go : (r : Bool) → ((F : Field) → Spot F w is cs c s → every d (goodBack F s) ≡ true) → ((F : Field) → Spot F w is cs c s → r ≡ goodBack F s d)
-      → r ≡ true → (F : Field) → Spot F w is cs c s → every (d + 1) (goodBack F s) ≡ true
-  back-go r a e t F v = every-go (goodBack F s) d r (a F v) (e F v) t
-
-  pub back-halt : (r : Bool) → d < 4 → ((F : Field) → Spot F w is cs c s → r ≡ goodBack F s d) → r ≡ false → (F : Field) → Spot F w is cs c s → false ≡ backAt F s
-  unfolding backAt
-  back-halt r h e t F v = every-halt (goodBack F s) 4 d r h (e F v) t
-
-  pub back-end : ((F : Field) → Spot F w is cs c s → every d (goodBack F s) ≡ true) → d ≤ 4 → 4 ≤ d → (F : Field) → Spot F w is cs c s → true ≡ backAt F s
-  unfolding backAt
-  back-end a h g F v = every-end (goodBack F s) 4 d (a F v) h g
-
 -- ---------------------------------------------------------------- a layer of cell c, as a loop over the cell's layers has it
 
 module _ (w h : ℕ) (is ks ar cs : List ℕ) (c i k j : ℕ) (e : i ≡ getD is c 0) (f : k ≡ getD ks c 0) (g : j < k) where
@@ -140,10 +130,3 @@ module _ (w h : ℕ) (is ks ar cs : List ℕ) (c i k j : ℕ) (e : i ≡ getD is
   pub layer-spot : Reached (lent w h is ks ar cs) → Spot (lent w h is ks ar cs) w is cs c (i + j)
   layer-spot ok =
       record { reached = ok; wide = refl; indexed = refl; linked = refl; stands = stands-at (lent w h is ks ar cs) (ok .celled) c i k j e f g }
-
-  pub some-layer : Reached (lent w h is ks ar cs) → SomeSpot w is cs c (i + j)
-  some-layer ok = record { F = lent w h is ks ar cs; spot = layer-spot ok }
-
-  pub layer-back : (r : Bool) → Reached (lent w h is ks ar cs) → ((F : Field) → Spot F w is cs c (i + j) → r ≡ backAt F (i + j))
-      → r ≡ backAt (lent w h is ks ar cs) (i + j)
-  layer-back r ok p = p (lent w h is ks ar cs) (layer-spot ok)

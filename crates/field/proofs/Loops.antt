@@ -2,7 +2,7 @@
 -- The rules count down to the first step, the code counts up from it; a + k steps are a steps and the k that follow.
 use Prim.Native.Nat.{ℕ, zero, suc, _+_, _*_, _<_, _≤_}
 use native.Mathlib.Omega.{arith}
-use native.Mathlib.Nat.{le-trans, mul-le-mul-left}
+use native.Mathlib.Nat.{le-trans, mul-le-mul-left, mul-zero, mul-suc}
 use native.Mathlib.Numerals.{add-one}
 use native.Mathlib.Decide.{decLt}
 use mathlib.Core.Path.{_≡_, refl, sym, _∙_}
@@ -37,6 +37,24 @@ every-join a zero p = let e : a + 0 ≡ a = omega arith in rw e (and-yes (every 
     and-yes false = refl
 every-join a (suc k) p =
     let e : a + suc k ≡ suc (a + k) = omega arith in rw (e, every-join a k p) (and-and (every a p) (every k (λ j. p (a + j))) (p (a + k)))
+
+-- two tests at once
+pub every-and : (n : ℕ) (p q : ℕ → Bool) → every n (λ i. p i and q i) ≡ every n p and every n q
+unfolding every _and_
+every-and zero p q = refl
+every-and (suc n) p q = rw (every-and n p q) (swap (every n p) (every n q) (p n) (q n))
+  where
+    swap : (a b c d : Bool) → a and b and (c and d) ≡ a and c and (b and d)
+    swap true true c d = refl
+    swap true false true d = refl
+    swap true false false d = refl
+    swap false b c d = refl
+
+-- a test of h rows of w numbers
+pub every-rows : (w h : ℕ) (p : ℕ → Bool) → every (w * h) p ≡ every h (λ z. every w (λ x. p (w * z + x)))
+unfolding every
+every-rows w zero p = rw (mul-zero w)
+every-rows w (suc h) p = rw (mul-suc w h) (every-join (w * h) w p ∙ rw (every-rows w h p))
 
 -- the loop that tests p, with r the test's result at i
 module _ (p : ℕ → Bool) where

@@ -11,10 +11,9 @@ use mathlib.Core.Bool.{true, false, false≢true}
 use mathlib.Core.List.{List, [], _∷_}
 use lib.ListN.{length, getD}
 use lib.Dec.{eqb, leb}
-use borrow.Author.Tests.{eqb-true, eq-eqb, ne-eqb, ltb-true, not-true}
-use Rattle.rules.specs.Base.{_or_}
+use borrow.Author.Tests.{eqb-true, eqb-false, ltb-true, not-true}
 use Rattle.rules.specs.Field.{Field, spans, none, near, corner, cellOf, cellTo, leaves, conOf}
-use Rattle.rules.specs.Refusals.{goodCells, goodCon, goodBack}
+use Rattle.rules.specs.Refusals.{goodCells, goodCon}
 use Rattle.laws.proofs.Basics.{both, either, tests, in-list}
 use Rattle.laws.proofs.Cells.{before, before-lt, cellOf-at, cellOf-in, Cell, cells-at, cells-sum, Leads, near-none, near-is}
 use Rattle.laws.proofs.Passes.{wide-pos}
@@ -67,13 +66,13 @@ module _ (w c d : ℕ) where
     unfolding leaves
     room-left l e =
         let z : eqb (c % w) 0 ≡ false = rw e at l in
-        elim (ℕ-discrete (c % w) 0) [ yes g ↦ absurd (false≢true (sym z ∙ eq-eqb (c % w) 0 g)) | no g ↦ omega (arith, mod-le c w) ]
+        elim (ℕ-discrete (c % w) 0) [ yes g ↦ absurd (eqb-false (c % w) 0 z g) | no g ↦ omega (arith, mod-le c w) ]
 
     pub room-up : leaves w h c d ≡ false → d ≡ 3 → w ≤ c
     unfolding leaves
     room-up l e =
         let z : eqb (c / w) 0 ≡ false = rw e at l in
-        elim (decLt c w) [ yes g ↦ absurd (false≢true (sym z ∙ eq-eqb (c / w) 0 (div-eq-of-lt g))) | no g ↦ omega arith ]
+        elim (decLt c w) [ yes g ↦ absurd (eqb-false (c / w) 0 z (div-eq-of-lt g)) | no g ↦ omega arith ]
 
 -- ---------------------------------------------------------------- cells
 
@@ -149,7 +148,7 @@ con-at F ok s (suc (suc zero)) h g = getD-any (F .con) (4 * s + 2) 255 0 (omega 
 con-at F ok s (suc (suc (suc zero))) h g = getD-any (F .con) (4 * s + 3) 255 0 (omega (arith, ok .linked))
 con-at F ok s (suc (suc (suc (suc d)))) h g = absurd (omega arith)
 
--- the laws have `leads` from all six refusals; refusal 6's own check has five
+-- the laws have `leads` from all six refusals; five are enough
 module _ (F : Field) (ok : Reached F) where
   pub reaches : (s d : ℕ) → s < spans F → d < 4 → (conOf F s d ≡ 255 → ⊥) → Leads F s d
   unfolding goodCon
@@ -245,11 +244,6 @@ spot-con w is cs c s x =
 pub spot-none : (w : ℕ) (is cs cons : List ℕ) (c s d : ℕ) → cons ≡ consAt cs s → d < 4 → getD cons d 0 ≡ 255 → (F : Field) → Spot F w is cs c s → 65535 ≡ near F s d
 spot-none w is cs cons c s d e g k F v = leaf-none w is cons c d g k F s (spot-leaf F w is cs cons c s v e)
 
--- the neighbour of a span is none only where its connection is
-pub near-con : (F : Field) → Reached F → (s d : ℕ) → s < spans F → d < 4 → near F s d ≡ 65535 → conOf F s d ≡ 255
-near-con F ok s d h g e =
-    elim (ℕ-discrete (conOf F s d) 255) [ yes k ↦ k | no k ↦ absurd (omega (arith, reaches F ok s d h g k .inside, ok .celled .few)) ]
-
 module _ (w : ℕ) (is cs cons : List ℕ) (c s : ℕ) (e : cons ≡ consAt cs s) where
   pub some-leaf : SomeSpot w is cs c s → SomeLeaf w is cons c
   some-leaf x = record { F = x .F; s = s; leaf = spot-leaf (x .F) w is cs cons c s (x .spot) e }
@@ -268,28 +262,6 @@ module _ (w : ℕ) (is cs cons : List ℕ) (c s : ℕ) (e : cons ≡ consAt cs s
       where
         stood : (F : Field) (a b x y : ℕ) → a ≡ b → x ≡ y → Stands F a x → Stands F b y
         stood F a b x y e f r = record { span = omega (arith, r .span); cell = ap (cellOf (F .count)) (sym f) ∙ r .cell ∙ e }
-
-    pub some-step : (a : ℕ) → SomeSpot w is cs c s → d < 4 → a ≡ cellTo w c d → (t ≡ 65535 → ⊥) → SomeSpot w is cs a t
-    some-step a x g p k = record { F = x .F; spot = step-spot (x .F) a (x .spot) g p k }
-
-    pub back-none : d < 4 → t ≡ 65535 → (F : Field) → Spot F w is cs c s → true ≡ goodBack F s d
-    unfolding goodBack _or_
-    back-none g z F v = rw (near-con F (v .reached) s d (v .stands .span) g (sym (near-spot F v) ∙ z))
-
-    pub back-some : (a u : ℕ) → d < 4 → a ≡ cellTo w c d → (t ≡ 65535 → ⊥)
-        → ((F : Field) → Spot F w is cs a t → u ≡ near F t ((d + 2) % 4)) → (F : Field) → Spot F w is cs c s → eqb u s ≡ goodBack F s d
-    unfolding goodBack _or_
-    back-some a u g p k m F v =
-        let q = near-spot F v in
-        let f : eqb (conOf F s d) 255 ≡ false = ne-eqb (conOf F s d) 255 (λ z. k (q ∙ near-none F s d z)) in
-        let b : u ≡ near F (near F s d) ((d + 2) % 4) = m F (step-spot F a v g p k) ∙ ap (λ (x : ℕ). near F x ((d + 2) % 4)) q in
-        rw (f, ← b)
-
--- the corner neighbour is a neighbour of the neighbour
-pub corner-is : (w : ℕ) (is cs : List ℕ) (a t d r : ℕ) → ((F : Field) → Spot F w is cs a t → r ≡ near F t ((d + 1) % 4))
-    → (F : Field) (s : ℕ) → Spot F w is cs a t → t ≡ near F s d → r ≡ corner F s d
-unfolding corner
-corner-is w is cs a t d r n F s v e = n F v ∙ ap (λ (x : ℕ). near F x ((d + 1) % 4)) e
 
 pub turned : (d k : ℕ) → (d + k) % 4 < 4
 turned d k = mod-lt (d + k) (omega arith)

@@ -2,7 +2,7 @@
 -- Each module adds what the code knows after one more test has passed.
 use Prim.Native.Nat.{ℕ, _*_, _≤_, _<_}
 use native.Mathlib.Omega.{arith}
-use mathlib.Core.Path.{_≡_, sym, ap, _∙_}
+use mathlib.Core.Path.{_≡_, sym, _∙_}
 use mathlib.Core.Bool.{Bool, true, false, not}
 use mathlib.Core.List.{List, [], _∷_}
 use lib.ListN.{length}
@@ -14,6 +14,7 @@ use Rattle.laws.proofs.Basics.{both, neither, every-at}
 use Rattle.laws.proofs.Cells.{passed}
 use Rattle.field.specs.Lent.{Celled, Reached, Sound, lent, reachAt, backAt}
 use Rattle.field.proofs.Loops.{product-small}
+use Rattle.field.proofs.Checks.{flip}
 
 not-wide : (F : Field) → F .w ≤ 256 → F .h ≤ 256 → tooWide F ≡ false
 unfolding tooWide _or_
@@ -22,10 +23,6 @@ not-wide F p q = rw (le-ltb 256 (F .w) p, le-ltb 256 (F .h) q)
 not-many : (F : Field) → spans F ≤ 32000 → tooMany F ≡ false
 unfolding tooMany
 not-many F p = le-ltb 32000 (spans F) p
-
-flip : (r b : Bool) (s : Bool) → r ≡ not b → r ≡ s → b ≡ not s
-flip r true s e f = rw (← f) (ap not (sym e))
-flip r false s e f = rw (← f) (ap not (sym e))
 
 -- ---------------------------------------------------------------- what the tests leave
 
@@ -143,20 +140,14 @@ module _ (w h : ℕ) (is ks ar cs : List ℕ) (a b : ℕ) where
                 unfolding refusal if_then_else_ wrongCells wrongReach reachAt
                 refused-5 z = rw (not-wide (lent w h is ks ar cs) p q, not-many (lent w h is ks ar cs) n, flip r₃ (wrongLength (lent w h is ks ar cs) (a ∷ b ∷ [])) true e₃ z₃, ← e₄, z₄, ← e₅, z)
 
-                module _ (z₅ : r₅ ≡ true) where
-                  pub checked-reach : Reached (lent w h is ks ar cs)
-                  unfolding reachAt
-                  checked-reach =
-                      record {
-                        celled = checked-cells;
-                        reach = λ s d g l. every-at 4 (goodCon (lent w h is ks ar cs) s) (every-at (length ar) (reachAt (lent w h is ks ar cs)) (sym e₅ ∙ z₅) s g) d l;
-                      }
+              -- refusals 5 and 6 at once
+              module _ (r : Bool) (e : r ≡ every (length ar) (reachAt (lent w h is ks ar cs)) and every (length ar) (backAt (lent w h is ks ar cs))) where
+                pub refused-none : r ≡ true → 0 ≡ refusal (lent w h is ks ar cs) (a ∷ b ∷ [])
+                unfolding refusal if_then_else_ wrongCells wrongReach reachAt wrongBack backAt
+                refused-none z = let v = both _ _ (sym e ∙ z) in rw (not-wide (lent w h is ks ar cs) p q, not-many (lent w h is ks ar cs) n, flip r₃ (wrongLength (lent w h is ks ar cs) (a ∷ b ∷ [])) true e₃ z₃, ← e₄, z₄, v .0, v .1)
 
-                  module _ (r₆ : Bool) (e₆ : r₆ ≡ every (length ar) (backAt (lent w h is ks ar cs))) where
-                    pub refused-6 : r₆ ≡ false → 6 ≡ refusal (lent w h is ks ar cs) (a ∷ b ∷ [])
-                    unfolding refusal if_then_else_ wrongCells wrongReach reachAt wrongBack backAt
-                    refused-6 z = rw (not-wide (lent w h is ks ar cs) p q, not-many (lent w h is ks ar cs) n, flip r₃ (wrongLength (lent w h is ks ar cs) (a ∷ b ∷ [])) true e₃ z₃, ← e₄, z₄, ← e₅, z₅, ← e₆, z)
-
-                    pub refused-none : r₆ ≡ true → 0 ≡ refusal (lent w h is ks ar cs) (a ∷ b ∷ [])
-                    unfolding refusal if_then_else_ wrongCells wrongReach reachAt wrongBack backAt
-                    refused-none z = rw (not-wide (lent w h is ks ar cs) p q, not-many (lent w h is ks ar cs) n, flip r₃ (wrongLength (lent w h is ks ar cs) (a ∷ b ∷ [])) true e₃ z₃, ← e₄, z₄, ← e₅, z₅, ← e₆, z)
+                pub refused-6 : r ≡ false → (r₅ : Bool) → r₅ ≡ every (length ar) (reachAt (lent w h is ks ar cs)) → r₅ ≡ true → 6 ≡ refusal (lent w h is ks ar cs) (a ∷ b ∷ [])
+                unfolding refusal if_then_else_ wrongCells wrongReach reachAt wrongBack backAt _and_
+                refused-6 z r₅ e₅ z₅ =
+                    let v : every (length ar) (backAt (lent w h is ks ar cs)) ≡ false = rw (← e₅, z₅) at (sym e ∙ z) in
+                    rw (not-wide (lent w h is ks ar cs) p q, not-many (lent w h is ks ar cs) n, flip r₃ (wrongLength (lent w h is ks ar cs) (a ∷ b ∷ [])) true e₃ z₃, ← e₄, z₄, ← e₅, z₅, v)

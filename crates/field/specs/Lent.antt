@@ -84,6 +84,24 @@ reachAt F s = every 4 (goodCon F s)
 unfoldable pub backAt : Field → ℕ → Bool
 backAt F s = every 4 (goodBack F s)
 
+-- both of one connection, and of one span
+unfoldable pub goodLink : Field → ℕ → ℕ → Bool
+goodLink F s d = goodCon F s d and goodBack F s d
+
+unfoldable pub linkAt : Field → ℕ → Bool
+linkAt F s = every 4 (goodLink F s)
+
+-- on which sides of cell c there is a cell across
+pub record Sided (w h c : ℕ) (left down right up : Bool) : Type 0 where
+  pub side-0 : left ≡ not (leaves w h c 0)
+  pub side-1 : down ≡ not (leaves w h c 1)
+  pub side-2 : right ≡ not (leaves w h c 2)
+  pub side-3 : up ≡ not (leaves w h c 3)
+
 -- p holds of each span of cell c
 unfoldable pub inCell : Field → (ℕ → Bool) → ℕ → Bool
 inCell F p c = every (getD (F .count) c 0) (λ j. p (getD (F .index) c 0 + j))
+
+-- p holds of each span of row z
+unfoldable pub inRow : Field → (ℕ → Bool) → ℕ → Bool
+inRow F p z = every (F .w) (λ x. inCell F p (F .w * z + x))

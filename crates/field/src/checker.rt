@@ -1,6 +1,6 @@
 // The refusals in their order: each over the whole field before the next.
-use crate::back::back_ok;
 use crate::cells::cells_ok;
+use crate::links::links_ok;
 use crate::reach::reach_ok;
 ghost use mathlib.Core.Path.{_≡_};
 ghost use mathlib.Core.List.{[], _∷_};
@@ -85,11 +85,12 @@ pub fn check(
     if cells_ok(index, count, area.len()) {} else {
         return Verdict::Refused(Refusal::WrongCells);
     }
+    if links_ok(w, h, index, count, area, con) {
+        return Verdict::Sound;
+    }
+    // One of 5 and 6 applies: a walk of its own tells which.
     if reach_ok(w, h, index, count, area, con) {} else {
         return Verdict::Refused(Refusal::WrongReach);
     }
-    if back_ok(w, h, index, count, area, con) {} else {
-        return Verdict::Refused(Refusal::WrongBack);
-    }
-    Verdict::Sound
+    Verdict::Refused(Refusal::WrongBack)
 }

@@ -69,7 +69,7 @@ pub fn leaves_grid(w: usize, h: usize, c: usize, d: usize) -> bool
 }
 
 // The span in a layer of cell c: the one place where a layer becomes a span.
-fn span_at(index: &[u32], c: usize, l: Layer) -> SpanIx
+pub(crate) fn span_at(index: &[u32], c: usize, l: Layer) -> SpanIx
     requires { ⌜ c < length (now index) ⌝ }
     ensures { λ r. ⌜ r .0 ≡ getD (now (index .entry)) c 0 + l .0 ⌝ }
 {
@@ -85,46 +85,4 @@ pub fn follow(w: usize, index: &[u32], cons: [u8; 4], c: usize, d: usize) -> Pla
     let k = cons[d];
     let span = span_at(index, cell, Layer(k));
     Place { cell, span }
-}
-
-// Where the connection in direction d leads, of a span in cell c that has the connections cons.
-pub fn step(w: usize, index: &[u32], cons: [u8; 4], c: usize, d: usize) -> Place
-    requires { ⌜ SomeLeaf w (now index) cons c × (d < 4) ⌝ }
-    ensures { λ r. ⌜ ((F : Field) (s : ℕ) → Leaf F w (now (index .entry)) cons c s → r .span .0 ≡ near F s d) × ((r .span .0 ≡ 65535 → ⊥) → r .cell ≡ cellTo w c d) ⌝ }
-{
-    if cons[d] == NO_LAYER {
-        return Place {
-            cell: c,
-            span: SpanIx(NO_SPAN),
-        };
-    }
-    follow(w, index, cons, c, d)
-}
-
-// The neighbour in direction d of a span in cell c that has the connections cons, or NO_SPAN.
-pub fn neighbour(w: usize, index: &[u32], cons: [u8; 4], c: usize, d: usize) -> SpanIx
-    requires { ⌜ SomeLeaf w (now index) cons c × (d < 4) ⌝ }
-    ensures { λ r. ⌜ ((F : Field) (s : ℕ) → Leaf F w (now (index .entry)) cons c s → r .0 ≡ near F s d) ⌝ }
-{
-    let p = step(w, index, cons, c, d);
-    p.span
-}
-
-// Where the connection in direction d of the span at place p leads.
-pub fn step_from(w: usize, index: &[u32], con: &[u8], p: Place, d: usize) -> Place
-    requires { ⌜ SomeSpot w (now index) (now con) (p .cell) (p .span .0) × (d < 4) ⌝ }
-    ensures { λ r. ⌜ ((F : Field) → Spot F w (now (index .entry)) (now (con .entry)) (p .cell) (p .span .0) → r .span .0 ≡ near F (p .span .0) d) × ((r .span .0 ≡ 65535 → ⊥) → r .cell ≡ cellTo w (p .cell) d) ⌝ }
-{
-    let s = p.span;
-    let cons = connections(con, s);
-    step(w, index, cons, p.cell, d)
-}
-
-// The corner neighbour in direction d of a span whose neighbour in direction d is at place p, or NO_SPAN.
-pub fn corner(w: usize, index: &[u32], con: &[u8], p: Place, d: usize) -> SpanIx
-    requires { ⌜ SomeSpot w (now index) (now con) (p .cell) (p .span .0) × (d < 4) ⌝ }
-    ensures { λ r. ⌜ ((F : Field) (s : ℕ) → Spot F w (now (index .entry)) (now (con .entry)) (p .cell) (p .span .0) → p .span .0 ≡ near F s d → r .0 ≡ rules.corner F s d) ⌝ }
-{
-    let q = step_from(w, index, con, p, (d + 1) % 4);
-    q.span
 }

@@ -1,6 +1,6 @@
 -- Each branch gives the number of the first test that fails, as the rule does; what passed before it is what the next test requires.
 -- Assumes nothing.
-use Rattle.field.proofs.Refused.{refused-w, refused-h, refused-2, refused-3, same-cells, few-cells, refused-4, checked-cells, refused-5, checked-reach, refused-6, refused-none}
+use Rattle.field.proofs.Refused.{refused-w, refused-h, refused-2, refused-3, same-cells, few-cells, refused-4, checked-cells, refused-5, refused-none, refused-6}
 use borrow.Author.Needs.{needs}
 use Rattle.field.proofs.checker.check.Statement.{statement}
 use Rattle.field.proofs.checker.check.Tie as tie
@@ -26,20 +26,20 @@ cells-ok-requires c κs = (same-cells _ _ _ _ _ _ _ _ (c .before .before .before
 returns-5 : tie.Need-returns-5
 returns-5 c = search (needs, refused-4)
 
-reach-ok-requires : tie.Need-reach-ok-requires
-reach-ok-requires c κs = checked-cells _ _ _ _ _ _ _ _ (c .before .before .before .before .before .before .if1 .left) (c .before .before .before .before .before .if2 .left) (c .before .before .before .before .if3 .left) _ (c .before .before .before .lengths-ok .ensures) (c .before .before .if4 .taken) _ (c .before .cells-ok .ensures) (c .if5 .taken)
+links-ok-requires : tie.Need-links-ok-requires
+links-ok-requires c κs = checked-cells _ _ _ _ _ _ _ _ (c .before .before .before .before .before .before .if1 .left) (c .before .before .before .before .before .if2 .left) (c .before .before .before .before .if3 .left) _ (c .before .before .before .lengths-ok .ensures) (c .before .before .if4 .taken) _ (c .before .cells-ok .ensures) (c .if5 .taken)
 
 returns-6 : tie.Need-returns-6
-returns-6 c = search (needs, refused-5)
+returns-6 c = search (needs, refused-none)
 
-back-ok-requires : tie.Need-back-ok-requires
-back-ok-requires c κs = checked-reach _ _ _ _ _ _ _ _ (c .before .before .before .before .before .before .before .before .if1 .left) (c .before .before .before .before .before .before .before .if2 .left) (c .before .before .before .before .before .before .if3 .left) _ (c .before .before .before .before .before .lengths-ok .ensures) (c .before .before .before .before .if4 .taken) _ (c .before .before .before .cells-ok .ensures) (c .before .before .if5 .taken) _ (c .before .reach-ok .ensures) (c .if6 .taken)
+reach-ok-requires : tie.Need-reach-ok-requires
+reach-ok-requires c κs = checked-cells _ _ _ _ _ _ _ _ (c .before .before .before .before .before .before .before .before .if1 .left) (c .before .before .before .before .before .before .before .if2 .left) (c .before .before .before .before .before .before .if3 .left) _ (c .before .before .before .before .before .lengths-ok .ensures) (c .before .before .before .before .if4 .taken) _ (c .before .before .before .cells-ok .ensures) (c .before .before .if5 .taken)
 
 returns-7 : tie.Need-returns-7
-returns-7 c = search (needs, refused-6)
+returns-7 c = search (needs, refused-5)
 
 returns-8 : tie.Need-returns-8
-returns-8 c = search (needs, refused-none)
+returns-8 c = search (needs, refused-6)
 
 pub check-spec : {M : Type 1} → statement M
 check-spec =
@@ -52,8 +52,8 @@ check-spec =
     returns-4
     cells-ok-requires
     returns-5
-    reach-ok-requires
+    links-ok-requires
     returns-6
-    back-ok-requires
+    reach-ok-requires
     returns-7
     returns-8)

@@ -4,18 +4,18 @@ use Prim.Native.Nat.{_≤_, _-_, _+_}
 use mathlib.Core.Path.{_≡_}
 use mathlib.Core.Bool.{true}
 use Rattle.rules.specs.Base.{every}
-use Rattle.field.specs.Lent.{lent, backAt}
+use Rattle.field.specs.Lent.{lent, linkAt}
 use Rattle.field.proofs.Loops.{every-go}
-use Rattle.field.proofs.Checks.{layers-halt, layers-end, layer-back, some-layer}
+use Rattle.field.proofs.Checks.{layers-halt, layers-end}
 use borrow.Author.Needs.{needs}
-use Rattle.field.proofs.back.cell_ok.Statement.{statement}
-use Rattle.field.proofs.back.cell_ok.Tie as tie
+use Rattle.field.proofs.links.cell_ok.Statement.{statement}
+use Rattle.field.proofs.links.cell_ok.Tie as tie
 
 abbrev Inv-loop : tie.InvT-loop
-Inv-loop w h index count area con c i k j₀ j = (j ≤ k) × (every j (λ l. backAt (lent w h index count area con) (i + l)) ≡ true)
+Inv-loop w h index count area con c sides i k j₀ j = (j ≤ k) × (every j (λ l. linkAt (lent w h index count area con) (i + l)) ≡ true)
 
 abbrev μ-loop : tie.MeasureT-loop
-μ-loop w h index count area con c i k j₀ j = k - j
+μ-loop w h index count area con c sides i k j₀ j = k - j
 
 at32-requires : tie.Need-at32-requires Inv-loop μ-loop
 at32-requires c κs = search needs
@@ -27,14 +27,17 @@ loop-holds : tie.Need-loop-holds Inv-loop μ-loop
 unfolding every
 loop-holds c = search needs
 
-add-t13 : tie.Need-add-t13 Inv-loop μ-loop
-add-t13 c = search needs
+add-t14 : tie.Need-add-t14 Inv-loop μ-loop
+add-t14 c = search needs
+
+cast-t16 : tie.Need-cast-t16 Inv-loop μ-loop
+cast-t16 c = search needs
 
 span-ok-requires : tie.Need-span-ok-requires Inv-loop μ-loop
-span-ok-requires c κs = search (needs, some-layer)
+span-ok-requires c κs = search needs
 
 returns : tie.Need-returns Inv-loop μ-loop
-returns c = search (needs, layers-halt, layer-back)
+returns c = search (needs, layers-halt)
 
 add-j : tie.Need-add-j Inv-loop μ-loop
 add-j c = search needs
@@ -43,7 +46,7 @@ loop-less : tie.Need-loop-less Inv-loop μ-loop
 loop-less c = search needs
 
 loop-again : tie.Need-loop-again Inv-loop μ-loop
-loop-again c = (search needs, search (needs, every-go, layer-back))
+loop-again c = (search needs, search (needs, every-go))
 
 returns-2 : tie.Need-returns-2 Inv-loop μ-loop
 returns-2 c = search (needs, layers-end)
@@ -57,7 +60,8 @@ cell-ok-spec =
     at32-requires
     at8-requires
     loop-holds
-    add-t13
+    add-t14
+    cast-t16
     span-ok-requires
     returns
     add-j

@@ -1,0 +1,229 @@
+-- A connection that leads into the grid is answered by the layer that it comes from: the way back leads to the same cell, where a layer is one span.
+-- The rows of the grid in order are its cells in order, and a column and a row tell on which sides of a cell there is another.
+use Prim.Native.Nat.{ℕ, zero, suc, _+_, _*_, _/_, _%_, _≤_, _<_}
+use native.Mathlib.Omega.{arith}
+use native.Mathlib.Nat.{mul-comm, zero-mod, div-eq-of-lt}
+use native.Mathlib.Decide.{decLt, ℕ-discrete}
+use lib.Arith.{digits-lt, digits-div, digits-mod}
+use mathlib.Core.Path.{_≡_, refl, sym, ap, _∙_}
+use mathlib.Core.Bool.{Bool, true, false, not}
+use mathlib.Core.List.{List}
+use lib.ListN.{length, getD}
+use lib.Dec.{eqb, leb, ltb}
+use borrow.Author.Tests.{eqb-false, eq-eqb, ne-eqb, lt-ltb, le-ltb, lt-leb, le-leb}
+use mir.Val.{Fits}
+use mir.Syntax.{w64}
+use Rattle.rules.specs.Base.{_and_, _or_, every}
+use Rattle.rules.specs.Field.{Field, spans, cellOf, cellTo, leaves, conOf, near}
+use Rattle.rules.specs.Refusals.{goodCon, goodBack}
+use Rattle.laws.proofs.Basics.{both, in-list}
+use Rattle.laws.proofs.Cells.{near-none, near-is}
+use Rattle.field.specs.Lent.{Stands, Celled, Sided, consAt, reachAt, backAt, goodLink, linkAt, inCell, inRow, lent}
+use Rattle.field.proofs.Loops.{every-ext, every-and, every-rows, every-halt, every-end}
+use Rattle.field.proofs.Places.{getD-any, leaves-0, leaves-3, room-left, room-up, layer-stands, cell-is, con-at, turned, across-in}
+use Rattle.field.proofs.Checks.{flip, every-cells}
+
+-- ---------------------------------------------------------------- there and back
+
+-- a cell that has a cell across in direction d is far enough in to subtract
+module _ (w h c d : ℕ) (r : Bool) (i : r ≡ not (leaves w h c d)) (z : r ≡ true) where
+  pub inside-left : d ≡ 0 → 0 < c
+  inside-left = room-left w c d h (flip r _ true i z)
+
+  pub inside-up : d ≡ 3 → w ≤ c
+  inside-up = room-up w c d h (flip r _ true i z)
+
+-- the way back leads to the cell that it comes from
+there-back : (w h c d : ℕ) (r : Bool) → r ≡ not (leaves w h c d) → r ≡ true → d < 4 → cellTo w (cellTo w c d) ((d + 2) % 4) ≡ c
+unfolding cellTo
+there-back w h c zero r i z l = omega (arith, inside-left w h c 0 r i z refl)
+there-back w h c (suc zero) r i z l = omega arith
+there-back w h c (suc (suc zero)) r i z l = omega arith
+there-back w h c (suc (suc (suc zero))) r i z l = omega (arith, inside-up w h c 3 r i z refl)
+there-back w h c (suc (suc (suc (suc d)))) r i z l = absurd (omega arith)
+
+-- an answer m leads to the span i + m, or to none: to s = i + j only where it is j
+answer-is : (i j m n s : ℕ) → i + j ≡ s → s < 65535 → j ≤ 63 → (m ≡ 255 → n ≡ 65535) → ((m ≡ 255 → ⊥) → n ≡ i + m) → eqb m j ≡ eqb n s
+answer-is i j m n s e b f p q =
+    elim (ℕ-discrete m j) [
+      | yes h ↦ let k : n ≡ i + m = q (λ z. omega arith) in eq-eqb m j h ∙ sym (eq-eqb n s (omega arith))
+      | no h ↦ ne-eqb m j h ∙ sym (ne-eqb n s (λ z. elim (ℕ-discrete m 255) [ yes k ↦ omega (arith, p k) | no k ↦ h (omega (arith, q k)) ]))
+    ]
+
+-- the span in layer j of cell c, with its connection k in direction d
+module _ (w h : ℕ) (is ks ar cs : List ℕ) (ok : Celled (lent w h is ks ar cs)) (c j k d : ℕ) (g : j < getD ks c 0)
+    (e : k ≡ conOf (lent w h is ks ar cs) (getD is c 0 + j) d) where
+  here : Stands (lent w h is ks ar cs) c (getD is c 0 + j)
+  here = layer-stands (lent w h is ks ar cs) ok c j g
+
+  pub link-none : k ≡ 255 → true ≡ goodLink (lent w h is ks ar cs) (getD is c 0 + j) d
+  unfolding goodLink goodCon goodBack _or_ _and_
+  link-none z = rw (← e, z)
+
+  link-cell : c < w * h
+  link-cell = omega (arith, in-list ks c (omega arith), ok .counted)
+
+  pub link-small : c < 65536
+  link-small = omega (arith, link-cell, ok .grid)
+
+  module _ (n : k ≡ 255 → ⊥) (r : Bool) (i : r ≡ not (leaves w h c d)) where
+    pub link-out : r ≡ false → false ≡ goodLink (lent w h is ks ar cs) (getD is c 0 + j) d
+    unfolding goodLink goodCon _or_ _and_
+    link-out z = rw (← e, ne-eqb k 255 n, here .cell, ← i, z)
+
+    module _ (z : r ≡ true) (l : d < 4) (a : ℕ) (p : a ≡ cellTo w c d) where
+      -- the cell across is there
+      link-in : a < w * h
+      link-in = rw p (across-in w h c d link-cell l (flip r _ true i z))
+
+      pub link-counted : a < length ks
+      link-counted = omega (arith, link-in, ok .counted)
+
+      pub link-indexed : a < length is
+      link-indexed = omega (arith, link-in, ok .indexed)
+
+      -- and lacks the layer
+      pub link-over : getD ks a 0 ≤ k → false ≡ goodLink (lent w h is ks ar cs) (getD is c 0 + j) d
+      unfolding goodLink goodCon _or_ _and_
+      link-over m = rw (← e, ne-eqb k 255 n, here .cell, ← i, z, ← p, le-ltb k (getD ks a 0) m)
+
+      -- or has it, as span t
+      module _ (m : k < getD ks a 0) (t : ℕ) (q : t ≡ getD is a 0 + k) where
+        there : Stands (lent w h is ks ar cs) a t
+        there = rw q (layer-stands (lent w h is ks ar cs) ok a k m)
+
+        pub link-room : 4 * t + (d + 2) % 4 < length cs
+        link-room = omega (arith, there .span, ok .linked, turned d 2)
+
+        pub link-four : Fits w64 (4 * t)
+        link-four = omega (arith, there .span, ok .few)
+
+        pub link-fits : Fits w64 (4 * t + (d + 2) % 4)
+        link-fits = omega (arith, there .span, ok .few, turned d 2)
+
+        leads-to : near (lent w h is ks ar cs) (getD is c 0 + j) d ≡ t
+        leads-to = near-is (lent w h is ks ar cs) (getD is c 0 + j) d (λ x. n (e ∙ x)) ∙ rw (here .cell, ← p, ← e, q)
+
+        answer : (v : ℕ) → v ≡ conOf (lent w h is ks ar cs) t ((d + 2) % 4) → eqb v j ≡ eqb (near (lent w h is ks ar cs) t ((d + 2) % 4)) (getD is c 0 + j)
+        answer v f =
+            let b : cellTo w (cellOf ks t) ((d + 2) % 4) ≡ c = rw (there .cell, p) (there-back w h c d r i z l) in
+            answer-is (getD is c 0) j v (near (lent w h is ks ar cs) t ((d + 2) % 4)) (getD is c 0 + j) refl
+            (omega (arith, here .span, ok .few))
+            (omega (arith, cell-is (lent w h is ks ar cs) ok c .few))
+            (λ x. near-none (lent w h is ks ar cs) t ((d + 2) % 4) (sym f ∙ x))
+            (λ x. near-is (lent w h is ks ar cs) t ((d + 2) % 4) (λ y. x (f ∙ y)) ∙ rw (b, f))
+
+        read-con : getD cs (4 * t + (d + 2) % 4) 0 ≡ conOf (lent w h is ks ar cs) t ((d + 2) % 4)
+        unfolding conOf
+        read-con = getD-any cs (4 * t + (d + 2) % 4) 0 255 link-room
+
+        pub link-back : eqb (getD cs (4 * t + (d + 2) % 4) 0) j ≡ goodLink (lent w h is ks ar cs) (getD is c 0 + j) d
+        unfolding goodLink goodCon goodBack _or_ _and_
+        link-back =
+            rw (← e, ne-eqb k 255 n, here .cell, ← i, z, ← p, lt-ltb k (getD ks a 0) m, leads-to)
+            (answer (getD cs (4 * t + (d + 2) % 4) 0) read-con)
+
+-- ---------------------------------------------------------------- the four connections of a span
+
+module _ (w h : ℕ) (is ks ar cs : List ℕ) (ok : Celled (lent w h is ks ar cs)) (c j s : ℕ) (e : s ≡ getD is c 0 + j) (g : j < getD ks c 0) where
+  pub span-room : 4 * s + 3 < length cs
+  span-room = omega (arith, layer-stands (lent w h is ks ar cs) ok c j g .span, ok .linked)
+
+  pub span-con : (cons : List ℕ) (d : ℕ) → cons ≡ consAt cs s → d < 4 → getD cons d 0 ≡ conOf (lent w h is ks ar cs) (getD is c 0 + j) d
+  span-con cons d f l =
+      ap (λ (x : List ℕ). getD x d 0) (f ∙ ap (consAt cs) e)
+      ∙ sym (con-at (lent w h is ks ar cs) ok (getD is c 0 + j) d (layer-stands (lent w h is ks ar cs) ok c j g .span) l)
+
+  pub span-halt : (d : ℕ) (r : Bool) → r ≡ goodLink (lent w h is ks ar cs) (getD is c 0 + j) d → r ≡ false → d < 4 → false ≡ linkAt (lent w h is ks ar cs) s
+  unfolding linkAt
+  span-halt d r f z l = rw e (every-halt (goodLink (lent w h is ks ar cs) (getD is c 0 + j)) 4 d r l f z)
+
+  pub span-end : (r₀ r₁ r₂ r₃ : Bool)
+      → r₀ ≡ goodLink (lent w h is ks ar cs) (getD is c 0 + j) 0 → r₀ ≡ true
+      → r₁ ≡ goodLink (lent w h is ks ar cs) (getD is c 0 + j) 1 → r₁ ≡ true
+      → r₂ ≡ goodLink (lent w h is ks ar cs) (getD is c 0 + j) 2 → r₂ ≡ true
+      → r₃ ≡ goodLink (lent w h is ks ar cs) (getD is c 0 + j) 3 → r₃ ≡ linkAt (lent w h is ks ar cs) s
+  unfolding linkAt every _and_
+  span-end r₀ r₁ r₂ r₃ f₀ z₀ f₁ z₁ f₂ z₂ f₃ = rw (e, ← f₀, z₀, ← f₁, z₁, ← f₂, z₂, ← f₃)
+
+-- ---------------------------------------------------------------- a cell by its column and row
+
+pub zero-ltb : (x : ℕ) → x ≡ 0 → ltb 0 x ≡ false
+zero-ltb x e = le-ltb 0 x (omega arith)
+
+pub some-ltb : (x : ℕ) → (x ≡ 0 → ⊥) → ltb 0 x ≡ true
+some-ltb x n = lt-ltb 0 x (omega arith)
+
+pos-is : (x : ℕ) → ltb 0 x ≡ not (eqb x 0)
+pos-is x = elim (ℕ-discrete x 0) [ yes e ↦ rw (zero-ltb x e, eq-eqb x 0 e) | no e ↦ rw (some-ltb x e, ne-eqb x 0 e) ]
+
+less-is : (a b : ℕ) → ltb a b ≡ not (leb b a)
+less-is a b = elim (decLt a b) [ yes e ↦ rw (lt-ltb a b e, lt-leb b a e) | no e ↦ let g : b ≤ a = omega arith in rw (le-ltb a b g, le-leb b a g) ]
+
+module _ (w h x z : ℕ) (a : x < w) (b : z < h) where
+  pub column-in : w * z + x < w * h
+  column-in =
+      let y : z * w + x < h * w = digits-lt b a in
+      omega (arith, mul-comm z w, mul-comm h w)
+
+  column-is : (w * z + x) % w ≡ x
+  column-is = rw (mul-comm w z) (digits-mod z a)
+
+  row-is : (w * z + x) / w ≡ z
+  row-is = rw (mul-comm w z) (digits-div z a)
+
+  pub sided-some : Sided w h (w * z + x) (ltb 0 x) (ltb (z + 1) h) (ltb (x + 1) w) (ltb 0 z)
+  unfolding leaves
+  sided-some =
+      record {
+        side-0 = rw column-is (pos-is x);
+        side-1 = rw row-is (less-is (z + 1) h);
+        side-2 = rw column-is (less-is (x + 1) w);
+        side-3 = rw row-is (pos-is z);
+      }
+
+  pub sided-all : (r : Bool) → r ≡ ltb 0 x and ltb (x + 1) w and ltb 0 z and ltb (z + 1) h → r ≡ true → Sided w h (w * z + x) true true true true
+  sided-all r e t =
+      let p = both _ _ (sym e ∙ t) in
+      let q = both _ _ (p .0) in
+      let v = both _ _ (q .0) in
+      record {
+        side-0 = sym (v .0) ∙ sided-some .side-0;
+        side-1 = sym (p .1) ∙ sided-some .side-1;
+        side-2 = sym (v .1) ∙ sided-some .side-2;
+        side-3 = sym (q .1) ∙ sided-some .side-3;
+      }
+
+  module _ (is ks ar cs : List ℕ) (ok : Celled (lent w h is ks ar cs)) where
+    pub row-fits : Fits w64 (w * z)
+    row-fits = omega (arith, column-in, ok .grid)
+
+    pub column-fits : Fits w64 (w * z + x)
+    column-fits = omega (arith, column-in, ok .grid)
+
+-- ---------------------------------------------------------------- rows
+
+-- the loop over the columns of row z
+module _ (F : Field) (p : ℕ → Bool) (x z : ℕ) where
+  pub columns-halt : (r : Bool) → x < F .w → r ≡ inCell F p (F .w * z + x) → r ≡ false → false ≡ inRow F p z
+  unfolding inRow
+  columns-halt r h e t = every-halt (λ y. inCell F p (F .w * z + y)) (F .w) x r h e t
+
+  pub columns-end : every x (λ y. inCell F p (F .w * z + y)) ≡ true → x ≤ F .w → F .w ≤ x → true ≡ inRow F p z
+  unfolding inRow
+  columns-end a h g = every-end (λ y. inCell F p (F .w * z + y)) (F .w) x a h g
+
+-- every row is every span, and both refusals of it
+module _ (F : Field) (ok : Celled F) where
+  all-links : every (F .h) (inRow F (linkAt F)) ≡ every (spans F) (reachAt F) and every (spans F) (backAt F)
+  unfolding inRow linkAt goodLink reachAt backAt
+  all-links =
+      sym (every-rows (F .w) (F .h) (inCell F (linkAt F))) ∙ rw (← ok .counted) (every-cells F ok (linkAt F))
+      ∙ every-ext (spans F) (linkAt F) (λ s. reachAt F s and backAt F s) (λ s _. every-and 4 (goodCon F s) (goodBack F s))
+      ∙ every-and (spans F) (reachAt F) (backAt F)
+
+  pub rows-halt : (z : ℕ) (r : Bool) → z < F .h → r ≡ inRow F (linkAt F) z → r ≡ false → false ≡ every (spans F) (reachAt F) and every (spans F) (backAt F)
+  rows-halt z r h e t = every-halt (inRow F (linkAt F)) (F .h) z r h e t ∙ all-links
+
+  pub rows-end : (z : ℕ) → every z (inRow F (linkAt F)) ≡ true → z ≤ F .h → F .h ≤ z → true ≡ every (spans F) (reachAt F) and every (spans F) (backAt F)
+  rows-end z a h g = every-end (inRow F (linkAt F)) (F .h) z a h g ∙ all-links

@@ -58,6 +58,32 @@ pub fn side_gussetraft_regions(
     build_regions(field, distances, max_distance, sizes, workspace, ids)
 }
 
+/// The checks that the distance entry makes.
+#[unsafe(no_mangle)]
+#[inline(never)]
+pub fn side_checker_distance(
+    field: &gussetraft::Field,
+    distances: &[u16],
+    sizes: &Sizes,
+    short: &mut [u16],
+    ids: &mut [u16],
+) -> Result<Regions, Refusal> {
+    build_regions(field, distances, 1, sizes, short, ids)
+}
+
+/// The checks that the region entry makes.
+#[unsafe(no_mangle)]
+#[inline(never)]
+pub fn side_checker_regions(
+    field: &gussetraft::Field,
+    distances: &[u16],
+    sizes: &Sizes,
+    workspace: &mut [u16],
+    ids: &mut [u16],
+) -> Result<Regions, Refusal> {
+    build_regions(field, distances, 0, sizes, workspace, ids)
+}
+
 /// The unchanged Rust's distances.
 #[unsafe(no_mangle)]
 #[inline(never)]
@@ -127,42 +153,27 @@ pub fn gussetraft(case: &Case, entries: Entries, mark: impl Fn(u64)) -> Answer {
     }
 }
 
-/// Gussetraft's entries, refused at the last thing that their checkers look at: the last connection is not answered (6), the last
-/// distance is too far (8). So each call is the checker and nothing else.
+/// Gussetraft's region entry, refused at the last thing that a checker looks at: the workspace, which comes after all that the distance
+/// entry refuses too (7), or the last distance, which comes after all that the region entry refuses (8). So each call is an entry's checks
+/// and nothing else, on a field that passes them.
 pub fn checker(case: &Case, entries: Entries, mark: impl Fn(u64)) {
     let n = case.field.spans();
-    let mut damaged = case.field.clone();
-    damaged.con[last_answer(&case.field).expect("a connection")] = 255;
-    let (mut raw, mut blurred, mut ids) = (vec![1; n], vec![1; n], vec![1; n]);
+    let (field, sizes) = (lent(&case.field), sizes(case));
+    let mut ids = vec![1; n];
     let mut workspace = vec![1; workspace_len(n)];
     let mut far = vec![0; n];
     far[n - 1] = 1;
-    let (damaged, field, sizes) = (lent(&damaged), lent(&case.field), sizes(case));
+    let short = &mut workspace[1..];
     mark(900);
-    let refused = side_gussetraft_distance(&damaged, &mut raw, &mut blurred);
+    let refused = side_checker_distance(&field, &far, &sizes, short, &mut ids);
     mark(1);
-    assert_eq!(refused, Err(Refusal::WrongBack));
+    assert_eq!(refused, Err(Refusal::TooShort));
     if entries == Entries::Both {
         mark(901);
-        let refused = side_gussetraft_regions(&field, &far, 0, &sizes, &mut workspace, &mut ids);
+        let refused = side_checker_regions(&field, &far, &sizes, &mut workspace, &mut ids);
         mark(2);
         assert_eq!(refused, Err(Refusal::TooFar));
     }
-}
-
-/// The place, in the list of connections, of the answer to the last connection in scan order.
-fn last_answer(field: &Field) -> Option<usize> {
-    let mut last = None;
-    for cell in 0..field.cells() {
-        for span in field.spans_in(cell) {
-            for d in 0..4 {
-                if let Some((_, other)) = field.neighbour(cell, span, d) {
-                    last = Some(4 * other + (d + 2) % 4);
-                }
-            }
-        }
-    }
-    last
 }
 
 /// The unchanged Rust's entries.

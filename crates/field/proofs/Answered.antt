@@ -92,14 +92,14 @@ module _ (w h : ℕ) (is ks ar cs : List ℕ) (ok : Celled (lent w h is ks ar cs
         there : Stands (lent w h is ks ar cs) a t
         there = rw q (layer-stands (lent w h is ks ar cs) ok a k m)
 
-        pub link-room : 4 * t + (d + 2) % 4 < length cs
-        link-room = omega (arith, there .span, ok .linked, turned d 2)
+        pub link-room : (u : ℕ) → 4 * t + (d + u) % 4 < length cs
+        link-room u = omega (arith, there .span, ok .linked, turned d u)
 
         pub link-four : Fits w64 (4 * t)
         link-four = omega (arith, there .span, ok .few)
 
-        pub link-fits : Fits w64 (4 * t + (d + 2) % 4)
-        link-fits = omega (arith, there .span, ok .few, turned d 2)
+        pub link-fits : (u : ℕ) → Fits w64 (4 * t + (d + u) % 4)
+        link-fits u = omega (arith, there .span, ok .few, turned d u)
 
         leads-to : near (lent w h is ks ar cs) (getD is c 0 + j) d ≡ t
         leads-to = near-is (lent w h is ks ar cs) (getD is c 0 + j) d (λ x. n (e ∙ x)) ∙ rw (here .cell, ← p, ← e, q)
@@ -115,7 +115,7 @@ module _ (w h : ℕ) (is ks ar cs : List ℕ) (ok : Celled (lent w h is ks ar cs
 
         read-con : getD cs (4 * t + (d + 2) % 4) 0 ≡ conOf (lent w h is ks ar cs) t ((d + 2) % 4)
         unfolding conOf
-        read-con = getD-any cs (4 * t + (d + 2) % 4) 0 255 link-room
+        read-con = getD-any cs (4 * t + (d + 2) % 4) 0 255 (link-room 2)
 
         pub link-back : eqb (getD cs (4 * t + (d + 2) % 4) 0) j ≡ goodLink (lent w h is ks ar cs) (getD is c 0 + j) d
         unfolding goodLink goodCon goodBack _or_ _and_

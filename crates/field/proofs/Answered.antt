@@ -182,18 +182,6 @@ module _ (w h x z : ℕ) (a : x < w) (b : z < h) where
         side-3 = rw row-is (pos-is z);
       }
 
-  pub sided-all : (r : Bool) → r ≡ ltb 0 x and ltb (x + 1) w and ltb 0 z and ltb (z + 1) h → r ≡ true → Sided w h (w * z + x) true true true true
-  sided-all r e t =
-      let p = both _ _ (sym e ∙ t) in
-      let q = both _ _ (p .0) in
-      let v = both _ _ (q .0) in
-      record {
-        side-0 = sym (v .0) ∙ sided-some .side-0;
-        side-1 = sym (p .1) ∙ sided-some .side-1;
-        side-2 = sym (v .1) ∙ sided-some .side-2;
-        side-3 = sym (q .1) ∙ sided-some .side-3;
-      }
-
   module _ (is ks ar cs : List ℕ) (ok : Celled (lent w h is ks ar cs)) where
     pub row-fits : Fits w64 (w * z)
     row-fits = omega (arith, column-in, ok .grid)

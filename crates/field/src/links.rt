@@ -168,24 +168,7 @@ fn cell_ok(
     true
 }
 
-// The cell in column x of row z has a cell on every side.
-fn is_inner(w: usize, h: usize, x: usize, z: usize) -> bool
-    requires { ⌜ (x < w) × (z < h) ⌝ }
-    ensures { λ r. ⌜ r ≡ (ltb 0 x and ltb (x + 1) w and ltb 0 z and ltb (z + 1) h) ⌝ }
-{
-    if x == 0 {
-        return false;
-    }
-    if w <= x + 1 {
-        return false;
-    }
-    if z == 0 {
-        return false;
-    }
-    z + 1 < h
-}
-
-// The cell in column x of row z. Most are inner: with four sides known the compiler makes a walk of its own for them, without the tests.
+// The cell in column x of row z.
 fn column_ok(
     w: usize,
     h: usize,
@@ -200,22 +183,15 @@ fn column_ok(
     ensures { λ r. ⌜ r ≡ inCell (lent w h (now (index .entry)) (now (count .entry)) (now (area .entry)) (now (con .entry))) (linkAt (lent w h (now (index .entry)) (now (count .entry)) (now (area .entry)) (now (con .entry)))) (w * z + x) ⌝ }
 {
     let c = w * z + x;
-    if is_inner(w, h, x, z) {
-        let all = Sides {
-            left: true,
-            down: true,
-            right: true,
-            up: true,
-        };
-        return cell_ok(w, h, index, count, area, con, c, all);
-    }
-    let some = Sides {
+    let down = z + 1 < h;
+    let right = x + 1 < w;
+    let sides = Sides {
         left: 0 < x,
-        down: z + 1 < h,
-        right: x + 1 < w,
+        down,
+        right,
         up: 0 < z,
     };
-    cell_ok(w, h, index, count, area, con, c, some)
+    cell_ok(w, h, index, count, area, con, c, sides)
 }
 
 // Row z.

@@ -1,7 +1,7 @@
 -- The field as lent, what the refusals leave of it, and where a span stands.
 use Prim.Native.Nat.{ℕ, _+_, _*_, _≤_, _<_}
 use mathlib.Core.Path.{_≡_}
-use mathlib.Core.Bool.{Bool, true, not}
+use mathlib.Core.Bool.{Bool, true, false, not}
 use mathlib.Core.List.{List, [], _∷_}
 use lib.ListN.{length, getD}
 use lib.Dec.{ltb, eqb}
@@ -91,12 +91,22 @@ goodLink F s d = goodCon F s d and goodBack F s d
 unfoldable pub linkAt : Field → ℕ → Bool
 linkAt F s = every 4 (goodLink F s)
 
--- on which sides of cell c there is a cell across
-pub record Sided (w h c : ℕ) (left down right up : Bool) : Type 0 where
-  pub side-0 : left ≡ not (leaves w h c 0)
-  pub side-1 : down ≡ not (leaves w h c 1)
-  pub side-2 : right ≡ not (leaves w h c 2)
-  pub side-3 : up ≡ not (leaves w h c 3)
+-- cell c has a cell on every side
+pub record Inner (w h c : ℕ) : Type 0 where
+  pub side-0 : leaves w h c 0 ≡ false
+  pub side-1 : leaves w h c 1 ≡ false
+  pub side-2 : leaves w h c 2 ≡ false
+  pub side-3 : leaves w h c 3 ≡ false
+
+-- cell c is the one in column x of row z
+pub record Column (w h c x z : ℕ) : Type 0 where
+  pub place : c ≡ w * z + x
+  pub column : x < w
+  pub row : z < h
+
+-- that cell has a cell on every side
+unfoldable pub innerAt : ℕ → ℕ → ℕ → ℕ → Bool
+innerAt w h x z = ltb 0 x and ltb (x + 1) w and ltb 0 z and ltb (z + 1) h
 
 -- p holds of each span of cell c
 unfoldable pub inCell : Field → (ℕ → Bool) → ℕ → Bool

@@ -8,24 +8,43 @@ use crate::place::span_at;
 use crate::read::at8;
 use crate::read::at32;
 ghost use mathlib.Core.Path.{_≡_};
-ghost use mathlib.Core.Bool.{not};
+ghost use mathlib.Core.Bool.{false, not};
 ghost use Prim.Native.Nat.{_+_, _*_, _<_};
 ghost use lib.ListN.{getD};
-ghost use lib.Dec.{ltb};
 ghost use Rattle.rules.specs.Base.{_and_, every};
 ghost use Rattle.rules.specs.Field.{spans, leaves, conOf};
-ghost use Rattle.field.specs.Lent.{lent, Celled, Sided, goodLink, linkAt, reachAt, backAt, inCell, inRow};
+ghost use Rattle.field.specs.Lent.{lent, Celled, Inner, Column, innerAt, consAt, goodLink, linkAt, reachAt, backAt, inCell, inRow};
 
-// On which sides of a cell there is a cell across: directions 0, 1, 2 and 3.
-struct Sides {
-    left: bool,
-    down: bool,
-    right: bool,
-    up: bool,
+// The connection k of the span in layer j of cell c, in a direction d that does not leave the grid, is none, or leads to a span that leads back.
+fn link_ok(
+    w: usize,
+    h: usize,
+    index: &[u32],
+    count: &[u8],
+    area: &[u8],
+    con: &[u8],
+    c: usize,
+    j: Layer,
+    k: Layer,
+    d: usize,
+) -> bool
+    requires { ⌜ Celled (lent w h (now index) (now count) (now area) (now con)) × (j .0 < getD (now count) c 0) × (k .0 ≡ conOf (lent w h (now index) (now count) (now area) (now con)) (getD (now index) c 0 + j .0) d) × (d < 4) × (leaves w h c d ≡ false) ⌝ }
+    ensures { λ r. ⌜ r ≡ goodLink (lent w h (now (index .entry)) (now (count .entry)) (now (area .entry)) (now (con .entry))) (getD (now (index .entry)) c 0 + j .0) d ⌝ }
+{
+    if k.0 == NO_LAYER {
+        return true;
+    }
+    let a = cell_across(w, c, d);
+    if count[a] <= k.0 {
+        return false;
+    }
+    let t = span_at(index, a, k);
+    // The answer names a layer of the cell that it comes from: there only j is the span that asked.
+    con[4 * t.0 + (d + 2) % 4] == j.0
 }
 
-// The connection k in direction d of the span in layer j of cell c is none, or leads into the grid to a span that leads back.
-fn link_ok(
+// The same in any direction; inside: it does not leave the grid.
+fn side_ok(
     w: usize,
     h: usize,
     index: &[u32],
@@ -41,23 +60,14 @@ fn link_ok(
     requires { ⌜ Celled (lent w h (now index) (now count) (now area) (now con)) × (j .0 < getD (now count) c 0) × (k .0 ≡ conOf (lent w h (now index) (now count) (now area) (now con)) (getD (now index) c 0 + j .0) d) × (d < 4) × (inside ≡ not (leaves w h c d)) ⌝ }
     ensures { λ r. ⌜ r ≡ goodLink (lent w h (now (index .entry)) (now (count .entry)) (now (area .entry)) (now (con .entry))) (getD (now (index .entry)) c 0 + j .0) d ⌝ }
 {
-    if k.0 == NO_LAYER {
-        return true;
+    if inside {
+        return link_ok(w, h, index, count, area, con, c, j, k, d);
     }
-    if inside {} else {
-        return false;
-    }
-    let a = cell_across(w, c, d);
-    if count[a] <= k.0 {
-        return false;
-    }
-    let t = span_at(index, a, k);
-    // The answer names a layer of the cell that it comes from: there only j is the span that asked.
-    con[4 * t.0 + (d + 2) % 4] == j.0
+    k.0 == NO_LAYER
 }
 
-// The four connections of span s, in layer j of cell c.
-fn span_ok(
+// The connections cons of the span in layer j of cell c, which has a cell on every side. Most cells do: written out, so that no side is tested.
+fn inner_ok(
     w: usize,
     h: usize,
     index: &[u32],
@@ -65,15 +75,42 @@ fn span_ok(
     area: &[u8],
     con: &[u8],
     c: usize,
-    s: SpanIx,
     j: Layer,
-    sides: Sides,
+    cons: [u8; 4],
 ) -> bool
-    requires { ⌜ Celled (lent w h (now index) (now count) (now area) (now con)) × (s .0 ≡ getD (now index) c 0 + j .0) × (j .0 < getD (now count) c 0) × Sided w h c (sides .left) (sides .down) (sides .right) (sides .up) ⌝ }
-    ensures { λ r. ⌜ r ≡ linkAt (lent w h (now (index .entry)) (now (count .entry)) (now (area .entry)) (now (con .entry))) (s .0) ⌝ }
+    requires { ⌜ Celled (lent w h (now index) (now count) (now area) (now con)) × (j .0 < getD (now count) c 0) × (cons ≡ consAt (now con) (getD (now index) c 0 + j .0)) × Inner w h c ⌝ }
+    ensures { λ r. ⌜ r ≡ linkAt (lent w h (now (index .entry)) (now (count .entry)) (now (area .entry)) (now (con .entry))) (getD (now (index .entry)) c 0 + j .0) ⌝ }
 {
-    let cons = connections(con, s);
-    if link_ok(
+    if link_ok(w, h, index, count, area, con, c, j, Layer(cons[0]), 0) {} else {
+        return false;
+    }
+    if link_ok(w, h, index, count, area, con, c, j, Layer(cons[1]), 1) {} else {
+        return false;
+    }
+    if link_ok(w, h, index, count, area, con, c, j, Layer(cons[2]), 2) {} else {
+        return false;
+    }
+    link_ok(w, h, index, count, area, con, c, j, Layer(cons[3]), 3)
+}
+
+// The same of cell c in column x of row z, wherever that is.
+fn edge_ok(
+    w: usize,
+    h: usize,
+    index: &[u32],
+    count: &[u8],
+    area: &[u8],
+    con: &[u8],
+    c: usize,
+    j: Layer,
+    cons: [u8; 4],
+    x: usize,
+    z: usize,
+) -> bool
+    requires { ⌜ Celled (lent w h (now index) (now count) (now area) (now con)) × (j .0 < getD (now count) c 0) × (cons ≡ consAt (now con) (getD (now index) c 0 + j .0)) × Column w h c x z ⌝ }
+    ensures { λ r. ⌜ r ≡ linkAt (lent w h (now (index .entry)) (now (count .entry)) (now (area .entry)) (now (con .entry))) (getD (now (index .entry)) c 0 + j .0) ⌝ }
+{
+    if side_ok(
         w,
         h,
         index,
@@ -84,11 +121,11 @@ fn span_ok(
         j,
         Layer(cons[0]),
         0,
-        sides.left,
+        0 < x,
     ) {} else {
         return false;
     }
-    if link_ok(
+    if side_ok(
         w,
         h,
         index,
@@ -99,11 +136,11 @@ fn span_ok(
         j,
         Layer(cons[1]),
         1,
-        sides.down,
+        z + 1 < h,
     ) {} else {
         return false;
     }
-    if link_ok(
+    if side_ok(
         w,
         h,
         index,
@@ -114,11 +151,11 @@ fn span_ok(
         j,
         Layer(cons[2]),
         2,
-        sides.right,
+        x + 1 < w,
     ) {} else {
         return false;
     }
-    link_ok(
+    side_ok(
         w,
         h,
         index,
@@ -129,8 +166,33 @@ fn span_ok(
         j,
         Layer(cons[3]),
         3,
-        sides.up,
+        0 < z,
     )
+}
+
+// The four connections of span s, in layer j of cell c, in column x of row z; inner: it has a cell on every side.
+fn span_ok(
+    w: usize,
+    h: usize,
+    index: &[u32],
+    count: &[u8],
+    area: &[u8],
+    con: &[u8],
+    c: usize,
+    s: SpanIx,
+    j: Layer,
+    x: usize,
+    z: usize,
+    inner: bool,
+) -> bool
+    requires { ⌜ Celled (lent w h (now index) (now count) (now area) (now con)) × (s .0 ≡ getD (now index) c 0 + j .0) × (j .0 < getD (now count) c 0) × Column w h c x z × (inner ≡ innerAt w h x z) ⌝ }
+    ensures { λ r. ⌜ r ≡ linkAt (lent w h (now (index .entry)) (now (count .entry)) (now (area .entry)) (now (con .entry))) (s .0) ⌝ }
+{
+    let cons = connections(con, s);
+    if inner {
+        return inner_ok(w, h, index, count, area, con, c, j, cons);
+    }
+    edge_ok(w, h, index, count, area, con, c, j, cons, x, z)
 }
 
 // The spans of cell c.
@@ -142,9 +204,11 @@ fn cell_ok(
     area: &[u8],
     con: &[u8],
     c: usize,
-    sides: Sides,
+    x: usize,
+    z: usize,
+    inner: bool,
 ) -> bool
-    requires { ⌜ Celled (lent w h (now index) (now count) (now area) (now con)) × (c < w * h) × Sided w h c (sides .left) (sides .down) (sides .right) (sides .up) ⌝ }
+    requires { ⌜ Celled (lent w h (now index) (now count) (now area) (now con)) × Column w h c x z × (inner ≡ innerAt w h x z) × (c < w * h) ⌝ }
     ensures { λ r. ⌜ r ≡ inCell (lent w h (now (index .entry)) (now (count .entry)) (now (area .entry)) (now (con .entry))) (linkAt (lent w h (now (index .entry)) (now (count .entry)) (now (area .entry)) (now (con .entry)))) c ⌝ }
 {
     let i = at32(index, c);
@@ -160,12 +224,31 @@ fn cell_ok(
             c,
             SpanIx(i + j),
             Layer(j as u8),
-            sides,
+            x,
+            z,
+            inner,
         ) {} else {
             return false;
         }
     }
     true
+}
+
+// The cell in column x of row z has a cell on every side.
+fn is_inner(w: usize, h: usize, x: usize, z: usize) -> bool
+    requires { ⌜ (x < w) × (z < h) ⌝ }
+    ensures { λ r. ⌜ r ≡ innerAt w h x z ⌝ }
+{
+    if x == 0 {
+        return false;
+    }
+    if w <= x + 1 {
+        return false;
+    }
+    if z == 0 {
+        return false;
+    }
+    z + 1 < h
 }
 
 // The cell in column x of row z.
@@ -182,16 +265,8 @@ fn column_ok(
     requires { ⌜ Celled (lent w h (now index) (now count) (now area) (now con)) × (x < w) × (z < h) ⌝ }
     ensures { λ r. ⌜ r ≡ inCell (lent w h (now (index .entry)) (now (count .entry)) (now (area .entry)) (now (con .entry))) (linkAt (lent w h (now (index .entry)) (now (count .entry)) (now (area .entry)) (now (con .entry)))) (w * z + x) ⌝ }
 {
-    let c = w * z + x;
-    let down = z + 1 < h;
-    let right = x + 1 < w;
-    let sides = Sides {
-        left: 0 < x,
-        down,
-        right,
-        up: 0 < z,
-    };
-    cell_ok(w, h, index, count, area, con, c, sides)
+    let inner = is_inner(w, h, x, z);
+    cell_ok(w, h, index, count, area, con, w * z + x, x, z, inner)
 }
 
 // Row z.

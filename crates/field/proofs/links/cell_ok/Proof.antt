@@ -12,10 +12,10 @@ use Rattle.field.proofs.links.cell_ok.Statement.{statement}
 use Rattle.field.proofs.links.cell_ok.Tie as tie
 
 abbrev Inv-loop : tie.InvT-loop
-Inv-loop w h index count area con c sides i k j₀ j = (j ≤ k) × (every j (λ l. linkAt (lent w h index count area con) (i + l)) ≡ true)
+Inv-loop w h index count area con c x z inner i k j₀ j = (j ≤ k) × (every j (λ l. linkAt (lent w h index count area con) (i + l)) ≡ true)
 
 abbrev μ-loop : tie.MeasureT-loop
-μ-loop w h index count area con c sides i k j₀ j = k - j
+μ-loop w h index count area con c x z inner i k j₀ j = k - j
 
 at32-requires : tie.Need-at32-requires Inv-loop μ-loop
 at32-requires c κs = search needs
@@ -27,11 +27,11 @@ loop-holds : tie.Need-loop-holds Inv-loop μ-loop
 unfolding every
 loop-holds c = search needs
 
-add-t14 : tie.Need-add-t14 Inv-loop μ-loop
-add-t14 c = search needs
+add-t16 : tie.Need-add-t16 Inv-loop μ-loop
+add-t16 c = search needs
 
-cast-t16 : tie.Need-cast-t16 Inv-loop μ-loop
-cast-t16 c = search needs
+cast-t18 : tie.Need-cast-t18 Inv-loop μ-loop
+cast-t18 c = search needs
 
 span-ok-requires : tie.Need-span-ok-requires Inv-loop μ-loop
 span-ok-requires c κs = search needs
@@ -60,8 +60,8 @@ cell-ok-spec =
     at32-requires
     at8-requires
     loop-holds
-    add-t14
-    cast-t16
+    add-t16
+    cast-t18
     span-ok-requires
     returns
     add-j

@@ -1,27 +1,25 @@
--- A cell's column and row tell its sides.
+-- A cell's place by its column and row; the product and the sum are below the number of cells.
 -- Assumes nothing.
-use Rattle.field.proofs.Answered.{column-in, sided-some, row-fits, column-fits}
+use Rattle.field.proofs.Answered.{column-in, row-fits, column-fits}
 use borrow.Author.Needs.{needs}
 use Rattle.field.proofs.links.column_ok.Statement.{statement}
 use Rattle.field.proofs.links.column_ok.Tie as tie
 
-mul-c : tie.Need-mul-c
-mul-c c = search (needs, row-fits)
+is-inner-requires : tie.Need-is-inner-requires
+is-inner-requires c κs = search needs
 
-add-c : tie.Need-add-c
-add-c c = search (needs, column-fits)
+mul-cell-ok : tie.Need-mul-cell-ok
+mul-cell-ok c = search (needs, row-fits)
 
-add-down : tie.Need-add-down
-add-down c = search needs
-
-add-right : tie.Need-add-right
-add-right c = search needs
+add-cell-ok : tie.Need-add-cell-ok
+add-cell-ok c = search (needs, column-fits)
 
 cell-ok-requires : tie.Need-cell-ok-requires
-cell-ok-requires c κs = (search needs, search (needs, column-in), search (needs, sided-some))
+cell-ok-requires c κs = (search needs, search needs, search needs, search (needs, column-in))
 
 returns : tie.Need-returns
 returns c = search needs
 
 pub column-ok-spec : {M : Type 1} → statement M
-column-ok-spec = tie.close (tie.spec mul-c add-c add-down add-right cell-ok-requires returns)
+column-ok-spec =
+    tie.close (tie.spec is-inner-requires mul-cell-ok add-cell-ok cell-ok-requires returns)

@@ -1,6 +1,7 @@
--- `link_ok` is the rules' test of one connection, branch by branch. A side that has a cell across makes the count, the index and the answer there to read.
+-- `link_ok` is the rules' test of one connection, branch by branch. The cell across is in the grid, so its count, its index and the answer are there to read.
 -- The answer is compared as a layer: the way back leads to cell c, where j is the span that asked and no other.
-use Rattle.field.proofs.Answered.{inside-left, inside-up, link-none, link-small, link-out, link-counted, link-indexed, link-over, link-room, link-four, link-fits, link-back}
+use Rattle.field.proofs.Places.{room-left, room-up}
+use Rattle.field.proofs.Answered.{link-none, link-small, link-counted, link-indexed, link-over, link-room, link-four, link-fits, link-back}
 use borrow.Author.Needs.{needs}
 use Rattle.field.proofs.links.link_ok.Statement.{statement}
 use Rattle.field.proofs.links.link_ok.Tie as tie
@@ -8,17 +9,14 @@ use Rattle.field.proofs.links.link_ok.Tie as tie
 returns : tie.Need-returns
 returns c = search (needs, link-none)
 
-returns-2 : tie.Need-returns-2
-returns-2 c = search (needs, link-out)
-
 cell-across-requires : tie.Need-cell-across-requires
-cell-across-requires c κs = search (needs, link-small, inside-left, inside-up)
+cell-across-requires c κs = search (needs, link-small, room-left, room-up)
 
-shared-slice-read-if3 : tie.Need-shared-slice-read-if3
-shared-slice-read-if3 c = search (needs, link-counted)
+shared-slice-read-if2 : tie.Need-shared-slice-read-if2
+shared-slice-read-if2 c = search (needs, link-counted)
 
-returns-3 : tie.Need-returns-3
-returns-3 c = search (needs, link-over)
+returns-2 : tie.Need-returns-2
+returns-2 c = search (needs, link-over)
 
 span-at-requires : tie.Need-span-at-requires
 span-at-requires c κs = search (needs, link-indexed)
@@ -35,21 +33,20 @@ add-result-2 c = search (needs, link-fits)
 shared-slice-read-result : tie.Need-shared-slice-read-result
 shared-slice-read-result c = search (needs, link-room)
 
-returns-4 : tie.Need-returns-4
-returns-4 c = search (needs, link-back)
+returns-3 : tie.Need-returns-3
+returns-3 c = search (needs, link-back)
 
 pub link-ok-spec : {M : Type 1} → statement M
 link-ok-spec =
     tie.close
     (tie.spec
     returns
-    returns-2
     cell-across-requires
-    shared-slice-read-if3
-    returns-3
+    shared-slice-read-if2
+    returns-2
     span-at-requires
     mul-result
     add-result
     add-result-2
     shared-slice-read-result
-    returns-4)
+    returns-3)

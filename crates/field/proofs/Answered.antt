@@ -2,7 +2,7 @@
 -- The rows of the grid in order are its cells in order, and a column and a row tell on which sides of a cell there is another.
 use Prim.Native.Nat.{ℕ, zero, suc, _+_, _*_, _/_, _%_, _≤_, _<_}
 use native.Mathlib.Omega.{arith}
-use native.Mathlib.Nat.{mul-comm, zero-mod, div-eq-of-lt}
+use native.Mathlib.Nat.{mul-comm}
 use native.Mathlib.Decide.{decLt, ℕ-discrete}
 use lib.Arith.{digits-lt, digits-div, digits-mod}
 use mathlib.Core.Path.{_≡_, refl, sym, ap, _∙_}
@@ -10,7 +10,7 @@ use mathlib.Core.Bool.{Bool, true, false, not}
 use mathlib.Core.List.{List}
 use lib.ListN.{length, getD}
 use lib.Dec.{eqb, leb, ltb}
-use borrow.Author.Tests.{eqb-false, eq-eqb, ne-eqb, lt-ltb, le-ltb, lt-leb, le-leb}
+use borrow.Author.Tests.{eq-eqb, ne-eqb, lt-ltb, le-ltb, lt-leb, le-leb}
 use mir.Val.{Fits}
 use mir.Syntax.{w64}
 use Rattle.rules.specs.Base.{_and_, _or_, every}
@@ -20,7 +20,7 @@ use Rattle.laws.proofs.Basics.{both, in-list}
 use Rattle.laws.proofs.Cells.{near-none, near-is}
 use Rattle.field.specs.Lent.{Stands, Celled, Sided, consAt, reachAt, backAt, goodLink, linkAt, inCell, inRow, lent}
 use Rattle.field.proofs.Loops.{every-ext, every-and, every-rows, every-halt, every-end}
-use Rattle.field.proofs.Places.{getD-any, leaves-0, leaves-3, room-left, room-up, layer-stands, cell-is, con-at, turned, across-in}
+use Rattle.field.proofs.Places.{getD-any, room-left, room-up, layer-stands, cell-is, con-at, turned, across-in}
 use Rattle.field.proofs.Checks.{flip, every-cells}
 
 -- ---------------------------------------------------------------- there and back

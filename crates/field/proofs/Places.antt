@@ -12,7 +12,7 @@ use mathlib.Core.List.{List, [], _∷_}
 use lib.ListN.{length, getD}
 use lib.Dec.{eqb, leb}
 use borrow.Author.Tests.{eqb-true, eqb-false, ltb-true, not-true}
-use Rattle.rules.specs.Field.{Field, spans, none, near, corner, cellOf, cellTo, leaves, conOf}
+use Rattle.rules.specs.Field.{Field, spans, none, near, cellOf, cellTo, leaves, conOf}
 use Rattle.rules.specs.Refusals.{goodCells, goodCon}
 use Rattle.laws.proofs.Basics.{both, either, tests, in-list}
 use Rattle.laws.proofs.Cells.{before, before-lt, cellOf-at, cellOf-in, Cell, cells-at, cells-sum, Leads, near-none, near-is}

@@ -5,7 +5,7 @@ ghost use Prim.Native.Nat.{ℕ, _+_, _-_, _*_, _%_, _<_, _≤_};
 ghost use lib.ListN.{length, getD};
 ghost use Rattle.rules.specs.Field.{Field, cellTo, leaves, near};
 ghost use Rattle.rules.specs.Field as rules;
-ghost use Rattle.field.specs.Lent.{consAt, Spot, Leaf, SomeSpot, SomeLeaf};
+ghost use Rattle.field.specs.Lent.{consAt, Leaf, SomeLeaf};
 
 // A span's number.
 pub struct SpanIx(pub usize);

@@ -1,26 +1,26 @@
 -- A flood keeps the ids below the next, and leaves ids for every span of id 0: a failed one changes no id, one that succeeds gives its id to a span that had none
 -- (`flood-leaves`, `flood-zeros`). Assumes nothing.
-use Prim.Native.Nat.{ℕ, zero, suc, _+_, _-_, _≤_, _<_}
+use Prim.Native.Nat.{ℕ, suc, _+_, _-_, _≤_, _<_}
 use native.Mathlib.Omega.{arith}
 use native.Mathlib.Decide.{ℕ-discrete}
 use mathlib.Core.Path.{_≡_, refl, sym, ap, _∙_}
 use mathlib.Core.Bool.{Bool, true, false, not}
 use mathlib.Core.Logic.{⊎-elim, _⊎_, inl, inr}
 use native.Mathlib.Numerals.{add-one}
-use mathlib.Core.List.{List, [], _∷_}
+use mathlib.Core.List.{List, _∷_}
 use lib.ListN.{length, getD, take, drop}
 use lib.Dec.{eqb}
-use borrow.Author.Tests.{eqb-true, eqb-false, eq-eqb, ne-eqb, lt-leb}
+use borrow.Author.Tests.{eqb-true, eq-eqb, ne-eqb, lt-leb}
 use Rattle.rules.specs.Base.{_and_, if_then_else_}
 use Rattle.rules.specs.Field.{Field, spans, none, areaOf}
 use Rattle.rules.specs.Growth.{Marks, idOf, Flow, flood, floods, Ids}
 use Rattle.laws.proofs.NextId.{zeros, flood-zeros}
-use Rattle.rooms.proofs.Flooding.{Leaves, flood-leaves}
+use Rattle.rooms.proofs.Flooding.{flood-leaves}
 use Rattle.flood.specs.Site.{Lent, SomeLent}
 use Rattle.flood.specs.Stack.{marksAt, flowAt, Begins, Blank}
 use Rattle.flood.proofs.Sight.{area-is}
 use lib.Seq.{getD-drop, drop-cons}
-use Rattle.space.specs.Space.{tally, sec}
+use Rattle.space.specs.Space.{sec}
 use Rattle.space.proofs.Laws.{tally-none, sec-drop}
 use Rattle.growth.specs.Seas.{floodOne, Seas, Entries}
 

@@ -1,15 +1,13 @@
 -- The level stacks lie past the source distances, so floods keep them and an expansion changes the turn's alone. Assumes nothing.
 use Prim.Native.Nat.{ℕ, zero, suc, _+_, _-_, _*_, _≤_, _<_}
 use native.Mathlib.Omega.{arith}
-use native.Mathlib.Nat.{suc-mul, le-refl}
-use mathlib.Core.Path.{_≡_, refl, sym, ap, _∙_}
+use native.Mathlib.Nat.{suc-mul}
+use mathlib.Core.Path.{_≡_, refl, sym, _∙_}
 use mathlib.Core.Logic.{_⊎_, inl, inr, ⊎-elim}
 use mathlib.Core.List.{List, [], _∷_}
-use lib.ListN.{length, getD, set, take, drop}
+use lib.ListN.{length, getD, set}
 use Rattle.space.specs.Space.{sec}
-use Rattle.space.proofs.Laws.{sec-drop}
 use Rattle.levels.specs.Levels.{levelsAt}
-use Rattle.expand.specs.Layout.{listAt}
 use Rattle.expand.proofs.Lists.{listAt-cong, listAt-sec}
 
 -- a part that lies within two lists that are the same there

@@ -9,13 +9,13 @@ use mathlib.Core.List.{List, [], _∷_}
 use lib.ListN.{length, getD, set}
 use lib.Dec.{eqb, ltb}
 use borrow.Author.Tests.{eqb-true}
-use Rattle.rules.specs.Base.{_and_, _or_, if_then_else_, upto, tab, many}
+use Rattle.rules.specs.Base.{_and_, _or_, if_then_else_, upto, tab}
 use Rattle.rules.specs.Field.{Field, spans, cellOf}
 use Rattle.rules.specs.Growth.{plain}
 use Rattle.rules.specs.Contour.{firstSolid, contour}
 use Rattle.rules.specs.Records.{Rec, fresh, at, has, others, onceAll, counted, addSpan, records}
 use Rattle.laws.proofs.Basics.{upto-next, tab-at, length-tab}
-use Rattle.laws.proofs.Cells.{cellOf-in, Cell, before}
+use Rattle.laws.proofs.Cells.{cellOf-in, before}
 use Rattle.field.specs.Lent.{Celled}
 use Rattle.field.proofs.Places.{cell-is, sum-is, layer-stands}
 use Rattle.table.specs.View.{part, startOf, endOf, listAt, recAt, recsOf, Held}

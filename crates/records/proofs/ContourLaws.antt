@@ -9,7 +9,7 @@ use lib.ListN.{length, getD, set}
 use lib.Seq.{getD-set-same}
 use lib.Dec.{eqb}
 use borrow.Author.Tests.{eq-eqb, ne-eqb}
-use Rattle.rules.specs.Base.{if_then_else_, many}
+use Rattle.rules.specs.Base.{if_then_else_}
 use Rattle.rules.specs.Field.{Field, areaOf}
 use Rattle.rules.specs.Growth.{plain}
 use Rattle.rules.specs.Records.{Rec, at, fresh, onceAll}

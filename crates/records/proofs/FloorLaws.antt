@@ -11,7 +11,7 @@ use lib.Seq.{take-take}
 use lib.Dec.{eqb}
 use borrow.Rule.Slice.PartMut.{putMid, midOf, same-len-mid}
 use borrow.Author.Tests.{le-ltb}
-use Rattle.rules.specs.Base.{_and_, many}
+use Rattle.rules.specs.Base.{_and_}
 use Rattle.rules.specs.Records.{Rec, at, onceAll}
 use Rattle.space.specs.Space.{Frame, sec}
 use Rattle.space.proofs.Laws.{frame-none, frame-put, getD-before, getD-after, sec-put, sec-after, length-sec}

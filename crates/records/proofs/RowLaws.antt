@@ -7,14 +7,14 @@ use mathlib.Core.Path.{_≡_, sym, ap, _∙_}
 use mathlib.Core.List.{List}
 use lib.ListN.{length, getD, set, take, length-set}
 use lib.Seq.{getD-set-same, getD-set-other, set-set}
-use lib.Dec.{eqb, ltb}
+use lib.Dec.{eqb}
 use borrow.Author.Tests.{le-ltb}
 use Rattle.rules.specs.Base.{_and_, many}
 use Rattle.rules.specs.Records.{Rec, at, fresh}
 use Rattle.laws.proofs.Basics.{many-le}
 use Rattle.table.specs.View.{startOf, endOf, listAt, recAt, view, recsOf, Parts}
 use Rattle.table.proofs.ViewLaws.{view-length, view-at, view-set, rec-same, list-same, wide-same}
-use Rattle.records.specs.Rows.{slot, floorsAt, walked, mine, Row, Keeping, Change, Step}
+use Rattle.records.specs.Rows.{floorsAt, walked, mine, Row, Keeping, Change, Step}
 use Rattle.records.proofs.CountLaws.{slot-room, slot-apart, many-take-le, mine-le}
 
 -- ---------------------------------------------------------------- what lies where

@@ -4,7 +4,7 @@ use Prim.Native.Nat.{ℕ, _+_, _*_, _-_, _≤_, _<_}
 use native.Mathlib.Omega.{arith}
 use native.Mathlib.Decide.{ℕ-discrete, decLt}
 use mathlib.Core.Path.{_≡_, refl, sym, ap, _∙_}
-use mathlib.Core.Bool.{true, false, not}
+use mathlib.Core.Bool.{false, not}
 use mathlib.Core.List.{List, [], _++_}
 use lib.ListN.{length, getD, set, take, replicate, length-append, length-replicate, getD-replicate, List·getD-eq-default}
 use lib.Seq.{getD-append-add, length-take-le, take-at, drop-at}

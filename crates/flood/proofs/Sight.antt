@@ -9,12 +9,12 @@ use lib.ListN.{length, getD, List·getD-eq-default}
 use lib.Dec.{eqb}
 use borrow.Author.Tests.{eq-eqb, ne-eqb, le-leb, lt-leb}
 use Rattle.rules.specs.Base.{_and_, if_then_else_}
-use Rattle.laws.proofs.Basics.{if-ind}
+use Rattle.laws.proofs.Basics.{if-ind, getD-any}
 use Rattle.rules.specs.Field.{Field, near, corner, areaOf}
 use Rattle.rules.specs.Growth.{Marks, idOf, Seed, other, sees, orElse, objects}
 use Rattle.rules.specs.Field.{cellTo}
 use Rattle.field.specs.Lent.{Spot, Leaf, SomeLeaf, consAt}
-use Rattle.field.proofs.Places.{getD-any, near-stands, spot-leaf, spot-con, step-spot}
+use Rattle.field.proofs.Places.{near-stands, spot-leaf, spot-con, step-spot}
 use Rattle.flood.specs.Site.{Ground, SomeGround, objectsAt, seesFrom}
 
 -- ---------------------------------------------------------------- a span that is looked at

@@ -18,7 +18,7 @@ use Rattle.levels.specs.Levels.{levelsAt}
 use Rattle.levels.proofs.LevelLaws.{levels-at}
 use Rattle.growth.specs.Seas.{Seas, Entries}
 use Rattle.growth.specs.Turns.{Ready, stackOf, Washed, Bytes}
-use Rattle.growth.proofs.SeaLaws.{lent-past}
+use Rattle.growth.proofs.SeaLaws.{lent-kept}
 use Rattle.growth.proofs.LowLaws.{floods-low}
 use Rattle.growth.proofs.StackLaws.{levels-past}
 use Rattle.growth.proofs.ExpandTurn.{section, ready-levels}
@@ -71,7 +71,7 @@ module _ (w : ℕ) (is ar cs dist : List ℕ) (b next : ℕ) (fs : List ℕ) (j 
       washed = record {
         ready = record {
           F = v .F;
-          lent = lent-past (v .F) w is ar cs b ws ws′ (omega (arith, v .past)) size d (v .lent);
+          lent = lent-kept (v .F) w is ar cs b ws ws′ (omega (arith, v .past)) size d (v .lent);
           few = v .few;
           past = v .past;
           turn = v .turn;

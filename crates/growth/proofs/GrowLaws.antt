@@ -8,12 +8,11 @@ use borrow.Rule.Slice.PartMut.{putMid, midOf}
 use Rattle.rules.specs.Field.{Field}
 use Rattle.rules.specs.Growth.{expand, blank}
 use Rattle.space.specs.Space.{Frame}
-use Rattle.space.proofs.Laws.{frame-put, getD-after, length-sec}
+use Rattle.space.proofs.Laws.{frame-put, getD-after, length-sec, zeroed}
 use Rattle.flood.specs.Site.{Lent, SomeLent}
 use Rattle.flood.specs.Stack.{marksAt}
 use Rattle.expand.specs.Layout.{Clear, Last}
 use Rattle.expand.proofs.Lists.{marks-same, lent-past, some-past}
-use Rattle.expand.proofs.Blanks.{zeroed}
 use Rattle.growth.specs.Turns.{Between, Ebbed}
 use Rattle.growth.specs.Grow.{turnsFor, Grew}
 use Rattle.growth.proofs.SeaLaws.{past-same}

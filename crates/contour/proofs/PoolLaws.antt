@@ -13,7 +13,7 @@ use borrow.Author.Tests.{eqb-true, eq-eqb, ne-eqb, lt-ltb, not-false}
 use Rattle.rules.specs.Base.{_and_, if_then_else_, many}
 use Rattle.rules.specs.Field.{Field, near, none, cellTo}
 use Rattle.rules.specs.Contour.{across, solid, stride, trim}
-use Rattle.laws.proofs.Basics.{if-ind, both, tests}
+use Rattle.laws.proofs.Basics.{if-ind, both, tests, and-both}
 use Rattle.space.specs.Space.{sec}
 use Rattle.space.proofs.Laws.{length-sec, getD-sec}
 use Rattle.field.specs.Lent.{Leaf, SomeLeaf, consAt}
@@ -212,10 +212,6 @@ module _ (w : ℕ) (is cs ids pool : List ℕ) (c s d start : ℕ) (st : Start w
 
 -- ---------------------------------------------------------------- trimming
 
-and-true : (a b : Bool) → a ≡ true → b ≡ true → a and b ≡ true
-unfolding _and_
-and-true a b p q = rw (p, q)
-
 module _ (pool : List ℕ) (start e : ℕ) (h : start < e) (g : e ≤ length pool) where
   sec-length : length (sec start (e - start) pool) ≡ e - start
   sec-length = length-sec start (e - start) pool (omega arith)
@@ -250,7 +246,7 @@ module _ (pool : List ℕ) (start e : ℕ) (h : start < e) (g : e ≤ length poo
     same =
         let l = sec start (e - start) pool in
         let t : (ltb 1 (length l) and eqb (getD l 0 0) (getD l (length l - 1) 0)) ≡ true =
-        and-true _ _ (lt-ltb 1 (length l) (omega (arith, sec-length))) (eq-eqb _ _ (sec-first ∙ n ∙ sym sec-last)) in
+        and-both _ _ (lt-ltb 1 (length l) (omega (arith, sec-length))) (eq-eqb _ _ (sec-first ∙ n ∙ sym sec-last)) in
         sec-pop pool start e 0 h g ∙ rw t;
     laid = λ pool₀ l. laid-pop pool₀ pool start e l h;
   }

@@ -13,11 +13,11 @@ use borrow.Author.Tests.{eqb-true, eqb-false, ltb-false}
 use Rattle.rules.specs.Base.{upto}
 use Rattle.rules.specs.Field.{Field, spans, areaOf, near, cellOf, cellTo, leaves, conOf}
 use Rattle.rules.specs.Distance.{same, start, far, lower}
-use Rattle.laws.proofs.Basics.{if-ind, tests, tab-at, length-tab, getD-set-at}
+use Rattle.laws.proofs.Basics.{if-ind, tests, tab-at, length-tab, getD-set-at, getD-any}
 use Rattle.laws.proofs.Cells.{near-none, before, cellOf-in}
 use Rattle.laws.proofs.Passes.{wide-pos, mod-pred, same-le}
 use Rattle.field.specs.Lent.{Stands, Reached, Spot, lent}
-use Rattle.field.proofs.Places.{getD-any, cell-is, sum-is, stands-in, reaches, near-stands}
+use Rattle.field.proofs.Places.{cell-is, sum-is, stands-in, reaches, near-stands}
 use Rattle.field.proofs.Checks.{layer-spot}
 use Rattle.field.proofs.Loops.{upto-go}
 use Rattle.distance.specs.Value.{side, least, Passing, Low, Room}

@@ -7,8 +7,9 @@ use mathlib.Core.List.{List}
 use lib.ListN.{length, getD, List·getD-eq-default}
 use Rattle.rules.specs.Field.{Field, spans, near, cellTo}
 use Rattle.rules.specs.Distance.{far}
+use Rattle.laws.proofs.Basics.{getD-any}
 use Rattle.field.specs.Lent.{Spot, SomeSpot, Leaf, SomeLeaf, consAt}
-use Rattle.field.proofs.Places.{getD-any, near-stands, near-spot, spot-con, spot-leaf, some-leaf, step-spot, leaf-none}
+use Rattle.field.proofs.Places.{near-stands, near-spot, spot-con, spot-leaf, some-leaf, step-spot, leaf-none}
 use Rattle.distance.specs.Value.{side, least, Sized, Room}
 use Rattle.distance.proofs.Values.{none-near, sized-con, sized-in, sized-leaf}
 

@@ -3,17 +3,17 @@
 use Prim.Native.Nat.{ℕ, zero, suc, _+_, _*_, _≤_, _<_}
 use native.Mathlib.Omega.{arith}
 use mathlib.Core.Path.{_≡_, refl, sym, ap, _∙_}
-use mathlib.Core.Bool.{Bool, true, false}
 use mathlib.Core.List.{List}
 use lib.ListN.{length, getD, set, List·getD-eq-default}
-use lib.Dec.{eqb}
 use borrow.Author.Tests.{eq-eqb, ne-eqb, lt-ltb, le-ltb}
 use Rattle.rules.specs.Base.{if_then_else_, upto}
-use Rattle.rules.specs.Field.{Field, spans, near, areaOf, cellTo, conOf}
+use Rattle.rules.specs.Field.{Field, spans, near, areaOf, conOf}
 use Rattle.rules.specs.Distance.{same}
+use Rattle.laws.proofs.Basics.{getD-any}
 use Rattle.laws.proofs.Cells.{near-none}
+use Rattle.laws.proofs.Passes.{same-le}
 use Rattle.field.specs.Lent.{Reached, Spot, SomeSpot, Leaf, SomeLeaf, consAt, lent}
-use Rattle.field.proofs.Places.{getD-any, near-stands, spot-leaf, spot-con, some-leaf, step-spot, leaf-none}
+use Rattle.field.proofs.Places.{near-stands, spot-leaf, spot-con, some-leaf, leaf-none}
 use Rattle.field.proofs.Checks.{layer-spot}
 use Rattle.distance.specs.Value.{startAt, startTo, Sized, SizedLeaf}
 use Rattle.field.proofs.Loops.{upto-go}
@@ -37,23 +37,11 @@ module _ (w : ℕ) (is cs l : List ℕ) (c s : ℕ) (v : Sized w is cs l c s) wh
   pub sized-in : s < length l
   sized-in = omega (arith, v .spot .stands .span, v .size)
 
-  pub sized-few : length l ≤ 32000
-  sized-few = omega (arith, v .spot .reached .celled .few, v .size)
-
   pub sized-leaf : (cons : List ℕ) → cons ≡ consAt cs s → SomeLeaf w is cons c
   sized-leaf cons e = some-leaf w is cs cons c s e sized-spot
 
   pub sized-four : (cons : List ℕ) → cons ≡ consAt cs s → SizedLeaf w is cons l c s
   sized-four cons e = record { F = v .F; leaf = spot-leaf (v .F) w is cs cons c s (v .spot) e; size = v .size }
-
-  -- the neighbour t, in cell a, has a value too
-  module _ (cons : List ℕ) (e : cons ≡ consAt cs s) (d t a : ℕ) (n : (F : Field) (s : ℕ) → Leaf F w is cons c s → t ≡ near F s d) (g : d < 4)
-      (p : a ≡ cellTo w c d) (k : t ≡ 65535 → ⊥) where
-    pub sized-step : Sized w is cs l a t
-    sized-step = record { F = v .F; spot = step-spot w is cs cons c s e d t n (v .F) a (v .spot) g p k; size = v .size }
-
-    pub step-in : t < length l
-    step-in = let u = step-spot w is cs cons c s e d t n (v .F) a (v .spot) g p k in omega (arith, u .stands .span, v .size)
 
 -- a layer of cell c, as a loop over the cell's layers has it
 module _ (w h : ℕ) (is ks ar cs l : List ℕ) (c i k j : ℕ) (ok : Reached (lent w h is ks ar cs)) (n : length l ≡ length ar)
@@ -106,21 +94,12 @@ module _ (w : ℕ) (is cons ar : List ℕ) (c s d t : ℕ) (g : d < 4) (n : (F :
   unfolding same areaOf if_then_else_
   same-not k z F u q = rw (ne-eqb (getD (F .area) (near F s d) 256) (getD (F .area) s 256) (λ y. z (sym (there k F u q) ∙ y ∙ here k F u q)))
 
-at-most-one : (b : Bool) → (if b then 1 else 0) ≤ 1
-unfolding if_then_else_
-at-most-one true = omega arith
-at-most-one false = omega arith
-
-same-most : (F : Field) (s d : ℕ) → same F s d ≤ 1
-unfolding same
-same-most F s d = at-most-one (eqb (areaOf F (near F s d)) (areaOf F s))
-
 -- one that does not count is enough
 less : (F : Field) (s d : ℕ) → d < 4 → 0 ≡ same F s d → same F s 0 + same F s 1 + same F s 2 + same F s 3 < 4
-less F s zero g e = omega (arith, same-most F s 1, same-most F s 2, same-most F s 3)
-less F s (suc zero) g e = omega (arith, same-most F s 0, same-most F s 2, same-most F s 3)
-less F s (suc (suc zero)) g e = omega (arith, same-most F s 0, same-most F s 1, same-most F s 3)
-less F s (suc (suc (suc zero))) g e = omega (arith, same-most F s 0, same-most F s 1, same-most F s 2)
+less F s zero g e = omega (arith, same-le F s 1, same-le F s 2, same-le F s 3)
+less F s (suc zero) g e = omega (arith, same-le F s 0, same-le F s 2, same-le F s 3)
+less F s (suc (suc zero)) g e = omega (arith, same-le F s 0, same-le F s 1, same-le F s 3)
+less F s (suc (suc (suc zero))) g e = omega (arith, same-le F s 0, same-le F s 1, same-le F s 2)
 less F s (suc (suc (suc (suc d)))) g e = absurd (omega arith)
 
 -- the neighbours' counts, of every field that fits what is lent

@@ -2,13 +2,13 @@
 -- A span is stacked once, so the stack fits; and clearing it leaves zeros, as there were. Assumes nothing.
 use mathlib.Core.Path.{_≡_, refl, sym, ap, _∙_}
 use mathlib.Core.Bool.{Bool, true, false}
-use mathlib.Core.Logic.{⊎-elim, _⊎_, inr}
+use mathlib.Core.Logic.{⊎-elim, inr}
 use mathlib.Core.List.{List, [], _∷_, _++_, append-nil}
 use Prim.Native.Nat.{ℕ, suc, _+_, _-_, _*_, _≤_, _<_}
 use native.Mathlib.Omega.{arith}
 use native.Mathlib.Numerals.{add-one}
 use native.Mathlib.Decide.{ℕ-discrete, decLt}
-use lib.ListN.{length, getD, set, drop, replicate, length-set, length-drop, length-replicate, getD-replicate, List·getD-append}
+use lib.ListN.{length, getD, set, drop, replicate, length-set, length-drop, length-replicate}
 use lib.Seq.{ext-getD, getD-drop, getD-set-same, getD-set-other, take-set-le}
 use lib.Dec.{eqb}
 use borrow.Author.Tests.{eq-eqb, ne-eqb}
@@ -18,7 +18,7 @@ use Rattle.rules.specs.Field.{Field, spans, areaOf}
 use Rattle.rules.specs.Growth.{Marks, idOf, walkable, Spread, expand, blank}
 use Rattle.laws.proofs.Basics.{and-no}
 use Rattle.space.specs.Space.{sec, Frame}
-use Rattle.space.proofs.Laws.{cases, frame-put, getD-after, drop-mid, length-sec}
+use Rattle.space.proofs.Laws.{cases, frame-put, getD-after, length-sec, zeroed}
 use Rattle.flood.specs.Site.{Lent, SomeLent}
 use Rattle.flood.specs.Stack.{marksAt}
 use Rattle.flood.proofs.Sight.{area-is}
@@ -172,17 +172,6 @@ module _ (ar ids ws₀ : List ℕ) where
     filling-end h = let e : s ≡ length ar = omega (arith, in-one-field .within) in rw e at v
 
 -- ---------------------------------------------------------------- the whole
-
--- zeros where a part was cleared
-zeroed-at : (a k i : ℕ) (ws : List ℕ) → a ≤ length ws → i < k → i < length (replicate k (let z : ℕ = 0 in z)) → getD (putMid a k ws (replicate k 0)) (a + i) 0 ≡ 0
-zeroed-at a k i ws h l m =
-    sym (getD-drop a (putMid a k ws (replicate k 0)) i 0) ∙ ap (λ (y : List ℕ). getD y i 0) (drop-mid a k ws (replicate k 0) h)
-    ∙ List·getD-append (replicate k 0) (drop k (drop a ws)) 0 i m ∙ getD-replicate k i 0 0 l
-
-pub zeroed : (a k x : ℕ) (ws : List ℕ) → a ≤ length ws → a ≤ x → x < a + k → getD (putMid a k ws (replicate k 0)) x 0 ≡ 0
-zeroed a k x ws h l u =
-    let i : a + (x - a) ≡ x = omega arith in
-    rw i at (zeroed-at a k (x - a) ws h (omega arith) (rw (length-replicate k (let z : ℕ = 0 in z)) (omega arith)))
 
 module _ (w : ℕ) (is ar cs : List ℕ) (e b : ℕ) (ids ws ws₁ : List ℕ) (fill : ℕ) (v : Filled ar ids ws ws₁ (length ar) fill) where
   module _ (g : Last (length ar) e b ids ws) where

@@ -1,18 +1,18 @@
 -- What an entry finds, as the code does: each answer of the code under what it has tested is the rule's look in one direction.
 -- They hold because a missing neighbour has no area, and because a source distance stands at its span. Assumes nothing.
 use mathlib.Core.Path.{_≡_, refl, sym, ap, _∙_}
-use mathlib.Core.Bool.{Bool, true, false, not}
+use mathlib.Core.Bool.{Bool, true, false}
 use mathlib.Core.List.{List}
 use Prim.Native.Nat.{ℕ, _+_, _≤_, _<_}
 use native.Mathlib.Omega.{arith}
 use lib.ListN.{length, getD, List·getD-eq-default}
 use lib.Seq.{getD-take}
-use lib.Dec.{eqb}
-use borrow.Author.Tests.{eq-eqb, ne-eqb, lt-ltb, le-ltb, le-leb, lt-leb}
+use borrow.Author.Tests.{eq-eqb, ne-eqb, lt-ltb, le-ltb}
 use Rattle.rules.specs.Base.{_and_, if_then_else_, upto}
 use Rattle.rules.specs.Field.{Field, near, areaOf}
-use Rattle.rules.specs.Growth.{idOf, plain, Taken, look, takes}
+use Rattle.rules.specs.Growth.{idOf, Taken, look, takes}
 use Rattle.laws.proofs.Basics.{and-no, upto-next}
+use Rattle.laws.proofs.Plain.{plain-zero, plain-flagged, plain-yes}
 use Rattle.field.specs.Lent.{Leaf, Spot, consAt}
 use Rattle.field.proofs.Places.{spot-leaf}
 use Rattle.flood.specs.Site.{Site, SomeSite, Lent, SomeLent}
@@ -40,17 +40,6 @@ no₃ a b c e = rw e (and-no (a and b))
 changes : (a b c : Bool) (x y : Taken) → a ≡ true → b ≡ true → c ≡ true → x ≡ (if a and b and c then x else y)
 unfolding if_then_else_ _and_
 changes a b c x y e f g = rw (e, f, g)
-
-plain-zero : (r : ℕ) → r ≡ 0 → plain r ≡ false
-unfolding _and_
-plain-zero r e = rw (eq-eqb r 0 e)
-
-plain-flag : (r : ℕ) → 32768 ≤ r → plain r ≡ false
-plain-flag r h = rw (le-leb 32768 r h) (and-no (not (eqb r 0)))
-
-plain-is : (r : ℕ) → (r ≡ 0 → ⊥) → r < 32768 → plain r ≡ true
-unfolding _and_
-plain-is r e h = rw (ne-eqb r 0 e, lt-leb 32768 r h)
 
 module _ (w : ℕ) (is ar cons ids ws : List ℕ) (c d a own id far : ℕ) (n : (F : Field) (s : ℕ) → Leaf F w is cons c s → a ≡ near F s d) where
   pub look-none : a ≡ 65535 → own < 256 → (F : Field) (s : ℕ) → Site F w is ar cons c s → areaOf F s ≡ own
@@ -82,7 +71,7 @@ module _ (w : ℕ) (is ar cons ids ws : List ℕ) (c d a own id far : ℕ) (n : 
     pub look-flag : (r : ℕ) → r ≡ getD ids a 0 → 32768 ≤ r → (F : Field) (s : ℕ) → Site F w is ar cons c s → areaOf F s ≡ own
         → record { id = id; far = far } ≡ look F (marksAt (length ar) ids ws) s d (record { id = id; far = far })
     unfolding look
-    look-flag r o e F s g q = stays _ _ _ _ _ (no₂ _ _ _ (plain-flag _ (rw (o ∙ sym (at-id F s g)) at e)))
+    look-flag r o e F s g q = stays _ _ _ _ _ (no₂ _ _ _ (plain-flagged _ (rw (o ∙ sym (at-id F s g)) at e)))
 
     module _ (f : ℕ) (o : f ≡ getD ws a 0 + 2) where
       at-far : (F : Field) (s : ℕ) → Site F w is ar cons c s → getD (marksAt (length ar) ids ws .src) (near F s d) 0 + 2 ≡ f
@@ -99,7 +88,7 @@ module _ (w : ℕ) (is ar cons ids ws : List ℕ) (c d a own id far : ℕ) (n : 
           → record { id = r; far = f } ≡ look F (marksAt (length ar) ids ws) s d (record { id = id; far = far })
       unfolding look
       look-take v r e k o z l y F s g q =
-          rw (at-far F s g, at-id F s g ∙ sym o) (changes _ _ _ _ _ (eq-eqb _ _ (at-area F s g ∙ sym e ∙ k ∙ sym q)) (plain-is _ z l) (lt-ltb _ _ y))
+          rw (at-far F s g, at-id F s g ∙ sym o) (changes _ _ _ _ _ (eq-eqb _ _ (at-area F s g ∙ sym e ∙ k ∙ sym q)) (plain-yes _ z l) (lt-ltb _ _ y))
 
 -- ---------------------------------------------------------------- the four directions
 

@@ -1,7 +1,7 @@
 -- No source distance passes twice the number of spans that have an id (`Low`), through every expansion and every flood. A round that changes
 -- something gives an id to a span that had none and raises the greatest by 2 at most; a flood raises none, and no span is without an id after it that had one.
 use mathlib.Core.Path.{_≡_, refl, sym, ap, _∙_}
-use mathlib.Core.Bool.{Bool, true, false, not, true≢false, false≢true}
+use mathlib.Core.Bool.{Bool, true, false, true≢false, false≢true}
 use mathlib.Core.Logic.{⊎-elim, _⊎_, inl, inr}
 use mathlib.Core.List.{List, [], _∷_, map}
 use Prim.Native.Nat.{ℕ, zero, suc, _+_, _-_, _*_, _≤_, _<_}
@@ -11,11 +11,11 @@ use lib.ListN.{length, getD, set, length-set, replicate}
 use lib.Seq.{getD-set-same, getD-set-other}
 use lib.Dec.{eqb}
 use borrow.Author.Tests.{eqb-true, eqb-false, ne-eqb, lt-leb, not-true}
-use Rattle.rules.specs.Base.{_and_, _or_, if_then_else_, any}
+use Rattle.rules.specs.Base.{_or_, if_then_else_, any}
 use Rattle.rules.specs.Field.{Field, spans, none, near, areaOf}
 use Rattle.rules.specs.Growth.{Marks, idOf, put, painted, Taken, look, takes, finds, wrote, written, Spread, round, rounds, expand, Seed, Flow, objects, pushed, visit, flow, flood, Ids, floods, flagged}
-use Rattle.laws.proofs.Basics.{both, neither, if-ind, upto-ind, All, getD-set-cases}
-use Rattle.laws.proofs.Lengths.{painted-length}
+use Rattle.laws.proofs.Basics.{both, neither, if-ind, upto-ind, All, getD-set-cases, map-all}
+use Rattle.laws.proofs.Lengths.{painted-length, written-length}
 use Rattle.laws.proofs.Grows.{Inside}
 use Rattle.laws.proofs.NextId.{zeros, zeros-le, zeros-down, zeros-lower, flood-zeros}
 use Rattle.space.proofs.Laws.{cases, set-all}
@@ -33,10 +33,6 @@ zeros-new l i v h e z =
     (λ k. z (sym (getD-set-same l i v 0 h) ∙ k))
 
 -- ---------------------------------------------------------------- entries
-
-pub all-mapped : (P Q : ℕ → Type 0) (f : ℕ → ℕ) (es : List ℕ) → ((s : ℕ) → P s → Q (f s)) → All P es → All Q (map f es)
-all-mapped P Q f [] h p = tt
-all-mapped P Q f (s ∷ es) h p = (h s (p .0), all-mapped P Q f es h (p .1))
 
 pub fresh-unheld : (n : ℕ) (ids : List ℕ) (s : ℕ) → ((s ≡ none → ⊥) → s < n) → Unheld n ids (fresh ids s)
 unfolding fresh
@@ -59,12 +55,6 @@ module _ (F : Field) (m : Marks) where
   finds-id : (s : ℕ) → finds F m s ≡ true → takes F m s .id ≡ 0 → ⊥
   unfolding finds
   finds-id s z = eqb-false _ _ (not-true _ (both _ _ z .1))
-
-  written-size : (es : List ℕ) (out : Marks) → length (written F m es out .ids) ≡ length (out .ids)
-  unfolding written wrote put
-  written-size [] out = refl
-  written-size (s ∷ es) out =
-      written-size es (wrote F m s out) ∙ if-ind (λ (r : Marks). length (r .ids) ≡ length (out .ids)) (finds F m s) (λ _. length-set (out .ids) s _) (λ _. refl)
 
   -- a span that finds nothing is not written
   written-keeps : (x : ℕ) → finds F m x ≡ false → (es : List ℕ) (out : Marks) → getD (written F m es out .ids) x 0 ≡ getD (out .ids) x 0
@@ -139,8 +129,8 @@ module _ (F : Field) (p : Spread) where
       let f : (s : ℕ) → finds F m s ≡ true → takes F m s .far ≤ 2 * n + 2 - 2 * zeros (m .ids)
       = λ s y. takes-low F m (2 * n + 2 - 2 * zeros (m .ids)) (λ x. omega (arith, o .low .bound x)) s (finds-id F m s y) in
       rw round-is (record {
-        idents = written-size F m (p .stack) m ∙ o .idents;
-        entries = all-mapped (Unheld n (m .ids)) (Unheld n (written F m (p .stack) m .ids)) (left F m) (p .stack) (λ s h. still s h (cases (finds F m s))) (o .entries);
+        idents = written-length F m (p .stack) m ∙ o .idents;
+        entries = map-all (Unheld n (m .ids)) (Unheld n (written F m (p .stack) m .ids)) (left F m) (p .stack) (λ s h. still s h (cases (finds F m s))) (o .entries);
         low = record { bound = λ x. let h = written-low F m (2 * n + 2 - 2 * zeros (m .ids)) f (p .stack) m (λ y. omega (arith, o .low .bound y)) x in omega arith };
       })
     where
@@ -180,7 +170,7 @@ pub expand-low : (F : Field) (n level : ℕ) (m : Marks) (es : List ℕ) → len
     → Low n (expand F level m es .marks)
 unfolding expand fresh
 expand-low F n level m es l h o =
-    ok-rounds F n _ _ (record { idents = l; entries = all-mapped (λ s. (s ≡ none → ⊥) → s < n) (Unheld n (m .ids)) (fresh (m .ids)) es (fresh-unheld n (m .ids)) h; low = o }) .low
+    ok-rounds F n _ _ (record { idents = l; entries = map-all (λ s. (s ≡ none → ⊥) → s < n) (Unheld n (m .ids)) (fresh (m .ids)) es (fresh-unheld n (m .ids)) h; low = o }) .low
 
 -- the id after a flood, z spans of id 0 before it and z′ after it
 next-fits : (b : Bool) (i z z′ : ℕ) → 0 < i → i + z < 0x8000 → z′ + (if b then 0 else 1) ≤ z → (0 < (if b then i else suc i)) × ((if b then i else suc i) + z′ < 0x8000)

@@ -1,25 +1,25 @@
 -- An expansion as a whole: entries that have an id are marked used (`Using`: those still to be looked at, marked, give the whole stack marked),
 -- and the rounds start from there. An entry that is then unused is a span with no id, which is what a round needs. Assumes nothing.
 use mathlib.Core.Path.{_≡_, refl, sym, ap, _∙_}
-use mathlib.Core.Logic.{⊎-elim, _⊎_, inl, inr}
+use mathlib.Core.Logic.{⊎-elim, inl, inr}
 use mathlib.Core.List.{List, [], _∷_, _++_, map, append-nil}
 use Prim.Native.Nat.{ℕ, _+_, _-_, _≤_, _<_}
 use native.Mathlib.Omega.{arith}
 use native.Mathlib.Nat.{add-zero}
 use native.Mathlib.Numerals.{add-one}
 use lib.ListN.{length, getD, set, length-set, List·getD-eq-default}
-use lib.Seq.{getD-set-same, getD-set-other, set-getD, take-set-le, ext-getD}
+use lib.Seq.{getD-set-same, getD-set-other, set-getD, take-set-le}
 use borrow.Author.Tests.{eq-eqb, ne-eqb}
 use Rattle.rules.specs.Base.{if_then_else_}
 use Rattle.rules.specs.Field.{Field}
 use Rattle.rules.specs.Growth.{rounds, expand}
+use Rattle.laws.proofs.Basics.{map-all}
 use Rattle.space.specs.Space.{sec}
-use Rattle.space.proofs.Laws.{length-sec, getD-sec}
 use Rattle.flood.specs.Site.{Lent, SomeLent}
 use Rattle.flood.specs.Stack.{marksAt}
 use Rattle.expand.specs.Layout.{fresh, mostAt, listAt, viewOf, Past, Entries, Kept, Given, Unheld, Ready, Using}
 use Rattle.expand.proofs.Lists.{listAt-cong, listAt-snoc, listAt-next, length-listAt, listAt-sec, all-of, seam, marks-same, lent-past, some-past}
-use Rattle.expand.proofs.Sources.{all-mapped, fresh-unheld}
+use Rattle.expand.proofs.Sources.{fresh-unheld}
 use Rattle.expand.proofs.Wholes.{ready-entries, kept-clear, kept-past, kept-then, sizes-kept}
 
 -- ---------------------------------------------------------------- one entry
@@ -116,7 +116,7 @@ module _ (n a e b fill : ℕ) (ids ws ws₁ : List ℕ) (y : Using (length ids) 
     clear = kept-clear n a e fill ws ws₁ (g .entries .filled) (g .sizes .apart) (g .sizes .low) (g .clear) used-kept;
     ok = rw used-view (record {
       idents = g .sizes .idents;
-      entries = all-mapped (λ s. (s ≡ 65535 → ⊥) → s < n) (Unheld n ids) (fresh ids) (listAt ws a fill) (fresh-unheld n ids)
+      entries = map-all (λ s. (s ≡ 65535 → ⊥) → s < n) (Unheld n ids) (fresh ids) (listAt ws a fill) (fresh-unheld n ids)
           (all-of (λ s. (s ≡ 65535 → ⊥) → s < n) ws a fill (g .entries .spans));
       low = g .low;
     });
@@ -169,21 +169,3 @@ unfolding viewOf
 ready-given n a e b fill ids ws r = record { sizes = r .sizes; entries = ready-entries n a e b fill ids ws r; low = r .ok .low; clear = r .clear }
 
 -- ---------------------------------------------------------------- for the loop over turns
-
--- another section, past the source distances, is as it was
-pub kept-sec : {n a fill : ℕ} {ws ws′ : List ℕ} (i m : ℕ) → Kept n a fill ws ws′ → n ≤ i → (i + m ≤ a) ⊎ (a + fill ≤ i) → i + m ≤ length ws → sec i m ws′ ≡ sec i m ws
-kept-sec {n} {a} {fill} {ws} {ws′} i m k h u l =
-    let l′ : i + m ≤ length ws′ = omega (arith, k .size) in
-    ext-getD 0 (sec i m ws′) (sec i m ws) (length-sec i m ws′ l′ ∙ sym (length-sec i m ws l))
-    (λ x g. at x (rw (length-sec i m ws′ l′) at g))
-  where
-    at : (x : ℕ) → x < m → getD (sec i m ws′) x 0 ≡ getD (sec i m ws) x 0
-    at x g =
-        getD-sec i m x ws′ g
-        ∙ k .same (i + x) (omega arith) (⊎-elim (λ (o : i + m ≤ a). inl (omega arith)) (λ (o : a + fill ≤ i). inr (omega arith)) u)
-        ∙ sym (getD-sec i m x ws g)
-
--- the field is lent as before
-pub kept-lent : (w : ℕ) (is ar cs : List ℕ) (a e b fill : ℕ) (ids ws ws′ : List ℕ) → Given (length ar) a e b fill ids ws → Kept (length ar) a fill ws ws′
-    → (F : Field) → Lent F w is ar cs b ws → Lent F w is ar cs b ws′
-kept-lent w is ar cs a e b fill ids ws ws′ g k = lent-past w is ar cs b ws ws′ (k .size) (kept-past (length ar) a e b fill ids ws ws′ (g .entries .filled) (g .sizes) k)

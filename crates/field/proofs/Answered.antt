@@ -16,11 +16,11 @@ use mir.Syntax.{w64}
 use Rattle.rules.specs.Base.{_and_, _or_, every}
 use Rattle.rules.specs.Field.{Field, spans, cellOf, cellTo, leaves, conOf, near}
 use Rattle.rules.specs.Refusals.{goodCon, goodBack}
-use Rattle.laws.proofs.Basics.{both, in-list}
+use Rattle.laws.proofs.Basics.{both, in-list, getD-any}
 use Rattle.laws.proofs.Cells.{near-none, near-is}
 use Rattle.field.specs.Lent.{Stands, Celled, Inner, Column, innerAt, consAt, reachAt, backAt, goodLink, linkAt, inCell, inRow, lent}
 use Rattle.field.proofs.Loops.{every-ext, every-and, every-rows, every-halt, every-end}
-use Rattle.field.proofs.Places.{getD-any, room-left, room-up, layer-stands, cell-is, con-at, turned, across-in}
+use Rattle.field.proofs.Places.{room-left, room-up, layer-stands, cell-is, con-at, turned, across-in}
 use Rattle.field.proofs.Checks.{flip, every-cells}
 
 -- ---------------------------------------------------------------- there and back

@@ -6,7 +6,7 @@ use native.Mathlib.Nat.{mod-lt, mod-le, div-eq-of-lt, suc-mul, mul-comm, div-add
 use native.Mathlib.Numerals.{add-one}
 use native.Mathlib.Decide.{ℕ-discrete, decLt}
 use lib.Arith.{digits-lt}
-use mathlib.Core.Path.{_≡_, refl, sym, ap, _∙_}
+use mathlib.Core.Path.{_≡_, sym, ap, _∙_}
 use mathlib.Core.Bool.{true, false, false≢true}
 use mathlib.Core.List.{List, [], _∷_}
 use lib.ListN.{length, getD}
@@ -14,16 +14,10 @@ use lib.Dec.{eqb, leb}
 use borrow.Author.Tests.{eqb-true, eqb-false, ltb-true, not-true}
 use Rattle.rules.specs.Field.{Field, spans, none, near, cellOf, cellTo, leaves, conOf}
 use Rattle.rules.specs.Refusals.{goodCells, goodCon}
-use Rattle.laws.proofs.Basics.{both, either, tests, in-list}
+use Rattle.laws.proofs.Basics.{both, either, tests, in-list, getD-any}
 use Rattle.laws.proofs.Cells.{before, before-lt, cellOf-at, cellOf-in, Cell, cells-at, cells-sum, Leads, near-none, near-is}
 use Rattle.laws.proofs.Passes.{wide-pos}
 use Rattle.field.specs.Lent.{Stands, Celled, Reached, Spot, Leaf, SomeSpot, SomeLeaf, consAt}
-
--- what is read within a list is the same for every default
-pub getD-any : (l : List ℕ) (i d e : ℕ) → i < length l → getD l i d ≡ getD l i e
-getD-any [] i d e h = absurd (omega arith)
-getD-any (x ∷ l) zero d e h = refl
-getD-any (x ∷ l) (suc i) d e h = getD-any l i d e (omega arith)
 
 -- ---------------------------------------------------------------- the cell across, by direction
 

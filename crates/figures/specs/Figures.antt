@@ -1,10 +1,10 @@
 -- "Starred figures are proved as a single statement over one list of cases". Each case is run as a caller runs it: both entries on lists
 -- of zeros and a workspace of the least length, the second on what the first gave.
-use Prim.Native.Nat.{ℕ, zero, suc, _+_, _*_, _-_, _/_, _%_, min, max}
+use Prim.Native.Nat.{ℕ, _+_, _*_, _-_, _/_, _%_}
 use mathlib.Core.Path.{_≡_, refl}
-use mathlib.Core.Bool.{Bool, true, false}
+use mathlib.Core.Bool.{Bool, true}
 use mathlib.Core.List.{List, [], _∷_}
-use lib.ListN.{length, getD, set, replicate}
+use lib.ListN.{length, getD, replicate}
 use lib.Dec.{eqb, ltb}
 use Rattle.rules.specs.Base.{_and_, _or_, if_then_else_, upto, tab, every, any, keep, many}
 use Rattle.rules.specs.Field.{Field, spans, cellOf, cellTo, leaves, conOf, near, corner, areaOf}

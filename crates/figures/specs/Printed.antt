@@ -1,12 +1,12 @@
 -- Files and what is printed for them, by computation: document 01's example whole, and each cause of 20 and 21.
-use Prim.Native.Nat.{ℕ, zero, suc, _+_, _*_, _-_, _/_, _%_, min, max}
+use Prim.Native.Nat.{ℕ, zero, suc, _+_, _*_, _-_, _/_, _%_}
 use mathlib.Core.Path.{_≡_, refl}
 use mathlib.Core.Bool.{Bool, true, false}
 use mathlib.Core.List.{List, [], _∷_, _++_}
-use lib.ListN.{length, getD, set, take, drop, replicate}
+use lib.ListN.{take, drop}
 use lib.Dec.{eqb}
 use Rattle.rules.specs.Base.{_and_, _or_, if_then_else_, upto, tab, every, any, keep, many}
-use Rattle.rules.specs.Field.{Field, spans, cellOf, cellTo, leaves, conOf, near, corner, areaOf}
+use Rattle.rules.specs.Field.{spans, cellOf, cellTo, leaves, conOf, near, corner, areaOf}
 use Rattle.rules.specs.Refusals.{goodCells, goodCon, goodBack, tooWide, tooMany, wrongLength, wrongCells, wrongReach, wrongBack, refusal, tooShort, tooFar, regionRefusal}
 use Rattle.rules.specs.Distance.{same, start, lower, pass1, pass2, raw, greatest, term, blurAt, blur}
 use Rattle.rules.specs.Growth.{walkable, put, paintOf, painted, firstId, blank, sorted, remains, look, takes, finds, wrote, written, round, rounds, expand, sees, orElse, objects, pushed, visit, flow, flood, floods, loaded, turn, grown}

@@ -17,9 +17,8 @@ use Rattle.laws.proofs.Basics.{upto-next}
 use Rattle.space.specs.Space.{Frame, stackAt}
 use Rattle.space.proofs.Laws.{frame-then, frame-wider, getD-before, getD-after}
 use Rattle.table.specs.View.{part, recAt, recsOf, Held}
-use Rattle.table.proofs.ViewLaws.{list-past}
+use Rattle.table.proofs.ViewLaws.{list-past, recs-length, recs-at}
 use Rattle.filter.specs.Group.{groupAt, anyFlagged, small, removeSmall, filterGroup, Waiting, Found, Calm}
-use Rattle.filter.proofs.GroupLaws.{recs-length, recs-at}
 
 -- ---- records that agree in counts and lists
 

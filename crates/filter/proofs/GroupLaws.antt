@@ -17,20 +17,12 @@ use Rattle.rules.specs.Filter.{seen, Gather, reach, gather}
 use Rattle.laws.proofs.Basics.{tally-le, tally-set}
 use Rattle.laws.proofs.FilterEnds.{unvisited, ahead, reach-ahead}
 use Rattle.space.specs.Space.{Frame, stackAt}
-use Rattle.space.proofs.Laws.{frame-then, frame-set, frame-wider, getD-before, getD-after, sec-before, sec-after, length-stackAt, stackAt-set, stackAt-push, stackAt-pop}
+use Rattle.space.proofs.Laws.{frame-then, frame-set, frame-wider, getD-before, getD-after, length-stackAt, stackAt-set, stackAt-push, stackAt-pop}
 use Rattle.table.specs.View.{recsOf, part, startOf, endOf, listAt, recAt, Held}
-use Rattle.table.proofs.ViewLaws.{view-length, view-at, view-same, view-set, list-past, held-past, rec-past, part-cons, part-none, part-at, part-length}
+use Rattle.table.proofs.ViewLaws.{view-at, view-same, view-set, list-past, held-past, rec-past, part-cons, part-none, part-at, part-length, recs-length, recs-at, id-at, part-after, part-before}
 use Rattle.filter.specs.Group.{reachOne, groupAt, Waiting, Found, Calm, Popped}
 
 -- ---- the records in the workspace
-
-pub recs-length : (ws : List ℕ) (m : ℕ) → length (recsOf ws m) ≡ m
-unfolding recsOf
-recs-length ws m = view-length ws m (7 * m) (11 * m)
-
-pub recs-at : (ws : List ℕ) (m i : ℕ) → i < m → at (recsOf ws m) i ≡ recAt ws m (7 * m) (11 * m) i
-unfolding recsOf
-recs-at ws m i h = view-at ws m (7 * m) (11 * m) i h
 
 -- what is written past the columns of the records leaves them alone
 pub recs-spare : {ws ws′ : List ℕ} (m : ℕ) → Held m (7 * m) (11 * m) ws → Frame (5 * m) (7 * m) ws ws′ → length ws′ ≡ length ws → recsOf ws′ m ≡ recsOf ws m
@@ -69,10 +61,6 @@ held-spare m H f h g l = held-past m (7 * m) (11 * m) H f g l (λ r k. rw (getD-
 visited-at : (ws : List ℕ) (m r : ℕ) → r < m → at (recsOf ws m) r .visited ≡ not (eqb (getD ws (4 * m + r) 0) 0)
 unfolding recAt
 visited-at ws m r h = ap (λ (q : Rec). q .visited) (recs-at ws m r h)
-
-id-at : (ws : List ℕ) (m r : ℕ) → r < m → at (recsOf ws m) r .id ≡ getD ws r 0
-unfolding recAt
-id-at ws m r h = ap (λ (q : Rec). q .id) (recs-at ws m r h)
 
 not-zero : (x : ℕ) → (x ≡ 0 → ⊥) → not (eqb x 0) ≡ true
 not-zero x h = rw (ne-eqb x 0 h)
@@ -118,14 +106,6 @@ module _ (ws : List ℕ) (m r top : ℕ) (W : Waiting m top ws) (h : r < 32768) 
 
 group-eq : (a a′ : List ℕ) (b b′ : List Rec) (c c′ : List ℕ) → a ≡ a′ → b ≡ b′ → c ≡ c′ → _≡_ {A = Gather} (record { todo = a; recs = b; found = c }) (record { todo = a′; recs = b′; found = c′ })
 group-eq a a′ b b′ c c′ p q r = rw (p, q, r)
-
-pub part-after : {a e : ℕ} {ws ws′ : List ℕ} (b c : ℕ) → Frame a e ws ws′ → e ≤ b → part b c ws′ ≡ part b c ws
-unfolding part
-part-after b c f h = sec-after b (c - b) f h
-
-pub part-before : {a e : ℕ} {ws ws′ : List ℕ} (b c : ℕ) → Frame a e ws ws′ → b ≤ c → c ≤ a → part b c ws′ ≡ part b c ws
-unfolding part
-part-before b c f h g = sec-before b (c - b) f (omega arith)
 
 reach-one : (r : ℕ) (g : Gather) → reach (r ∷ []) g ≡ reachOne r g
 unfolding reach reachOne

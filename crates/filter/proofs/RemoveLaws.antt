@@ -18,16 +18,13 @@ use Rattle.rules.specs.Filter.{removed, total, removeAll}
 use Rattle.space.specs.Space.{Frame, sec}
 use Rattle.space.proofs.Laws.{frame-then, frame-set, frame-wider, frame-put, getD-before, getD-after, sec-put, length-sec, getD-sec}
 use Rattle.table.specs.View.{part, listAt, recAt, recsOf, Held}
-use Rattle.table.proofs.ViewLaws.{view-at, view-set, list-past, held-past, rec-past, part-cons, part-none}
+use Rattle.table.proofs.ViewLaws.{view-at, view-set, list-past, held-past, rec-past, part-cons, part-none, recs-at, part-after}
 use Rattle.filter.specs.Group.{listsFlagged, anyFlagged, small, removeSmall, Found, Calm}
-use Rattle.filter.proofs.GroupLaws.{recs-at, recs-spare, held-spare, part-after}
+use Rattle.filter.proofs.GroupLaws.{recs-spare, held-spare}
 
 -- ---- the next of those found
 
 module _ (ws : List ℕ) (m f k : ℕ) (H : Held m (7 * m) (11 * m) ws) (h : f ≤ m) (g : k < f) where
-  pub next-in : 6 * m + k < length ws
-  next-in = omega (arith, H .floors .room)
-
   found-cons : part (6 * m + k) (6 * m + f) ws ≡ getD ws (6 * m + k) 0 ∷ part (6 * m + (k + 1)) (6 * m + f) ws
   found-cons =
       let e : 6 * m + k + 1 ≡ 6 * m + (k + 1) = omega arith in

@@ -1,25 +1,25 @@
 -- The flood as a loop of visits: what is left to run from here gives what the whole run gives, and 5 (n - count) plus the stack's height
 -- falls, so the rule's fuel, 5 n + 5, is not used up. Assumes nothing.
-use mathlib.Core.Path.{_≡_, refl, sym, ap, _∙_}
+use mathlib.Core.Path.{_≡_, sym, ap, _∙_}
 use mathlib.Core.Logic.{⊎-elim, _⊎_, inl, inr}
 use mathlib.Core.List.{List, [], _∷_}
-use Prim.Native.Nat.{ℕ, zero, suc, _+_, _-_, _*_, _≤_, _<_}
+use Prim.Native.Nat.{ℕ, suc, _+_, _-_, _*_, _≤_, _<_}
 use native.Mathlib.Omega.{arith}
 use native.Mathlib.Decide.{decLt}
 use native.Mathlib.Nat.{add-zero}
 use lib.ListN.{length, getD, set, take, drop, length-set, length-drop}
 use lib.Seq.{ext-getD, getD-drop, getD-set-other, take-set-le, take-set-lt}
 use Rattle.rules.specs.Field.{Field, spans, areaOf}
-use Rattle.rules.specs.Growth.{Marks, idOf, put, Seed, Flow, visit, flow, flood}
+use Rattle.rules.specs.Growth.{Marks, put, Seed, Flow, visit, flow, flood}
 use Rattle.laws.proofs.FloodArea.{flow-done, flow-turn}
-use Rattle.space.specs.Space.{ind, tally, stackAt}
-use Rattle.space.proofs.Laws.{tally-room, length-stackAt, stackAt-pop, stackAt-push, stackAt-set}
+use Rattle.space.specs.Space.{tally, stackAt}
+use Rattle.space.proofs.Laws.{length-stackAt, stackAt-pop, stackAt-push}
 use Rattle.flood.specs.Site.{Lent, SomeLent}
 use Rattle.flood.specs.Stack.{marksAt, flowAt, Good, Blank, Kept, Sized, Begins}
 use Rattle.flood.proofs.Goods.{Fell, push-good, visit-fell}
 use Rattle.flood.proofs.Sight.{area-is}
 use Rattle.flood.proofs.Pushes.{sized-kept}
-use Rattle.flood.proofs.Visits.{good-held, kept-then}
+use Rattle.flood.proofs.Visits.{kept-then}
 
 -- a flood under way, run on
 abbrev pub runs : Field → List ℕ → Seed → ℕ → Flow → Flow

@@ -1,18 +1,18 @@
 -- Between visits count and stack together are the spans of the id, each stacked once (`Good`), so a push finds room on the stack;
 -- and 5 (n - count) plus the stack's height falls at each visit, for a span that counts pushes four at most. Assumes nothing.
-use mathlib.Core.Path.{_≡_, refl, sym, ap, _∙_}
-use mathlib.Core.Bool.{Bool, true, false, not}
+use mathlib.Core.Path.{_≡_, refl, sym, _∙_}
+use mathlib.Core.Bool.{Bool, true, false}
 use mathlib.Core.Logic.{⊎-elim}
-use mathlib.Core.List.{List, [], _∷_}
-use Prim.Native.Nat.{ℕ, zero, suc, _+_, _-_, _*_, _≤_, _<_}
+use mathlib.Core.List.{List, _∷_}
+use Prim.Native.Nat.{ℕ, suc, _+_, _-_, _*_, _≤_, _<_}
 use native.Mathlib.Omega.{arith}
 use lib.ListN.{length, getD, set, length-set}
 use lib.Seq.{getD-set-same, getD-set-other}
 use lib.Dec.{eqb}
 use borrow.Author.Tests.{eqb-true, eqb-false, eq-eqb, ne-eqb}
-use Rattle.rules.specs.Base.{_and_, if_then_else_, upto}
-use Rattle.rules.specs.Field.{Field, spans, near, areaOf}
-use Rattle.rules.specs.Growth.{Marks, idOf, put, Seed, Flow, objects, pushed, visit}
+use Rattle.rules.specs.Base.{_and_}
+use Rattle.rules.specs.Field.{Field, spans, near}
+use Rattle.rules.specs.Growth.{idOf, put, Seed, Flow, objects, pushed, visit}
 use Rattle.laws.proofs.Basics.{both, if-ind, upto-ind}
 use Rattle.laws.proofs.FloodEnds.{has-area}
 use Rattle.space.specs.Space.{ind, tally}

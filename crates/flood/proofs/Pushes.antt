@@ -1,25 +1,25 @@
 -- A push as the code makes it: under what it has tested, the flow afterwards is the rule's `pushed`; and the stack keeps room.
 -- It holds because a missing neighbour has no area, and a pushed span had another id before (`tally-room`). Assumes nothing.
 use mathlib.Core.Path.{_≡_, refl, sym, ap, _∙_}
-use mathlib.Core.Bool.{Bool, true, false, not}
-use mathlib.Core.Logic.{⊎-elim, _⊎_, inl, inr}
-use mathlib.Core.List.{List, [], _∷_}
-use Prim.Native.Nat.{ℕ, zero, suc, _+_, _-_, _≤_, _<_}
+use mathlib.Core.Bool.{true, false}
+use mathlib.Core.Logic.{⊎-elim, _⊎_, inl}
+use mathlib.Core.List.{List, _∷_}
+use Prim.Native.Nat.{ℕ, _+_, _-_, _≤_, _<_}
 use native.Mathlib.Omega.{arith}
 use lib.ListN.{length, getD, set, take, length-set, List·getD-eq-default}
 use lib.Seq.{getD-set-other, take-set-le, take-set-lt}
-use lib.Dec.{eqb, leb}
+use lib.Dec.{eqb}
 use borrow.Author.Tests.{eq-eqb, ne-eqb, le-leb, lt-leb}
 use Rattle.rules.specs.Base.{_and_, if_then_else_, upto}
 use Rattle.laws.proofs.Basics.{upto-next}
-use Rattle.rules.specs.Field.{Field, spans, near, areaOf}
-use Rattle.rules.specs.Growth.{Marks, idOf, put, Seed, Flow, pushed}
+use Rattle.rules.specs.Field.{Field, near, areaOf}
+use Rattle.rules.specs.Growth.{put, pushed}
 use Rattle.field.specs.Lent.{Leaf}
 use Rattle.field.proofs.Places.{near-stands}
-use Rattle.space.specs.Space.{ind, tally, stackAt}
+use Rattle.space.specs.Space.{tally, stackAt}
 use Rattle.space.proofs.Laws.{tally-room, stackAt-push, stackAt-set}
 use Rattle.flood.specs.Site.{Site, SomeSite}
-use Rattle.flood.specs.Stack.{flowAt, Blank, Kept, Sized, Pushed}
+use Rattle.flood.specs.Stack.{flowAt, Sized, Pushed}
 use Rattle.flood.proofs.Sight.{area-is}
 
 -- the flow after a span was pushed

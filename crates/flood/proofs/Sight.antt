@@ -1,20 +1,20 @@
 -- What a span sees in one direction, as the code finds it: each answer of the code under what it has tested is the rule's.
 -- They hold because a missing neighbour has no area. Assumes nothing.
 use mathlib.Core.Path.{_≡_, refl, sym, ap, _∙_}
-use mathlib.Core.Bool.{Bool, true, false, not}
-use mathlib.Core.List.{List, [], _∷_}
+use mathlib.Core.Bool.{Bool, true, false}
+use mathlib.Core.List.{List}
 use Prim.Native.Nat.{ℕ, zero, suc, _+_, _*_, _-_, _%_, _≤_, _<_}
 use native.Mathlib.Omega.{arith}
 use lib.ListN.{length, getD, List·getD-eq-default}
-use lib.Dec.{eqb, leb}
+use lib.Dec.{eqb}
 use borrow.Author.Tests.{eq-eqb, ne-eqb, le-leb, lt-leb}
 use Rattle.rules.specs.Base.{_and_, if_then_else_}
-use Rattle.laws.proofs.Basics.{if-ind}
-use Rattle.rules.specs.Field.{Field, spans, near, corner, areaOf}
-use Rattle.rules.specs.Growth.{Marks, idOf, Seed, other, flagged, sees, orElse, objects}
+use Rattle.laws.proofs.Basics.{if-ind, getD-any}
+use Rattle.rules.specs.Field.{Field, near, corner, areaOf}
+use Rattle.rules.specs.Growth.{Marks, idOf, Seed, other, sees, orElse, objects}
 use Rattle.rules.specs.Field.{cellTo}
 use Rattle.field.specs.Lent.{Spot, Leaf, SomeLeaf, consAt}
-use Rattle.field.proofs.Places.{getD-any, near-stands, spot-leaf, spot-con, step-spot}
+use Rattle.field.proofs.Places.{near-stands, spot-leaf, spot-con, step-spot}
 use Rattle.flood.specs.Site.{Ground, SomeGround, objectsAt, seesFrom}
 
 -- ---------------------------------------------------------------- a span that is looked at

@@ -1,23 +1,22 @@
 -- A visit as the code makes it. The popped span bears the id, so it is a span (`Good`); its cell lies past the stack, so popping keeps it;
 -- and the flow afterwards is the rule's `visit`. Assumes nothing.
-use mathlib.Core.Path.{_≡_, refl, sym, ap, _∙_}
-use mathlib.Core.Bool.{Bool, true, false, not}
-use mathlib.Core.Logic.{⊎-elim, _⊎_, inl, inr}
-use mathlib.Core.List.{List, [], _∷_}
-use Prim.Native.Nat.{ℕ, zero, suc, _+_, _-_, _*_, _≤_, _<_}
+use mathlib.Core.Path.{_≡_, sym, ap, _∙_}
+use mathlib.Core.Bool.{true, false}
+use mathlib.Core.Logic.{⊎-elim, _⊎_, inr}
+use mathlib.Core.List.{List}
+use Prim.Native.Nat.{ℕ, suc, _+_, _-_, _*_, _≤_, _<_}
 use native.Mathlib.Omega.{arith}
 use native.Mathlib.Decide.{ℕ-discrete}
 use lib.ListN.{length, getD, set, take, length-set}
 use lib.Seq.{getD-set-other, getD-set-same, take-set-le}
-use lib.Dec.{eqb}
 use Rattle.rules.specs.Base.{if_then_else_, upto}
-use Rattle.rules.specs.Field.{Field, spans, cellOf}
-use Rattle.rules.specs.Growth.{Marks, Seed, Flow, objects, pushed, visit}
-use Rattle.field.specs.Lent.{Spot, Leaf, consAt}
-use Rattle.space.specs.Space.{ind, tally, stackAt}
+use Rattle.rules.specs.Field.{Field}
+use Rattle.rules.specs.Growth.{Seed, objects, pushed, visit}
+use Rattle.field.specs.Lent.{consAt}
+use Rattle.space.specs.Space.{tally, stackAt}
 use Rattle.space.proofs.Laws.{in-list, tally-le, length-stackAt, stackAt-pop, stackAt-set}
 use Rattle.flood.specs.Site.{Ground, SomeGround, Site, SomeSite, Lent, SomeLent}
-use Rattle.flood.specs.Stack.{flowAt, Good, Blank, Kept, Sized, Pushed}
+use Rattle.flood.specs.Stack.{flowAt, Good, Blank, Kept}
 use Rattle.flood.proofs.Goods.{top-has-id}
 use Rattle.flood.proofs.Sight.{ground-leaf}
 

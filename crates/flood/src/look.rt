@@ -5,7 +5,7 @@ use field::place::connections;
 use field::place::follow;
 ghost use mathlib.Core.Path.{_≡_};
 ghost use mathlib.Core.List.{List};
-ghost use Prim.Native.Nat.{ℕ, _+_, _*_, _<_, _≤_};
+ghost use Prim.Native.Nat.{ℕ, _+_, _<_};
 ghost use lib.ListN.{length};
 ghost use Rattle.rules.specs.Field.{Field, near};
 ghost use Rattle.rules.specs.Growth.{other, sees, objects};

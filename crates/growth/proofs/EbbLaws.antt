@@ -1,16 +1,16 @@
 -- Turn after turn: what k turns leave, with the next turn, is what k + 1 turns leave. Assumes nothing.
-use Prim.Native.Nat.{ℕ, zero, suc, _+_, _-_, _*_, _%_, _≤_, _<_}
+use Prim.Native.Nat.{ℕ, suc, _+_, _-_, _*_, _%_}
 use native.Mathlib.Omega.{arith}
 use mathlib.Core.Path.{_≡_, refl, sym, ap, _∙_}
-use mathlib.Core.List.{List, [], _∷_}
-use lib.ListN.{length, getD}
+use mathlib.Core.List.{List, []}
+use lib.ListN.{length}
 use Rattle.rules.specs.Base.{upto}
 use Rattle.rules.specs.Field.{Field}
-use Rattle.rules.specs.Growth.{Marks, Turn, turn}
+use Rattle.rules.specs.Growth.{Turn, turn}
 use Rattle.flood.specs.Site.{Lent}
 use Rattle.flood.specs.Stack.{marksAt}
 use Rattle.levels.specs.Levels.{levelsAt}
-use Rattle.growth.specs.Turns.{after, Left, Between, Turned, turnAt, Stands, turnsOf, Ebb, Ebbed}
+use Rattle.growth.specs.Turns.{after, Between, Turned, turnAt, turnsOf, Ebb, Ebbed}
 
 turn-at : (F : Field) (dist : List ℕ) (top k : ℕ) (t : Turn) → turn F dist top k t ≡ turnAt F dist (top - 2 * (k + 1)) (k % 8) t
 unfolding turn turnAt

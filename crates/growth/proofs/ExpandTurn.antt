@@ -1,24 +1,22 @@
 -- The expansion of the turn's stack: what it asks is there (`Ready`), and afterwards all is there for the floods, with the stack's entries expanded as the rule does.
 -- Assumes nothing.
-use Prim.Native.Nat.{ℕ, zero, suc, _+_, _-_, _*_, _≤_, _<_}
+use Prim.Native.Nat.{ℕ, _+_, _-_, _*_, _≤_, _<_}
 use native.Mathlib.Omega.{arith}
-use native.Mathlib.Nat.{mul-le-mul-right}
-use mathlib.Core.Path.{_≡_, refl, sym, ap, _∙_}
+use mathlib.Core.Path.{_≡_, sym, ap, _∙_}
 use mathlib.Core.Logic.{_⊎_, inl, inr, ⊎-elim}
-use mathlib.Core.List.{List, [], _∷_}
-use lib.ListN.{length, getD, set, take, drop}
+use mathlib.Core.List.{List, []}
+use lib.ListN.{length, getD, set}
 use Rattle.rules.specs.Field.{Field, spans, none}
-use Rattle.rules.specs.Growth.{Marks, Spread, expand}
+use Rattle.rules.specs.Growth.{Spread, expand}
 use Rattle.laws.proofs.Basics.{All, All-map}
 use Rattle.laws.proofs.Grows.{Inside, expand-down}
 use Rattle.space.specs.Space.{sec}
-use Rattle.space.proofs.Laws.{length-sec}
-use Rattle.flood.specs.Site.{Lent, SomeLent}
-use Rattle.flood.specs.Stack.{marksAt, Blank}
-use Rattle.expand.specs.Layout.{Sizes, Entries, Low, Clear, Kept, Given, listAt}
+use Rattle.flood.specs.Site.{Lent}
+use Rattle.flood.specs.Stack.{marksAt}
+use Rattle.expand.specs.Layout.{Kept, Given}
 use Rattle.expand.proofs.Lists.{all-at, listAt-sec}
-use Rattle.levels.specs.Levels.{levelsAt, Fills, Stacked, total}
-use Rattle.levels.proofs.LevelLaws.{levels-at, slots, fill-is}
+use Rattle.levels.specs.Levels.{levelsAt}
+use Rattle.levels.proofs.LevelLaws.{levels-at, slots}
 use Rattle.levels.proofs.CarryLaws.{stacked-used}
 use Rattle.levels.proofs.TurnLaws.{expand-stack}
 use Rattle.growth.specs.Seas.{Seas}

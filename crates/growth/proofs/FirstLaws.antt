@@ -1,5 +1,5 @@
 -- Painted, with the cells in place, all is there for the turns; and what they leave is the rule's growth. Assumes nothing.
-use Prim.Native.Nat.{ℕ, zero, suc, _+_, _-_, _*_, _/_, _≤_, _<_}
+use Prim.Native.Nat.{ℕ, _+_, _-_, _*_, _/_, _≤_, _<_}
 use native.Mathlib.Omega.{arith}
 use native.Mathlib.Decide.{ℕ-discrete, decLt}
 use native.Mathlib.Nat.{zero-add}
@@ -8,8 +8,8 @@ use mathlib.Core.List.{List, [], _++_}
 use lib.ListN.{length, getD, take, drop, replicate, length-replicate, getD-replicate, List·getD-append}
 use lib.Seq.{getD-take, length-take-le, ext-getD, getD-append-add}
 use Rattle.rules.specs.Base.{tab, upto}
-use Rattle.rules.specs.Field.{Field, spans, cellOf}
-use Rattle.rules.specs.Growth.{Marks, Turn, turn, expand, blank, painted, firstId, grown, Grown}
+use Rattle.rules.specs.Field.{Field, cellOf}
+use Rattle.rules.specs.Growth.{Marks, Turn, turn, blank, painted, firstId, grown}
 use Rattle.laws.proofs.Basics.{tab-at, length-tab}
 use Rattle.laws.proofs.NextId.{zeros, zeros-le}
 use Rattle.laws.proofs.Lengths.{painted-length}
@@ -17,12 +17,12 @@ use Rattle.laws.proofs.Grows.{first-few}
 use Rattle.rooms.proofs.Growing.{painted-grow}
 use Rattle.space.specs.Space.{Frame}
 use Rattle.space.proofs.Laws.{getD-before, getD-after}
-use Rattle.field.specs.Lent.{Sound, lent}
+use Rattle.field.specs.Lent.{lent}
 use Rattle.field.proofs.Refused.{sound-reached}
 use Rattle.paint.specs.Paint.{Plot}
 use Rattle.flood.specs.Site.{Lent}
 use Rattle.flood.specs.Stack.{marksAt}
-use Rattle.expand.specs.Layout.{Low, Clear}
+use Rattle.expand.specs.Layout.{Clear}
 use Rattle.expand.proofs.Sources.{painted-low}
 use Rattle.growth.specs.Seas.{Seas}
 use Rattle.growth.specs.Turns.{Between, turnsOf}

@@ -1,24 +1,24 @@
 -- The floods from the turn's stack: what they ask is there (`Ready`), and afterwards all is there for the next turn, with the stacks as they were. Assumes nothing.
-use Prim.Native.Nat.{ℕ, zero, suc, _+_, _-_, _*_, _≤_, _<_}
+use Prim.Native.Nat.{ℕ, _+_, _-_, _*_, _≤_, _<_}
 use native.Mathlib.Omega.{arith}
-use mathlib.Core.Path.{_≡_, refl, sym, ap, _∙_}
-use mathlib.Core.List.{List, [], _∷_}
-use lib.ListN.{length, getD, set, take, drop}
+use mathlib.Core.Path.{_≡_, sym, ap, _∙_}
+use mathlib.Core.List.{List}
+use lib.ListN.{length, getD, drop}
 use lib.Seq.{getD-drop}
-use Rattle.rules.specs.Field.{Field, spans, none, areaOf}
-use Rattle.rules.specs.Growth.{Marks, Ids, floods}
+use Rattle.rules.specs.Field.{Field, spans, none}
+use Rattle.rules.specs.Growth.{Ids, floods}
 use Rattle.laws.proofs.Basics.{All, All-map}
 use Rattle.space.specs.Space.{sec}
-use Rattle.flood.specs.Site.{Lent, SomeLent}
-use Rattle.flood.specs.Stack.{marksAt, Blank, Sized}
+use Rattle.flood.specs.Site.{Lent}
+use Rattle.flood.specs.Stack.{marksAt, Sized}
 use Rattle.flood.proofs.Sight.{area-is}
-use Rattle.expand.specs.Layout.{Low, Clear, listAt}
+use Rattle.expand.specs.Layout.{Low}
 use Rattle.expand.proofs.Lists.{all-at, listAt-sec}
-use Rattle.levels.specs.Levels.{levelsAt, Fills, Stacked}
-use Rattle.levels.proofs.LevelLaws.{levels-at, slots}
+use Rattle.levels.specs.Levels.{levelsAt}
+use Rattle.levels.proofs.LevelLaws.{levels-at}
 use Rattle.growth.specs.Seas.{Seas, Entries}
 use Rattle.growth.specs.Turns.{Ready, stackOf, Washed, Bytes}
-use Rattle.growth.proofs.SeaLaws.{lent-past}
+use Rattle.growth.proofs.SeaLaws.{lent-kept}
 use Rattle.growth.proofs.LowLaws.{floods-low}
 use Rattle.growth.proofs.StackLaws.{levels-past}
 use Rattle.growth.proofs.ExpandTurn.{section, ready-levels}
@@ -71,7 +71,7 @@ module _ (w : ℕ) (is ar cs dist : List ℕ) (b next : ℕ) (fs : List ℕ) (j 
       washed = record {
         ready = record {
           F = v .F;
-          lent = lent-past (v .F) w is ar cs b ws ws′ (omega (arith, v .past)) size d (v .lent);
+          lent = lent-kept (v .F) w is ar cs b ws ws′ (omega (arith, v .past)) size d (v .lent);
           few = v .few;
           past = v .past;
           turn = v .turn;

@@ -1,20 +1,19 @@
 -- After the turns the level stacks are zeroed, and all is there for the last expansion. Assumes nothing.
-use Prim.Native.Nat.{ℕ, _+_, _-_, _*_, _/_, _≤_, _<_}
+use Prim.Native.Nat.{ℕ, _-_, _*_, _≤_}
 use native.Mathlib.Omega.{arith}
-use mathlib.Core.Path.{_≡_, refl, sym, ap, _∙_}
+use mathlib.Core.Path.{_≡_, ap, _∙_}
 use mathlib.Core.List.{List, []}
 use lib.ListN.{length, getD, drop, replicate, length-replicate}
 use borrow.Rule.Slice.PartMut.{putMid, midOf}
 use Rattle.rules.specs.Field.{Field}
-use Rattle.rules.specs.Growth.{Marks, Turn, expand, blank}
-use Rattle.space.specs.Space.{sec, Frame}
-use Rattle.space.proofs.Laws.{frame-put, getD-after, length-sec}
+use Rattle.rules.specs.Growth.{expand, blank}
+use Rattle.space.specs.Space.{Frame}
+use Rattle.space.proofs.Laws.{frame-put, getD-after, length-sec, zeroed}
 use Rattle.flood.specs.Site.{Lent, SomeLent}
 use Rattle.flood.specs.Stack.{marksAt}
-use Rattle.expand.specs.Layout.{Low, Clear, Last}
+use Rattle.expand.specs.Layout.{Clear, Last}
 use Rattle.expand.proofs.Lists.{marks-same, lent-past, some-past}
-use Rattle.expand.proofs.Blanks.{zeroed}
-use Rattle.growth.specs.Turns.{Between, Ebbed, turnsOf}
+use Rattle.growth.specs.Turns.{Between, Ebbed}
 use Rattle.growth.specs.Grow.{turnsFor, Grew}
 use Rattle.growth.proofs.SeaLaws.{past-same}
 

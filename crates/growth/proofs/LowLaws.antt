@@ -1,19 +1,17 @@
 -- Floods keep source distances low: a flood only sets some to 0, and leaves no more spans of id 0 than there were (`flood-zeros`).
 -- Assumes nothing.
-use Prim.Native.Nat.{ℕ, zero, suc, _+_, _-_, _*_, _≤_, _<_}
+use Prim.Native.Nat.{ℕ, zero, suc, _-_, _≤_, _<_}
 use native.Mathlib.Omega.{arith}
 use native.Mathlib.Nat.{le-refl}
-use mathlib.Core.Path.{_≡_, refl, sym, ap, _∙_}
-use mathlib.Core.Bool.{Bool, true, false, not}
+use mathlib.Core.Path.{_≡_}
 use mathlib.Core.List.{List, [], _∷_}
-use lib.ListN.{length, getD, set}
-use lib.Dec.{eqb}
-use borrow.Author.Tests.{eqb-true, eqb-false, eq-eqb, ne-eqb, lt-leb, not-true}
-use Rattle.rules.specs.Base.{_and_, if_then_else_, upto}
+use lib.ListN.{getD}
+use borrow.Author.Tests.{eqb-true, eqb-false, ne-eqb, lt-leb, not-true}
+use Rattle.rules.specs.Base.{_and_}
 use Rattle.rules.specs.Field.{Field, spans, none, areaOf}
 use Rattle.rules.specs.Growth.{Marks, idOf, put, Seed, Flow, objects, pushed, visit, flow, flood, floods, Ids}
 use Rattle.laws.proofs.Basics.{both, if-ind, upto-ind, getD-set-cases, All}
-use Rattle.laws.proofs.NextId.{zeros, flood-zeros}
+use Rattle.laws.proofs.NextId.{flood-zeros}
 use Rattle.expand.specs.Layout.{Low}
 use Rattle.growth.specs.Seas.{Seas}
 use Rattle.growth.proofs.SeaLaws.{flood-seas}

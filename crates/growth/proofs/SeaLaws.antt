@@ -1,28 +1,29 @@
 -- A flood keeps the ids below the next, and leaves ids for every span of id 0: a failed one changes no id, one that succeeds gives its id to a span that had none
 -- (`flood-leaves`, `flood-zeros`). Assumes nothing.
-use Prim.Native.Nat.{ℕ, zero, suc, _+_, _-_, _≤_, _<_}
+use Prim.Native.Nat.{ℕ, suc, _+_, _-_, _≤_, _<_}
 use native.Mathlib.Omega.{arith}
 use native.Mathlib.Decide.{ℕ-discrete}
 use mathlib.Core.Path.{_≡_, refl, sym, ap, _∙_}
 use mathlib.Core.Bool.{Bool, true, false, not}
 use mathlib.Core.Logic.{⊎-elim, _⊎_, inl, inr}
 use native.Mathlib.Numerals.{add-one}
-use mathlib.Core.List.{List, [], _∷_}
+use mathlib.Core.List.{List, _∷_}
 use lib.ListN.{length, getD, take, drop}
 use lib.Dec.{eqb}
-use borrow.Author.Tests.{eqb-true, eqb-false, eq-eqb, ne-eqb, lt-leb}
+use borrow.Author.Tests.{eqb-true, eq-eqb, ne-eqb, lt-leb}
 use Rattle.rules.specs.Base.{_and_, if_then_else_}
 use Rattle.rules.specs.Field.{Field, spans, none, areaOf}
 use Rattle.rules.specs.Growth.{Marks, idOf, Flow, flood, floods, Ids}
 use Rattle.laws.proofs.NextId.{zeros, flood-zeros}
-use Rattle.rooms.proofs.Flooding.{Leaves, flood-leaves}
+use Rattle.rooms.proofs.Flooding.{flood-leaves}
 use Rattle.flood.specs.Site.{Lent, SomeLent}
 use Rattle.flood.specs.Stack.{marksAt, flowAt, Begins, Blank}
 use Rattle.flood.proofs.Sight.{area-is}
 use lib.Seq.{getD-drop, drop-cons}
-use Rattle.space.specs.Space.{tally, sec}
+use Rattle.space.specs.Space.{sec}
 use Rattle.space.proofs.Laws.{tally-none, sec-drop}
 use Rattle.growth.specs.Seas.{floodOne, Seas, Entries}
+use Rattle.expand.proofs.Lists.{lent-past}
 
 -- the next id is borne by no span
 pub seas-begins : (n next e : ℕ) (ids : List ℕ) → Seas n next ids → e < n → getD ids e 0 ≡ 0 → Begins next e ids
@@ -151,18 +152,9 @@ past-same n i ws ws′ h e =
 pub past-size : (n : ℕ) (ws ws′ : List ℕ) → n ≤ length ws → length ws′ ≡ length ws → drop n ws′ ≡ drop n ws → (b k : ℕ) → n ≤ b → sec b k ws′ ≡ sec b k ws
 past-size n ws ws′ h s e b k g = rw (sec-drop b k n ws′ g, sec-drop b k n ws g, e)
 
-pub lent-past : (F : Field) (w : ℕ) (is ar cs : List ℕ) (b : ℕ) (ws ws′ : List ℕ) → length ar ≤ b → length ws′ ≡ length ws → drop (length ar) ws′ ≡ drop (length ar) ws
+pub lent-kept : (F : Field) (w : ℕ) (is ar cs : List ℕ) (b : ℕ) (ws ws′ : List ℕ) → length ar ≤ b → length ws′ ≡ length ws → drop (length ar) ws′ ≡ drop (length ar) ws
     → Lent F w is ar cs b ws → Lent F w is ar cs b ws′
-lent-past F w is ar cs b ws ws′ h s e l = record {
-  reached = l .reached;
-  wide = l .wide;
-  indexed = l .indexed;
-  areas = l .areas;
-  linked = l .linked;
-  cells = λ x k. past-same (length ar) (b + x) ws ws′ (omega arith) e ∙ l .cells x k;
-  room = omega (arith, l .room, s);
-  near = l .near;
-}
+lent-kept F w is ar cs b ws ws′ h s e = lent-past w is ar cs b ws ws′ s (λ x k. past-same (length ar) x ws ws′ (omega arith) e) F
 
 pub blank-past : (n f top : ℕ) (ws ws′ : List ℕ) → n ≤ f → drop n ws′ ≡ drop n ws → Blank n f top ws → Blank n f top ws′
 blank-past n f top ws ws′ h e v = record { zeros = λ i a k. past-same n i ws ws′ (omega arith) e ∙ v .zeros i a k }
@@ -187,7 +179,7 @@ module _ (w : ℕ) (is ar cs dist : List ℕ) (b f from to level next : ℕ) (id
 
   module _ (ids ws : List ℕ) (j id : ℕ) (v : Flooded w is ar cs dist b f from to level next ids₀ ws₀ ids ws j id) where
     pub flooded-lent : SomeLent w is ar cs b ws₀ → SomeLent w is ar cs b ws
-    flooded-lent x = record { F = x .F; lent = lent-past (x .F) w is ar cs b ws₀ ws ro (v .size₂) (v .past) (x .lent) }
+    flooded-lent x = record { F = x .F; lent = lent-kept (x .F) w is ar cs b ws₀ ws ro (v .size₂) (v .past) (x .lent) }
 
     pub flooded-entry : (e : ℕ) → j < to → e ≡ getD ws j 0 → (e ≡ 65535 → ⊥) → e < length ar
     flooded-entry e h q k =
@@ -205,7 +197,7 @@ module _ (w : ℕ) (is ar cs dist : List ℕ) (b f from to level next : ℕ) (id
       past = d ∙ v .past;
       seas = s;
       same = λ F l.
-          let l′ = lent-past F w is ar cs b ws₀ ws ro (v .size₂) (v .past) l in
+          let l′ = lent-kept F w is ar cs b ws₀ ws ro (v .size₂) (v .past) l in
           v .same F l ∙ stepped F (m F l′);
     }
       where

@@ -1,18 +1,14 @@
 -- Expansion keeps the ids below the next, since an entry takes the id of a neighbour; and it leaves no more spans of id 0 (`expand-down`).
 -- Assumes nothing.
-use Prim.Native.Nat.{ℕ, zero, suc, _+_, _≤_, _<_}
+use Prim.Native.Nat.{ℕ, zero, suc, _<_}
 use native.Mathlib.Omega.{arith}
-use mathlib.Core.Path.{_≡_, refl, sym, ap, _∙_}
-use mathlib.Core.Bool.{Bool, true, false, not}
+use mathlib.Core.Path.{_∙_}
 use mathlib.Core.List.{List, [], _∷_}
-use lib.ListN.{length, getD, set}
-use lib.Dec.{eqb, leb}
 use borrow.Author.Tests.{leb-false, not-true}
-use Rattle.rules.specs.Base.{_and_, if_then_else_, upto}
-use Rattle.rules.specs.Field.{Field, spans, none, near}
-use Rattle.rules.specs.Growth.{Marks, idOf, put, plain, Taken, look, takes, finds, wrote, written, Spread, round, rounds, expand}
+use Rattle.rules.specs.Base.{_and_}
+use Rattle.rules.specs.Field.{Field, spans, near}
+use Rattle.rules.specs.Growth.{Marks, idOf, put, Taken, look, takes, finds, wrote, written, Spread, round, rounds, expand}
 use Rattle.laws.proofs.Basics.{both, if-ind, upto-ind, getD-set-cases, All}
-use Rattle.laws.proofs.NextId.{zeros}
 use Rattle.laws.proofs.Grows.{Inside, Down, expand-down, down-zeros}
 use Rattle.growth.specs.Seas.{Seas}
 

@@ -1,20 +1,14 @@
 -- The level stacks lie past the source distances, so floods keep them and an expansion changes the turn's alone. Assumes nothing.
-use Prim.Native.Nat.{ℕ, zero, suc, _+_, _-_, _*_, _≤_, _<_}
+use Prim.Native.Nat.{ℕ, zero, suc, _+_, _*_, _≤_, _<_}
 use native.Mathlib.Omega.{arith}
-use native.Mathlib.Nat.{suc-mul, le-refl}
-use mathlib.Core.Path.{_≡_, refl, sym, ap, _∙_}
+use native.Mathlib.Nat.{suc-mul}
+use mathlib.Core.Path.{_≡_, refl}
 use mathlib.Core.Logic.{_⊎_, inl, inr, ⊎-elim}
 use mathlib.Core.List.{List, [], _∷_}
-use lib.ListN.{length, getD, set, take, drop}
+use lib.ListN.{length, getD, set}
 use Rattle.space.specs.Space.{sec}
-use Rattle.space.proofs.Laws.{sec-drop}
+use Rattle.space.proofs.Laws.{sec-same}
 use Rattle.levels.specs.Levels.{levelsAt}
-use Rattle.expand.specs.Layout.{listAt}
-use Rattle.expand.proofs.Lists.{listAt-cong, listAt-sec}
-
--- a part that lies within two lists that are the same there
-sec-same : (ws ws′ : List ℕ) (b k : ℕ) → b + k ≤ length ws → length ws′ ≡ length ws → ((x : ℕ) → b ≤ x → x < b + k → getD ws′ x 0 ≡ getD ws x 0) → sec b k ws′ ≡ sec b k ws
-sec-same ws ws′ b k h l e = sym (listAt-sec ws′ b k (omega arith)) ∙ listAt-cong ws ws′ b k e ∙ listAt-sec ws b k h
 
 -- stacks that do not change
 levels-same : (ws ws′ : List ℕ) (b n : ℕ) (fs : List ℕ) → b + length fs * n ≤ length ws → length ws′ ≡ length ws → ((j : ℕ) → getD fs j 0 ≤ n)

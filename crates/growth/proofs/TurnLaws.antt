@@ -1,12 +1,11 @@
 -- Loading the stacks: each of its two ways is one of the rule's `loaded` (levels' promises). Assumes nothing.
-use Prim.Native.Nat.{ℕ, _+_, _-_, _*_, _%_, _≤_, _<_}
+use Prim.Native.Nat.{ℕ, _-_, _<_}
 use native.Mathlib.Omega.{arith}
-use mathlib.Core.Path.{_≡_, refl, sym, ap, _∙_}
+use mathlib.Core.Path.{_≡_, sym, _∙_}
 use mathlib.Core.List.{List, []}
 use lib.ListN.{length, getD, replicate}
 use Rattle.rules.specs.Field.{Field}
-use Rattle.rules.specs.Growth.{Marks, Turn, sorted, remains, loaded}
-use Rattle.space.specs.Space.{Frame}
+use Rattle.rules.specs.Growth.{Marks, sorted, remains, loaded}
 use Rattle.levels.specs.Levels.{levelsAt, Fills, joined, Kept, Stacked}
 use Rattle.levels.proofs.TurnLaws.{loaded-first, loaded-next}
 use Rattle.growth.specs.Turns.{after, Left, Loaded}

@@ -1,20 +1,18 @@
 -- A turn: the stacks are loaded, the turn's is expanded and flooded from, and all is there for the next. Assumes nothing.
-use Prim.Native.Nat.{ℕ, zero, suc, _+_, _-_, _*_, _≤_, _<_}
+use Prim.Native.Nat.{ℕ, _+_, _-_, _*_, _≤_, _<_}
 use native.Mathlib.Omega.{arith}
 use native.Mathlib.Nat.{mod-lt}
-use mathlib.Core.Path.{_≡_, refl, sym, ap, _∙_}
-use mathlib.Core.List.{List, [], _∷_}
-use lib.ListN.{length, getD, set, take, drop}
+use mathlib.Core.Path.{_≡_, refl, ap, _∙_}
+use mathlib.Core.List.{List, []}
+use lib.ListN.{length, getD, set}
 use Rattle.rules.specs.Field.{Field}
 use Rattle.rules.specs.Growth.{Marks, Turn, loaded, Spread, expand, Ids, floods}
-use Rattle.space.specs.Space.{Frame}
 use Rattle.space.proofs.Laws.{getD-after}
 use Rattle.flood.specs.Site.{Lent}
-use Rattle.flood.specs.Stack.{marksAt, Blank}
-use Rattle.expand.specs.Layout.{Low, Clear}
+use Rattle.flood.specs.Stack.{marksAt}
 use Rattle.expand.proofs.Lists.{marks-same}
 use Rattle.levels.specs.Levels.{levelsAt}
-use Rattle.growth.specs.Turns.{after, Left, Loaded, Ready, stackOf, Expanded, Washed, Between, Turned, turnAt}
+use Rattle.growth.specs.Turns.{after, Loaded, Ready, stackOf, Expanded, Washed, Between, Turned, turnAt}
 
 pub ids-of : (n : ℕ) (ids ws : List ℕ) → marksAt n ids ws .ids ≡ ids
 unfolding marksAt

@@ -4,7 +4,7 @@ use mathlib.Core.Path.{_≡_}
 use mathlib.Core.List.{List}
 use lib.ListN.{length, getD, replicate}
 use Rattle.rules.specs.Field.{Field, spans, cellOf}
-use Rattle.rules.specs.Growth.{Marks, Turn, expand, blank, grown}
+use Rattle.rules.specs.Growth.{expand, blank, grown}
 use Rattle.field.specs.Lent.{Sound, lent}
 use Rattle.flood.specs.Site.{Lent}
 use Rattle.flood.specs.Stack.{marksAt}

@@ -5,7 +5,7 @@ use mathlib.Core.List.{List, []}
 use lib.ListN.{length, getD, set}
 use Rattle.rules.specs.Base.{upto}
 use Rattle.rules.specs.Field.{Field}
-use Rattle.rules.specs.Growth.{Marks, Turn, loaded, Spread, expand, Ids, floods, turn}
+use Rattle.rules.specs.Growth.{Turn, loaded, expand, floods, turn}
 use Rattle.space.specs.Space.{sec, Frame}
 use Rattle.levels.specs.Levels.{levelsAt, Fills, Stacked}
 use Rattle.flood.specs.Site.{Lent}

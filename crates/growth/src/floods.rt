@@ -2,8 +2,8 @@
 use field::read::at16;
 use flood::flow::flood_region;
 ghost use mathlib.Core.Path.{_≡_};
-ghost use Prim.Native.Nat.{ℕ, _+_, _-_, _<_, _≤_};
-ghost use lib.ListN.{length, getD, drop};
+ghost use Prim.Native.Nat.{_+_, _-_, _<_, _≤_};
+ghost use lib.ListN.{length, drop};
 ghost use Rattle.rules.specs.Field.{Field};
 ghost use Rattle.rules.specs.Growth.{floods};
 ghost use Rattle.space.specs.Space.{sec};

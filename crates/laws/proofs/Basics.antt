@@ -1,6 +1,6 @@
 -- Laws that no one rule owns: choices and loops, lists made and stored to, how many elements have a property, and distinct places.
 -- Two serve everywhere: `if-ind`, the one case split, and `upto-ind`, the one induction over a loop.
-use Prim.Native.Nat.{ℕ, zero, suc, _+_, _≤_, _<_}
+use Prim.Native.Nat.{ℕ, zero, suc, _+_, _-_, _≤_, _<_}
 use native.Mathlib.Omega.{arith}
 use native.Mathlib.Nat.{le-refl, add-zero}
 use native.Mathlib.Numerals.{add-one}
@@ -8,8 +8,8 @@ use native.Mathlib.Decide.{decLt, ℕ-discrete}
 use mathlib.Core.Path.{_≡_, refl, sym, ap, _∙_}
 use mathlib.Core.Bool.{Bool, true, false, true≢false, false≢true}
 use mathlib.Core.List.{List, [], _∷_, _++_, map}
-use lib.ListN.{length, getD, set, replicate, length-set, length-replicate, getD-replicate}
-use lib.Seq.{getD-set-same, getD-set-other}
+use lib.ListN.{length, getD, set, take, replicate, length-set, length-replicate, getD-replicate, drop}
+use lib.Seq.{getD-set-same, getD-set-other, take-nil}
 use lib.Dec.{eqb}
 use borrow.Author.Tests.{eqb-true, eq-eqb, leb-true, leb-false, ltb-true, ltb-false}
 use Rattle.rules.specs.Base.{_and_, _or_, if_then_else_, upto, tab, every, any, keep, many}
@@ -34,6 +34,25 @@ pub either {κ} : (P : Type κ) (a b : Bool) → a or b ≡ true → (a ≡ true
 unfolding _or_
 either P true b e p q = p refl
 either P false b e p q = q e
+
+pub and-both : (a b : Bool) → a ≡ true → b ≡ true → a and b ≡ true
+unfolding _and_
+and-both a b e f = rw (e, f)
+
+pub or-left : (a b : Bool) → a ≡ true → a or b ≡ true
+unfolding _or_
+or-left a b e = rw e
+
+pub or-right : (a b : Bool) → b ≡ true → a or b ≡ true
+unfolding _or_
+or-right true b e = refl
+or-right false b e = e
+
+-- two tests that say the same
+pub same-test : (a b : Bool) → (a ≡ true → b ≡ true) → (b ≡ true → a ≡ true) → a ≡ b
+same-test true b f g = sym (f refl)
+same-test false true f g = g refl
+same-test false false f g = refl
 
 pub and-no : (a : Bool) → a and false ≡ false
 unfolding _and_
@@ -87,6 +106,18 @@ tab-each P zero at f d j p h = p
 tab-each P (suc n) at f d zero p h = h at
 tab-each P (suc n) at f d (suc j) p h = tab-each P n (suc at) f d j p h
 
+-- what is read within a list is the same for every default
+pub getD-any : (l : List ℕ) (i d e : ℕ) → i < length l → getD l i d ≡ getD l i e
+getD-any [] i d e h = absurd (omega arith)
+getD-any (x ∷ l) zero d e h = refl
+getD-any (x ∷ l) (suc i) d e h = getD-any l i d e (omega arith)
+
+pub drop-take : (n m : ℕ) (l : List ℕ) → drop n (take m l) ≡ take (m - n) (drop n l)
+drop-take zero m l = let e : m ≡ m - 0 = omega arith in ap (λ (j : ℕ). take j l) e
+drop-take (suc n) zero l = let e : 0 ≡ 0 - suc n = omega arith in ap (λ (j : ℕ). take j (drop (suc n) l)) e
+drop-take (suc n) (suc m) [] = sym (take-nil (suc m - suc n))
+drop-take (suc n) (suc m) (x ∷ l) = let e : m - n ≡ suc m - suc n = omega arith in drop-take n m l ∙ ap (λ (j : ℕ). take j (drop n l)) e
+
 -- a place that holds something is in the list
 pub nonzero-in : (l : List ℕ) (t : ℕ) → (getD l t 0 ≡ 0 → ⊥) → t < length l
 nonzero-in [] t h = absurd (h refl)
@@ -129,6 +160,16 @@ pub All-map : {P Q : ℕ → Type 0} (xs : List ℕ) → ((x : ℕ) → P x → 
 All-map [] f h = tt
 All-map (x ∷ xs) f h = (f x (h .0), All-map xs f (h .1))
 
+pub all-at : (P : ℕ → Type 0) (l : List ℕ) (i : ℕ) → All P l → i < length l → P (getD l i 0)
+all-at P [] i h g = absurd (omega arith)
+all-at P (x ∷ l) zero h g = h .0
+all-at P (x ∷ l) (suc i) h g = all-at P l i (h .1) (omega arith)
+
+pub take-all : (P : ℕ → Type 0) (n : ℕ) (xs : List ℕ) → All P xs → All P (take n xs)
+take-all P zero xs h = tt
+take-all P (suc n) [] h = tt
+take-all P (suc n) (x ∷ xs) h = (h .0, take-all P n xs (h .1))
+
 pub All-both : (P Q : ℕ → Type 0) (xs : List ℕ) → All P xs → All Q xs → All (λ x. P x × Q x) xs
 All-both P Q [] h g = tt
 All-both P Q (x ∷ xs) h g = ((h .0, g .0), All-both P Q xs (h .1) (g .1))
@@ -147,9 +188,9 @@ pub append-all : (P : ℕ → Type 0) (xs ys : List ℕ) → All P xs → All P 
 append-all P [] ys h g = g
 append-all P (x ∷ xs) ys h g = (h .0, append-all P xs ys (h .1) g)
 
-pub map-all : (P : ℕ → Type 0) (f : ℕ → ℕ) (xs : List ℕ) → ((x : ℕ) → P x → P (f x)) → All P xs → All P (map f xs)
-map-all P f [] k h = tt
-map-all P f (x ∷ xs) k h = (k x (h .0), map-all P f xs k (h .1))
+pub map-all : (P Q : ℕ → Type 0) (f : ℕ → ℕ) (xs : List ℕ) → ((x : ℕ) → P x → Q (f x)) → All P xs → All Q (map f xs)
+map-all P Q f [] k h = tt
+map-all P Q f (x ∷ xs) k h = (k x (h .0), map-all P Q f xs k (h .1))
 
 pub tab-all : (P : ℕ → Type 0) (n at : ℕ) → ((i : ℕ) → i < n → P (at + i)) → All P (tab n at (λ s. s))
 unfolding tab

@@ -48,13 +48,13 @@ module _ (F : Field) where
       if-ind (λ (x : Spread). Down (p .marks) (x .marks) × All (Inside F) (x .stack)) _
       (λ _.
       let s = written-down (p .marks) (p .stack) (p .marks) in
-      let r = rounds-down k (round F p) (map-all (Inside F) _ (p .stack) (λ x i. if-ind (Inside F) _ (λ _ n. absurd (n refl)) (λ _. i)) h) in
+      let r = rounds-down k (round F p) (map-all (Inside F) (Inside F) _ (p .stack) (λ x i. if-ind (Inside F) _ (λ _ n. absurd (n refl)) (λ _. i)) h) in
       ((r .0 .0 ∙ s .0, λ t j. s .1 t (r .0 .1 t j)), r .1))
       (λ _. ((refl, λ t k. k), h))
 
   pub expand-down : (level : ℕ) (m : Marks) (es : List ℕ) → All (Inside F) es → Down m (expand F level m es .marks) × All (Inside F) (expand F level m es .stack)
   unfolding expand
-  expand-down level m es h = rounds-down _ _ (map-all (Inside F) _ es (λ x i. if-ind (Inside F) _ (λ _. i) (λ _ n. absurd (n refl))) h)
+  expand-down level m es h = rounds-down _ _ (map-all (Inside F) (Inside F) _ es (λ x i. if-ind (Inside F) _ (λ _. i) (λ _ n. absurd (n refl))) h)
 
   pub down-zeros : (m x : Marks) → Down m x → zeros (x .ids) ≤ zeros (m .ids)
   unfolding Down

@@ -50,7 +50,7 @@ module _ (F : Field) where
   unfolding wrote put
   wrote-length m e out = if-ind (λ (x : Marks). length (x .ids) ≡ length (out .ids)) _ (λ _. length-set (out .ids) e _) (λ _. refl)
 
-  written-length : (m : Marks) (es : List ℕ) (out : Marks) → length (written F m es out .ids) ≡ length (out .ids)
+  pub written-length : (m : Marks) (es : List ℕ) (out : Marks) → length (written F m es out .ids) ≡ length (out .ids)
   unfolding written
   written-length m [] out = refl
   written-length m (e ∷ es) out = written-length m es (wrote F m e out) ∙ wrote-length m e out

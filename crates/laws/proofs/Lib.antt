@@ -2,6 +2,7 @@
 -- They assume nothing but what each states; Basics holds the laws that no one rule owns.
 pub mod Basics
 pub mod Sums
+pub mod Plain
 pub mod Lengths
 pub mod Cells
 pub mod Passes

@@ -77,13 +77,16 @@ renamed-bare o n r e =
     if-ind (λ (z : Rec). z .list ≡ []) (eqb (r .id) 0) (λ _. e)
     (λ _. if-ind (λ (l : List ℕ). l ≡ []) (has (r .list) o) (λ h. absurd (has-none (r .list) o h e)) (λ _. e))
 
-renamed-fresh : (o n : ℕ) → renamed o n (fresh 0) ≡ fresh 0
+pub renamed-fresh : (o n : ℕ) → renamed o n (fresh 0) ≡ fresh 0
 unfolding renamed fresh if_then_else_
 renamed-fresh o n = refl
 
-at-renamed : (o n : ℕ) (rs : List Rec) (x : ℕ) → at (map (renamed o n) rs) x ≡ renamed o n (at rs x)
+pub at-map : (f : Rec → Rec) → f (fresh 0) ≡ fresh 0 → (rs : List Rec) (x : ℕ) → at (map f rs) x ≡ f (at rs x)
 unfolding at
-at-renamed o n rs x = ap (getD (map (renamed o n) rs) x) (sym (renamed-fresh o n)) ∙ List·getD-map (renamed o n) rs x (fresh 0)
+at-map f e rs x = ap (getD (map f rs) x) (sym e) ∙ List·getD-map f rs x (fresh 0)
+
+at-renamed : (o n : ℕ) (rs : List Rec) (x : ℕ) → at (map (renamed o n) rs) x ≡ renamed o n (at rs x)
+at-renamed o n rs x = at-map (renamed o n) (renamed-fresh o n) rs x
 
 -- ---------------------------------------------------------------- one merge: n absorbs i, whose id o becomes n
 

@@ -138,7 +138,7 @@ flood-zeros F dist level id m s z u h a n b =
           omega (arith, zeros-lower (m .ids) (f .marks .ids) (w .0) sized (λ t k _. r .1 .down t k) (rw (← sized) (nonzero-in (f .marks .ids) (w .0) there)) (w .3) there)),
     )
 
-if-add : (b : Bool) (i : ℕ) → (if b then i else suc i) ≡ i + (if b then 0 else 1)
+pub if-add : (b : Bool) (i : ℕ) → (if b then i else suc i) ≡ i + (if b then 0 else 1)
 unfolding if_then_else_
 if-add true i = omega arith
 if-add false i = omega arith

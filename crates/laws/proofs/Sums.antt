@@ -1,5 +1,5 @@
 -- Sums over the first k numbers: at most, the same, or so many times as much, where each term is. By induction on k.
-use Prim.Native.Nat.{ℕ, zero, suc, _+_, _*_, _≤_, _<_}
+use Prim.Native.Nat.{ℕ, zero, suc, _*_, _≤_, _<_}
 use native.Mathlib.Omega.{arith}
 use native.Mathlib.Nat.{mul-zero, mul-add}
 use mathlib.Core.Path.{_≡_, refl, sym}

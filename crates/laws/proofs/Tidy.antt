@@ -30,11 +30,11 @@ module _ (k i : ℕ) (l : List ℕ) (h : i < length l) (g : 1 < length l) where
   unfolding dedup if_then_else_ _and_
   dedup-keep e = rw (lt-ltb i (length l) h, lt-ltb 1 (length l) g, ne-eqb _ _ e)
 
-trim-same : (l : List ℕ) (m : ℕ) → 1 < length l → length l - 1 ≡ m → getD l 0 0 ≡ getD l m 0 → trim l ≡ take m l
+pub trim-same : (l : List ℕ) (m : ℕ) → 1 < length l → length l - 1 ≡ m → getD l 0 0 ≡ getD l m 0 → trim l ≡ take m l
 unfolding trim if_then_else_ _and_
 trim-same l m h q e = rw (lt-ltb 1 (length l) h, q, eq-eqb (getD l 0 0) (getD l m 0) e)
 
-trim-other : (l : List ℕ) (m : ℕ) → 1 < length l → length l - 1 ≡ m → (getD l 0 0 ≡ getD l m 0 → ⊥) → trim l ≡ l
+pub trim-other : (l : List ℕ) (m : ℕ) → 1 < length l → length l - 1 ≡ m → (getD l 0 0 ≡ getD l m 0 → ⊥) → trim l ≡ l
 unfolding trim if_then_else_ _and_
 trim-other l m h q e = rw (lt-ltb 1 (length l) h, q, ne-eqb (getD l 0 0) (getD l m 0) e)
 

@@ -13,7 +13,7 @@ use borrow.Author.Tests.{eq-eqb, ne-eqb}
 use Rattle.rules.specs.Base.{_and_, keep}
 use Rattle.rules.specs.Field.{none}
 use Rattle.rules.specs.Growth.{Marks, remains}
-use Rattle.laws.proofs.Basics.{All, and-no, keep-length}
+use Rattle.laws.proofs.Basics.{and-no, keep-length, all-at}
 use Rattle.levels.specs.Levels.{levelsAt, Fills, joined, Stacked, left, Moved}
 use Rattle.levels.proofs.LevelLaws.{fill-is, entry-is, moved-none, moved-then}
 use Rattle.levels.proofs.CarryLaws.{joined-none, joined-joined, stacked-room, stacked-append}
@@ -48,11 +48,6 @@ module _ (ws : List ℕ) (n base j : ℕ) (fs ids : List ℕ) (e : ℕ) where
   append-put ws′ fs′ h z m = rw (left-one ids e h z) m
 
 -- ---------------------------------------------------------------- the loop
-
-all-at : (P : ℕ → Type 0) (l : List ℕ) (i : ℕ) → All P l → i < length l → P (getD l i 0)
-all-at P [] i a h = absurd (omega arith)
-all-at P (x ∷ l) zero a h = a .0
-all-at P (x ∷ l) (suc i) a h = all-at P l i (a .1) (omega arith)
 
 left-length : (ids es : List ℕ) (i : ℕ) → length (left ids (take i es)) ≤ i
 unfolding left

@@ -7,7 +7,6 @@ use mathlib.Core.Path.{_≡_, refl, _∙_}
 use mathlib.Core.List.{List, [], _∷_, _++_, append-nil, append-assoc}
 use lib.ListN.{length, getD, set, drop, length-set, length-append}
 use lib.Seq.{set-getD, set-set, getD-set-same}
-use Rattle.rules.specs.Base.{keep}
 use Rattle.rules.specs.Field.{none}
 use Rattle.rules.specs.Growth.{Marks, remains, turn}
 use Rattle.laws.proofs.Basics.{All, keep-all, keep-length, append-all, set-cases}

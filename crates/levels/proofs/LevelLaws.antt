@@ -1,7 +1,6 @@
 -- The stacks after a store, and after a part of the workspace changed.
 -- Stack k is the part at b + k·n as far as it is filled, so a store at its fill is one more entry there and touches no other stack.
-use mathlib.Core.Path.{_≡_, refl, ap, _∙_}
-use mathlib.Core.Logic.{⊎-elim, _⊎_, inl, inr}
+use mathlib.Core.Path.{_≡_, refl, _∙_}
 use mathlib.Core.List.{List, [], _∷_}
 use Prim.Native.Nat.{ℕ, zero, suc, _+_, _*_, _≤_, _<_}
 use native.Mathlib.Omega.{arith}
@@ -11,8 +10,8 @@ use native.Mathlib.Numerals.{add-one}
 use lib.ListN.{length, getD, set, drop, length-set, length-drop}
 use lib.Seq.{drop-set-lt, drop-set-add, take-set-le, take-suc-set, getD-set-same, getD-set-other}
 use Rattle.laws.proofs.Basics.{getD-set-cases}
-use Rattle.space.specs.Space.{sec, Frame}
-use Rattle.space.proofs.Laws.{length-sec, getD-sec, frame-none, frame-then, frame-set, sec-before, sec-after}
+use Rattle.space.specs.Space.{sec}
+use Rattle.space.proofs.Laws.{length-sec, getD-sec, frame-none, frame-then, frame-set}
 use Rattle.levels.specs.Levels.{levelsAt, Fills, joined, Moved}
 
 -- ---------------------------------------------------------------- places
@@ -24,11 +23,6 @@ slot k m n f hk hf = omega (arith, mul-le-mul-right n hk, suc-mul k n)
 -- stack k ends within m stacks
 pub slots : (k m n : ℕ) → k < m → k * n + n ≤ m * n
 slots k m n h = omega (arith, mul-le-mul-right n h, suc-mul k n)
-
-pub levels-length : (ws : List ℕ) (b n : ℕ) (fs : List ℕ) → length (levelsAt ws b n fs) ≡ length fs
-unfolding levelsAt
-levels-length ws b n [] = refl
-levels-length ws b n (f ∷ fs) = ap suc (levels-length ws (b + n) n fs)
 
 -- stack k
 pub levels-at : (ws : List ℕ) (b n : ℕ) (fs : List ℕ) (k : ℕ) → k < length fs → getD (levelsAt ws b n fs) k [] ≡ sec (b + k * n) (getD fs k 0) ws
@@ -129,31 +123,3 @@ pub entry-is : (ws : List ℕ) (n base : ℕ) (fs : List ℕ) (k i : ℕ) → Fi
 entry-is ws n base fs k i f h g =
     let e : base + k * n + i ≡ base + (k * n + i) = omega arith in
     rw (levels-at ws base n fs k (omega (arith, f .eight)), getD-sec (base + k * n) (getD fs k 0) i ws g, e)
-
--- ---------------------------------------------------------------- a part that changed
-
--- outside of the stacks
-pub levels-outside : (ws ws′ : List ℕ) (a e b n m : ℕ) (fs : List ℕ) → Frame a e ws ws′ → length fs ≡ m → ((k : ℕ) → getD fs k 0 ≤ n) → (e ≤ b) ⊎ (b + m * n ≤ a)
-    → levelsAt ws′ b n fs ≡ levelsAt ws b n fs
-unfolding levelsAt
-levels-outside ws ws′ a e b n m [] f l h o = refl
-levels-outside ws ws′ a e b n zero (g ∷ fs) f l h o = absurd (omega arith)
-levels-outside ws ws′ a e b n (suc m) (g ∷ fs) f l h o =
-    let s : sec b g ws′ ≡ sec b g ws = ⊎-elim (λ (q : e ≤ b). sec-after b g f q) (λ (q : b + suc m * n ≤ a). sec-before b g f (omega (arith, h 0, suc-mul m n))) o in
-    let o′ : (e ≤ b + n) ⊎ (b + n + m * n ≤ a) = ⊎-elim (λ (q : e ≤ b). inl (omega arith)) (λ (q : b + suc m * n ≤ a). inr (omega (arith, suc-mul m n))) o in
-    rw (s, levels-outside ws ws′ a e (b + n) n m fs f (omega arith) (λ k. h (suc k)) o′)
-
--- in the part of stack k alone
-pub levels-part : (ws ws′ : List ℕ) (b n k : ℕ) (fs : List ℕ) → Frame (b + k * n) (b + k * n + n) ws ws′ → k < length fs → ((j : ℕ) → getD fs j 0 ≤ n)
-    → levelsAt ws′ b n fs ≡ set (levelsAt ws b n fs) k (sec (b + k * n) (getD fs k 0) ws′)
-unfolding levelsAt
-levels-part ws ws′ b n k [] f l h = absurd (omega arith)
-levels-part ws ws′ b n zero (g ∷ fs) f l h =
-    let e : b + 0 * n ≡ b = omega arith in
-    let f′ : Frame b (b + n) ws ws′ = rw e at f in
-    rw (e, levels-outside ws ws′ b (b + n) (b + n) n (length fs) fs f′ refl (λ j. h (suc j)) (inl (le-refl (b + n))))
-levels-part ws ws′ b n (suc k) (g ∷ fs) f l h =
-    let e : b + suc k * n ≡ b + n + k * n = omega (arith, suc-mul k n) in
-    let f′ : Frame (b + n + k * n) (b + n + k * n + n) ws ws′ = rw e at f in
-    let s : sec b g ws′ ≡ sec b g ws = sec-before b g f′ (omega (arith, h 0)) in
-    rw (e, s, levels-part ws ws′ (b + n) n k fs f′ (omega arith) (λ j. h (suc j)))

@@ -11,13 +11,13 @@ use mathlib.Core.Logic.{⊎-elim}
 use mathlib.Core.List.{List, [], _∷_, _++_, append-nil}
 use lib.ListN.{length, getD, set, replicate}
 use lib.Dec.{eqb}
-use borrow.Author.Tests.{eqb-true, eq-eqb, ne-eqb}
+use borrow.Author.Tests.{eq-eqb, ne-eqb}
 use Rattle.rules.specs.Base.{_and_, if_then_else_, tab, keep}
 use Rattle.rules.specs.Field.{Field, spans, areaOf}
-use Rattle.rules.specs.Growth.{Marks, idOf, walkable, blank, sorted, loaded}
-use Rattle.laws.proofs.Basics.{if-ind, both, All, All-map, keep-all, tab-each, tab-all, and-no, tab-at, length-tab}
+use Rattle.rules.specs.Growth.{Marks, walkable, blank, sorted, loaded}
+use Rattle.laws.proofs.Basics.{if-ind, and-no, tab-at, length-tab, getD-any}
 use Rattle.laws.proofs.Grows.{loaded-inside}
-use Rattle.space.proofs.Laws.{getD-any, cases}
+use Rattle.space.proofs.Laws.{cases}
 use Rattle.levels.specs.Levels.{levelsAt, Fills, joined, total, Stacked, sortedTo, Moved}
 use Rattle.levels.proofs.LevelLaws.{fill-is, moved-none}
 use Rattle.levels.proofs.CarryLaws.{total-joined, one-of-total}
@@ -168,27 +168,6 @@ sorted-stacked F dist m level =
       room = rw (← e) (total-sorted (F .area) dist (m .ids) level (spans F));
       inside = loaded-inside F dist level 0 (record { marks = m; stacks = []; next = 0 }) (λ i. tt);
     }
-
-keep-each : (P : ℕ → Type 0) (p : ℕ → Bool) (xs : List ℕ) → All P xs → All (λ x. P x × (p x ≡ true)) (keep p xs)
-unfolding keep
-keep-each P p [] h = tt
-keep-each P p (x ∷ xs) h = if-ind (All (λ x. P x × (p x ≡ true))) (p x) (λ e. ((h .0, e), keep-each P p xs (h .1))) (λ _. keep-each P p xs (h .1))
-
--- an entry as sorted: a walkable span of id 0
-abbrev pub Fresh : Field → Marks → ℕ → Type 0
-Fresh F m e = (e < spans F) × (walkable F e ≡ true) × (idOf m e ≡ 0)
-
-blank-fresh : (F : Field) (m : Marks) → All (Fresh F m) (blank F m)
-unfolding blank
-blank-fresh F m =
-    let p : ℕ → Bool = λ s. walkable F s and eqb (idOf m s) 0 in
-    All-map {P = λ e. (e < spans F) × (p e ≡ true)} {Q = Fresh F m} (keep p (tab (spans F) 0 (λ s. s)))
-    (λ e h. let b = both (walkable F e) (eqb (idOf m e) 0) (h .1) in (h .0, b .0, eqb-true (idOf m e) 0 (b .1)))
-    (keep-each (λ e. e < spans F) p (tab (spans F) 0 (λ s. s)) (tab-all (λ e. e < spans F) (spans F) 0 (λ i g. omega arith)))
-
-pub sorted-fresh : (F : Field) (dist : List ℕ) (m : Marks) (level k : ℕ) → All (Fresh F m) (getD (sorted F dist m level) k [])
-unfolding sorted
-sorted-fresh F dist m level k = tab-each (All (Fresh F m)) 8 0 _ [] k tt (λ j. keep-all (Fresh F m) _ (blank F m) (blank-fresh F m))
 
 -- ---------------------------------------------------------------- one span of the workspace's sort
 

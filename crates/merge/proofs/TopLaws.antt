@@ -1,12 +1,12 @@
 -- The stages one after the other. The filter only marks and removes: the pool stays as it was, counts do not grow, and a live record still bears its own number.
 -- So the merge with floors that stay gives the rule's numbers.
-use Prim.Native.Nat.{ℕ, suc, _+_, _-_, _*_, _≤_, _<_}
+use Prim.Native.Nat.{ℕ, suc, _+_, _*_, _≤_, _<_}
 use native.Mathlib.Omega.{arith}
 use native.Mathlib.Decide.{decLt}
 use mathlib.Core.Path.{_≡_, refl, sym, ap, _∙_}
 use mathlib.Core.Logic.{inl}
 use mathlib.Core.List.{List}
-use lib.ListN.{length, getD, List·getD-eq-default}
+use lib.ListN.{length, List·getD-eq-default}
 use Rattle.rules.specs.Records.{Rec, fresh, at}
 use Rattle.rules.specs.Filter.{seen, removed, filtered}
 use Rattle.rules.specs.Merge.{merged}
@@ -16,7 +16,7 @@ use Rattle.laws.proofs.Sums.{sum-le, sum-same}
 use Rattle.space.specs.Space.{Frame}
 use Rattle.space.proofs.Laws.{getD-after}
 use Rattle.table.specs.View.{startOf, endOf, recAt, view, recsOf}
-use Rattle.table.proofs.ViewLaws.{view-length, view-at, wide-same}
+use Rattle.table.proofs.ViewLaws.{view-length, wide-same, recs-at, id-at}
 use Rattle.filter.specs.Group.{Calm}
 use Rattle.pool.specs.Alike.{Joined}
 use Rattle.pool.specs.Fixed.{mergedF}
@@ -24,14 +24,6 @@ use Rattle.numbering.specs.Number.{Column, Blank}
 use Rattle.pool.specs.Pool.{lenAt, countAt, Pool}
 use Rattle.merge.specs.Ready.{Ready}
 use Rattle.pool.proofs.MergeLaws.{Fresh, alike-start, merge-is}
-
-recs-at : (ws : List ℕ) (m x : ℕ) → x < m → at (recsOf ws m) x ≡ recAt ws m (7 * m) (11 * m) x
-unfolding recsOf
-recs-at ws m x h = view-at ws m (7 * m) (11 * m) x h
-
-id-at : (ws : List ℕ) (m x : ℕ) → x < m → at (recsOf ws m) x .id ≡ getD ws x 0
-unfolding recAt
-id-at ws m x h = ap (λ (r : Rec). r .id) (recs-at ws m x h)
 
 count-at : (ws : List ℕ) (m x : ℕ) → x < m → at (recsOf ws m) x .count ≡ countAt ws m x
 unfolding recAt countAt
@@ -69,9 +61,6 @@ filter-fresh least rs f = record { own = filter-each (λ x r. (r .id ≡ 0 → �
 -- ---- before the filter
 
 module _ (m n : ℕ) (ws ids : List ℕ) (R : Ready m n ws ids) where
-  pub ready-calm : Calm m ws
-  ready-calm = record { held = R .held; blank = R .blank }
-
   ready-pool : Pool m (4 * n) (15 * m) (15 * m + 4 * n) ws
   ready-pool = record {
     held = R .held;

@@ -12,9 +12,9 @@ use borrow.Author.Tests.{eq-eqb, ne-eqb, eqb-false, lt-ltb, le-ltb, not-true}
 use Rattle.rules.specs.Base.{_and_, _or_, if_then_else_, any, upto}
 use Rattle.rules.specs.Records.{Rec, at, has}
 use Rattle.rules.specs.Merge.{Pick, place, Merge, mergeOne}
-use Rattle.laws.proofs.Basics.{neither, if-ind, upto-next}
+use Rattle.laws.proofs.Basics.{neither, if-ind, upto-next, and-both}
 use Rattle.table.specs.View.{listAt, recAt, view, recsOf}
-use Rattle.table.proofs.ViewLaws.{view-length, view-at, list-length}
+use Rattle.table.proofs.ViewLaws.{view-at, list-length, recs-length, recs-at}
 use Rattle.filter.specs.Group.{Calm}
 use Rattle.pool.specs.Alike.{Rep, Reps, Joined}
 use Rattle.pool.specs.Fixed.{pickedF, mayMerge, tryMerge, mergedPair, mergeOneF, mergedF}
@@ -44,10 +44,6 @@ may-by false false false false e =
 may-else : (a b c d : Bool) → a ≡ false → b ≡ false → c ≡ false → d ≡ false → true ≡ not (a or b or c or d)
 unfolding _or_
 may-else a b c d p q r s = rw (p, q, r, s)
-
-and-yes : (a b : Bool) → a ≡ true → b ≡ true → a and b ≡ true
-unfolding _and_
-and-yes a b p q = rw (p, q)
 
 and-left : (a b : Bool) → a ≡ false → a and b ≡ false
 unfolding _and_
@@ -83,7 +79,7 @@ module _ (ws : List ℕ) (m area i : ℕ) where
 
           pub may-border : b ≡ true → false ≡ mayMerge area (recAt ws m (7 * m) (11 * m) i)
           unfolding mayMerge recAt
-          may-border z = may-by _ _ _ _ (inr (inr (inr (and-yes _ _ (lt-ltb area (getD ws (m + i) 0) h) (sym lone ∙ z)))))
+          may-border z = may-by _ _ _ _ (inr (inr (inr (and-both _ _ (lt-ltb area (getD ws (m + i) 0) h) (sym lone ∙ z)))))
 
           pub may-inner : b ≡ false → true ≡ mayMerge area (recAt ws m (7 * m) (11 * m) i)
           unfolding mayMerge recAt
@@ -114,17 +110,13 @@ merge-eq : (a a′ : List Rec) (b b′ : ℕ) → a ≡ a′ → b ≡ b′ → 
 merge-eq a a′ b b′ p q = rw (p, q)
 
 module _ (m p h o i n : ℕ) (ws : List ℕ) (P : Pool m p h o ws) (hi : i < m) (hn : n < m) (c : ℕ) where
-  recs-at : (x : ℕ) → x < m → at (recsOf ws m) x ≡ recAt ws m (7 * m) (11 * m) x
-  unfolding recsOf
-  recs-at x g = view-at ws m (7 * m) (11 * m) x g
-
   id-of : (x : ℕ) → x < m → at (recsOf ws m) x .id ≡ getD ws x 0
   unfolding recAt
-  id-of x g = ap (λ (r : Rec). r .id) (recs-at x g)
+  id-of x g = ap (λ (r : Rec). r .id) (recs-at ws m x g)
 
   list-of : (x : ℕ) → x < m → at (recsOf ws m) x .list ≡ listAt ws m (7 * m) x
   unfolding recAt
-  list-of x g = ap (λ (r : Rec). r .list) (recs-at x g)
+  list-of x g = ap (λ (r : Rec). r .list) (recs-at ws m x g)
 
   len-of : (x : ℕ) → x < m → length (listAt ws m (7 * m) x) ≡ lenAt ws m x
   unfolding lenAt
@@ -290,10 +282,6 @@ pub round-reps : (area m i : ℕ) (ws₀ ws : List ℕ) (c : ℕ) → record { r
 round-reps area m i ws₀ ws c e j = joined-at area m i ws₀ ws c j e .alike .reps
 
 -- ---- the rounds
-
-recs-length : (ws : List ℕ) (m : ℕ) → length (recsOf ws m) ≡ m
-unfolding recsOf
-recs-length ws m = view-length ws m (7 * m) (11 * m)
 
 -- a turn merges, or leaves all as it was
 one-still : (area i : ℕ) (g : Merge) → mergeOneF area i g .merges ≡ 0 → mergeOneF area i g ≡ g

@@ -1,10 +1,10 @@
 -- Laws of the numbering. Assumes nothing.
-use Prim.Native.Nat.{ℕ, zero, suc, _+_, _-_, _≤_, _<_}
+use Prim.Native.Nat.{ℕ, zero, suc, _+_, _≤_, _<_}
 use native.Mathlib.Omega.{arith}
 use native.Mathlib.Numerals.{add-one}
 use native.Mathlib.Decide.{ℕ-discrete}
 use mathlib.Core.Path.{_≡_, refl, sym, ap, _∙_}
-use mathlib.Core.Logic.{⊎-elim, _⊎_}
+use mathlib.Core.Logic.{⊎-elim}
 use mathlib.Core.Bool.{Bool, true, false, true≢false, false≢true}
 use mathlib.Core.List.{List, [], _∷_, _++_}
 use lib.ListN.{drop-of-length-le, length, getD, set, take, drop, length-append}
@@ -138,9 +138,6 @@ module _ (m b : ℕ) (ws₀ ws : List ℕ) (c : Column m b ws₀) (f : Frame b (
 
 pub numbers-end : (m b : ℕ) (ws₀ ws : List ℕ) (i k : ℕ) → i ≤ m → m ≤ i → Numbers m b ws (liveIds (take i ws₀) []) k → Numbers m b ws (liveIds (take m ws₀) []) k
 numbers-end m b ws₀ ws i k h g n = let e : i ≡ m = omega arith in rw e at n
-
-pub numbers-marked : (m b : ℕ) (ws l : List ℕ) (k : ℕ) → Numbers m b ws l k → Marked m b ws l
-numbers-marked m b ws l k n = record { marks = n .marks }
 
 -- ---- live ids hold every nonzero id, and not 0
 

@@ -13,10 +13,10 @@ use borrow.Author.Tests.{ne-eqb, eq-eqb, le-leb, lt-ltb, leb-true, ltb-true}
 use Rattle.rules.specs.Base.{_and_, if_then_else_, tab}
 use Rattle.rules.specs.Field.{Field, spans, cellOf, areaOf}
 use Rattle.rules.specs.Growth.{walkable, paintOf, painted, firstId}
-use Rattle.laws.proofs.Basics.{tab-at, length-tab}
+use Rattle.laws.proofs.Basics.{tab-at, length-tab, same-test}
 use Rattle.laws.proofs.Cells.{cellOf-in}
 use Rattle.paint.specs.Paint.{Plot, putIf, walkIn, inRect}
-use Rattle.paint.proofs.PutLaws.{same-test, putIf-at, putIf-length}
+use Rattle.paint.proofs.PutLaws.{putIf-at, putIf-length}
 use Rattle.paint.proofs.CellLaws.{cells, rect-true, rect-make}
 
 -- ---------------------------------------------------------------- a strip's test is the rule's

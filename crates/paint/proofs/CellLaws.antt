@@ -6,17 +6,17 @@ use native.Mathlib.Nat.{div-add-mod', mul-le-mul, mul-le-mul-right}
 use lib.Arith.{digits-div, digits-mod}
 use native.Mathlib.Decide.{ℕ-discrete}
 use mathlib.Core.Path.{_≡_, sym, _∙_}
-use mathlib.Core.Bool.{true, false, not}
+use mathlib.Core.Bool.{true, false}
 use mathlib.Core.List.{List}
 use lib.ListN.{length, getD}
 use borrow.Author.Tests.{eqb-true, eq-eqb, ltb-false, not-false}
-use Rattle.rules.specs.Base.{_and_, _or_}
+use Rattle.rules.specs.Base.{_or_}
 use Rattle.rules.specs.Field.{Field, spans, cellOf}
 use Rattle.rules.specs.Refusals.{tooWide, wrongLength}
-use Rattle.laws.proofs.Basics.{both, either, neither}
+use Rattle.laws.proofs.Basics.{both, either, neither, and-both, or-left, or-right, same-test}
 use Rattle.laws.proofs.Cells.{Passed, passed, before, cellOf-at, cellOf-in, before-lt, Cell, cell-of, sum-of}
 use Rattle.paint.specs.Paint.{Plot, putIf, walkIn, spanIs, between, inCell, inRect}
-use Rattle.paint.proofs.PutLaws.{same-test, or-left, or-right, and-both, between-true, between-make, walk-then, walk-same, walk-none, not-test}
+use Rattle.paint.proofs.PutLaws.{between-true, between-make, walk-then, walk-same, walk-none, not-test}
 
 -- ---------------------------------------------------------------- cells
 

@@ -1,6 +1,6 @@
 -- A list written where a test holds.
 -- Such a list is known by its elements, so two writes of one value are one write where either test holds.
-use Prim.Native.Nat.{ℕ, _-_, _≤_, _<_}
+use Prim.Native.Nat.{ℕ, _≤_, _<_}
 use native.Mathlib.Omega.{arith}
 use native.Mathlib.Nat.{zero-add}
 use native.Mathlib.Decide.{ℕ-discrete}
@@ -12,34 +12,14 @@ use lib.Seq.{ext-getD}
 use lib.Dec.{eqb}
 use borrow.Author.Tests.{eq-eqb, ne-eqb, le-leb, lt-ltb, leb-true, ltb-true}
 use Rattle.rules.specs.Base.{_and_, _or_, if_then_else_}
-use Rattle.laws.proofs.Basics.{both, either, tab-at, length-tab, getD-set-at, and-no}
-use Rattle.space.proofs.Laws.{getD-any}
+use Rattle.laws.proofs.Basics.{both, tab-at, length-tab, getD-set-at, and-no, getD-any, and-both}
 use Rattle.paint.specs.Paint.{putIf, walkIn, spanIs, between}
 
 -- ---------------------------------------------------------------- tests
 
--- two tests that say the same
-pub same-test : (a b : Bool) → (a ≡ true → b ≡ true) → (b ≡ true → a ≡ true) → a ≡ b
-same-test true b f g = sym (f refl)
-same-test false true f g = g refl
-same-test false false f g = refl
-
 pub not-test : (a : Bool) → (a ≡ true → ⊥) → a ≡ false
 not-test true f = absurd (f refl)
 not-test false f = refl
-
-pub or-left : (a b : Bool) → a ≡ true → a or b ≡ true
-unfolding _or_
-or-left a b e = rw e
-
-pub or-right : (a b : Bool) → b ≡ true → a or b ≡ true
-unfolding _or_
-or-right true b e = refl
-or-right false b e = e
-
-pub and-both : (a b : Bool) → a ≡ true → b ≡ true → a and b ≡ true
-unfolding _and_
-and-both a b e f = rw (e, f)
 
 no-and : (b : Bool) → false and b ≡ false
 unfolding _and_

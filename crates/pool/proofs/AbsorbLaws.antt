@@ -10,10 +10,9 @@ use Rattle.rules.specs.Merge.{around, tidy}
 use Rattle.space.specs.Space.{Frame}
 use Rattle.space.proofs.Laws.{getD-before, getD-after, frame-then, frame-wider}
 use Rattle.table.specs.View.{part, startOf, endOf, listAt, Parts, Placed}
-use Rattle.table.proofs.ViewLaws.{wide-same}
+use Rattle.table.proofs.ViewLaws.{wide-same, part-after}
 use Rattle.pool.specs.Part.{Clear, renamedList}
 use Rattle.pool.specs.Pool.{lenAt, joinedList, Pair, Target, Absorbed}
-use Rattle.pool.proofs.PartLaws.{part-after}
 
 module _ (m n k i j to z : ℕ) (ws : List ℕ) (T : Target m n i to z ws) (Q : Pair m n k i j ws) where
   clear-first : Clear (startOf ws m (7 * m) n) (endOf ws m (7 * m) n) to z ws

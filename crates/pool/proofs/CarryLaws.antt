@@ -13,10 +13,9 @@ use Rattle.space.specs.Space.{Frame}
 use Rattle.space.proofs.Laws.{getD-before, getD-after, frame-then}
 use Rattle.laws.specs.Sums.{sumTo}
 use Rattle.table.specs.View.{part, startOf, endOf, listAt, Parts, Placed}
-use Rattle.table.proofs.ViewLaws.{wide-same, list-same}
+use Rattle.table.proofs.ViewLaws.{wide-same, list-same, part-after}
 use Rattle.pool.specs.Part.{Clear, renamedList}
 use Rattle.pool.specs.Pool.{without, lenAt, restTo, newList, Source, Moved, Next, Sources, There, Carried}
-use Rattle.pool.proofs.PartLaws.{part-after}
 
 pub new-dead : (old new id : ℕ) (l : List ℕ) → id ≡ 0 → l ≡ newList old new id l
 unfolding newList if_then_else_
@@ -39,12 +38,6 @@ module _ (ws : List ℕ) (m x to z a e : ℕ) (S : Source m x to z ws) (p : a �
   list-is : part a e ws ≡ listAt ws m (7 * m) x
   unfolding listAt
   list-is = rw (p, q)
-
-  pub source-in : (ws₁ : List ℕ) → length ws₁ ≡ length ws → x < length ws₁
-  source-in ws₁ l = omega (arith, S .inside, S .lists .room)
-
-  pub source-fits : (f : ℕ) → f ≤ to + (e - a) → f < 4294967296
-  source-fits f h = omega (arith, source-clear .room, S .fits)
 
   module _ (ws₁ ws₂ ws₃ : List ℕ) (old new f : ℕ) (l₁ : length ws₁ ≡ length ws) (l₂ : length ws₂ ≡ length ws₁) (p₁ : part to (to + (e - a)) ws₁ ≡ part a e ws)
       (f₁ : Frame to (to + (e - a)) ws ws₁) (p₂ : part to f ws₂ ≡ newList old new (getD ws₁ x 0) (part to (to + (e - a)) ws₁)) (b : (to ≤ f) × (f ≤ to + (e - a)))

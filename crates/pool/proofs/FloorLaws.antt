@@ -1,5 +1,5 @@
 -- Floors that stay as they were tell, through the present ids, what the rule's renamed floors tell. Assumes nothing.
-use Prim.Native.Nat.{ℕ, zero, suc, _+_, _-_}
+use Prim.Native.Nat.{ℕ, zero, suc}
 use native.Mathlib.Decide.{ℕ-discrete}
 use mathlib.Core.Path.{_≡_, refl, sym, ap, _∙_}
 use mathlib.Core.Logic.{⊎-elim, _⊎_, inl, inr}
@@ -8,29 +8,16 @@ use mathlib.Core.List.{List, [], _∷_, _++_}
 use lib.ListN.{getD, List·getD-map}
 use lib.Dec.{eqb}
 use borrow.Author.Tests.{eq-eqb, ne-eqb, eqb-true}
-use Rattle.rules.specs.Base.{_and_, _or_, if_then_else_, any}
+use Rattle.rules.specs.Base.{_and_, if_then_else_, any}
 use Rattle.rules.specs.Records.{Rec, at, fresh, has, once, onceAll}
 use Rattle.rules.specs.Merge.{swapped}
-use Rattle.laws.proofs.Basics.{both, either}
+use Rattle.laws.proofs.Basics.{both, either, and-both, or-left, or-right, same-test}
 use Rattle.pool.specs.Lists.{swapOne}
 use Rattle.pool.specs.Fixed.{floorIs, floorIn, idsOf}
 use Rattle.pool.specs.Alike.{FloorOf, Rep, Floors}
 use Rattle.pool.proofs.HasLaws.{has-end}
 
 -- ---- membership
-
-pub or-left : (a b : Bool) → a ≡ true → a or b ≡ true
-unfolding _or_
-or-left a b e = rw e
-
-pub or-right : (a b : Bool) → b ≡ true → a or b ≡ true
-unfolding _or_
-or-right true b e = refl
-or-right false b e = e
-
-and-both : (a b : Bool) → a ≡ true → b ≡ true → a and b ≡ true
-unfolding _and_
-and-both a b e f = rw e f
 
 pub swap-old : (o n : ℕ) → swapOne o n o ≡ n
 unfolding swapOne if_then_else_
@@ -240,11 +227,6 @@ in-from ids k j (r ∷ rs) (suc x) f a b c = or-right _ _ (in-from ids k j rs x 
 id-of : (fs : List Rec) (f : ℕ) → getD (idsOf fs) f 0 ≡ at fs f .id
 unfolding idsOf at fresh
 id-of fs f = List·getD-map (λ (q : Rec). q .id) fs f (fresh 0)
-
-same-test : (a b : Bool) → (a ≡ true → b ≡ true) → (b ≡ true → a ≡ true) → a ≡ b
-same-test true b f g = sym (f refl)
-same-test false true f g = g refl
-same-test false false f g = refl
 
 -- "k has j as a floor" in the rule and in the code
 pub floors-agree : (rs fs : List Rec) → Floors rs fs → (k j : ℕ) → Rep fs k → Rep fs j → has (at rs k .floors) j ≡ floorIn (idsOf fs) fs k j

@@ -8,12 +8,12 @@ use mathlib.Core.List.{List, [], _∷_, _++_, map, append-assoc, append-nil}
 use lib.ListN.{drop-of-length-le, length, getD, set, take, drop}
 use lib.Seq.{getD-take, take-take, drop-cons, take-suc-set, drop-set-lt, length-take-le}
 use lib.Dec.{eqb}
-use borrow.Author.Tests.{eq-eqb, ne-eqb, lt-ltb, le-ltb}
+use borrow.Author.Tests.{eq-eqb, ne-eqb, le-ltb}
 use Rattle.rules.specs.Base.{_and_, if_then_else_, many}
 use Rattle.rules.specs.Contour.{trim}
 use Rattle.rules.specs.Merge.{tidy, place}
 use Rattle.laws.specs.Squeeze.{squeeze}
-use Rattle.laws.proofs.Tidy.{tidy-is}
+use Rattle.laws.proofs.Tidy.{tidy-is, trim-same, trim-other}
 use Rattle.pool.specs.Lists.{mapTo, again}
 
 -- ---- adjacent duplicates
@@ -21,14 +21,6 @@ use Rattle.pool.specs.Lists.{mapTo, again}
 pub trim-short : (l : List ℕ) → length l ≤ 1 → trim l ≡ l
 unfolding trim if_then_else_ _and_
 trim-short l h = rw (le-ltb 1 (length l) h)
-
-pub trim-same : (l : List ℕ) (m : ℕ) → 1 < length l → length l - 1 ≡ m → getD l 0 0 ≡ getD l m 0 → trim l ≡ take m l
-unfolding trim if_then_else_ _and_
-trim-same l m h q e = rw (lt-ltb 1 (length l) h, q, eq-eqb (getD l 0 0) (getD l m 0) e)
-
-pub trim-other : (l : List ℕ) (m : ℕ) → 1 < length l → length l - 1 ≡ m → (getD l 0 0 ≡ getD l m 0 → ⊥) → trim l ≡ l
-unfolding trim if_then_else_ _and_
-trim-other l m h q e = rw (lt-ltb 1 (length l) h, q, ne-eqb (getD l 0 0) (getD l m 0) e)
 
 -- ---- the code's turns
 
@@ -101,12 +93,6 @@ module _ (l : List ℕ) (r i : ℕ) (e : place l r ≡ i + place (drop i l) r) w
       omega arith
 
 -- ---- a list under f, entry by entry
-
-pub mapTo-length : (f : ℕ → ℕ) (i : ℕ) (l : List ℕ) → length (mapTo f i l) ≡ length l
-unfolding mapTo
-mapTo-length f zero l = refl
-mapTo-length f (suc i) [] = refl
-mapTo-length f (suc i) (x ∷ l) = ap suc (mapTo-length f i l)
 
 pub mapTo-at : (f : ℕ → ℕ) (i j : ℕ) (l : List ℕ) → i ≤ j → getD (mapTo f i l) j 0 ≡ getD l j 0
 unfolding mapTo

@@ -6,7 +6,7 @@ use mathlib.Core.Path.{_≡_, refl, sym, ap, _∙_}
 use mathlib.Core.Logic.{⊎-elim, _⊎_, inl, inr}
 use mathlib.Core.Bool.{Bool, true, false, not, true≢false, false≢true}
 use mathlib.Core.List.{List, [], _∷_, _++_, map}
-use lib.ListN.{length, getD, set, take, drop, List·getD-map, length-set, length-map}
+use lib.ListN.{length, set, take, drop, length-set, length-map}
 use lib.Seq.{getD-set-same, getD-set-other}
 use lib.Dec.{eqb, ltb}
 use borrow.Author.Tests.{eq-eqb, ne-eqb, eqb-true, eqb-false, not-true}
@@ -16,18 +16,19 @@ use Rattle.rules.specs.Contour.{trim}
 use Rattle.rules.specs.Records.{Rec, at, fresh, has, once, onceAll}
 use Rattle.rules.specs.Merge.{swapped, renamed, absorbed, emptied, suits, picked, Pick, mergeOne, Merge, merged, tidy, around, place}
 use Rattle.rules.specs.Numbering.{live, overlaps, numbered, numberOf}
-use Rattle.laws.proofs.Basics.{both, either, neither, if-ind}
+use Rattle.laws.proofs.Basics.{both, either, neither, if-ind, or-left, or-right}
 use Rattle.space.proofs.Laws.{cases}
 use Rattle.laws.specs.Squeeze.{squeeze}
 use Rattle.laws.proofs.Tidy.{tidy-is}
 use Rattle.laws.proofs.LiveRecords.{live-in}
+use Rattle.laws.proofs.MergeEnds.{renamed-fresh, at-map}
 use Rattle.pool.specs.Lists.{swapOne}
 use Rattle.pool.specs.Part.{renamedList}
 use Rattle.pool.specs.Pool.{newList}
 use Rattle.pool.specs.Alike.{Rep, Same, Reps, Alike}
 use Rattle.pool.specs.Fixed.{floorIn, idsOf, suitsF, better, pickOne, pickedF, renamedF, absorbedF, mergedPair, mergeOneF, mergedF}
 use Rattle.pool.proofs.HasLaws.{regions-eq, map-same}
-use Rattle.pool.proofs.FloorLaws.{floors-start, has-first, has-later, swap-has, swap-old, swap-other, or-left, or-right, Step, floors-step, floors-agree}
+use Rattle.pool.proofs.FloorLaws.{floors-start, has-first, has-later, swap-has, swap-old, swap-other, Step, floors-step, floors-agree}
 
 -- ---- the picking
 
@@ -256,21 +257,9 @@ same-emptied a a′ s = record { id = s .id; count = refl; area = s .area; visit
 
 -- ---- the records after a merge
 
-fresh-dead : fresh 0 .id ≡ 0
-unfolding fresh
-fresh-dead = refl
-
-ren-fresh : (o n : ℕ) → renamed o n (fresh 0) ≡ fresh 0
-unfolding renamed fresh if_then_else_
-ren-fresh o n = refl
-
 pub renF-fresh : (o n : ℕ) → renamedF o n (fresh 0) ≡ fresh 0
 unfolding renamedF fresh if_then_else_
 renF-fresh o n = refl
-
-pub at-map : (g : Rec → Rec) → g (fresh 0) ≡ fresh 0 → (l : List Rec) (x : ℕ) → at (map g l) x ≡ g (at l x)
-unfolding at
-at-map g e l x = ap (getD (map g l) x) (sym e) ∙ List·getD-map g l x (fresh 0)
 
 module _ (rs : List Rec) (i n : ℕ) (x y : Rec) (hi : i < length rs) (hn : n < length rs) (ne : i ≡ n → ⊥) where
   pub at-i : at (set (set rs n x) i y) i ≡ y
@@ -356,7 +345,7 @@ module _ (rs fs : List Rec) (A : Alike rs fs) (i n : ℕ) (ri : Rep fs i) (rn : 
 
   afterR-at : (k : ℕ) → at (afterR rs i n) k ≡ renamed i n (at (halfR rs i n) k)
   unfolding afterR
-  afterR-at k = at-map (renamed i n) (ren-fresh i n) (halfR rs i n) k
+  afterR-at k = at-map (renamed i n) (renamed-fresh i n) (halfR rs i n) k
 
   afterF-at : (k : ℕ) → at (afterF fs i n) k ≡ renamedF i n (at (halfF fs i n) k)
   unfolding afterF
@@ -756,17 +745,6 @@ unfolding upto
 round-falls area k zero g h B l = omega arith
 round-falls area k (suc n) g h B l =
     omega (arith, one-falls area n k (upto n (mergeOne area) g) (upto n (mergeOneF area) h) (round-alike area n g h B) (omega arith), round-falls area k n g h B (omega arith))
-
-pub one-length : (area i : ℕ) (h : Merge) → length (mergeOneF area i h .recs) ≡ length (h .recs)
-unfolding mergedPair
-one-length area i h =
-    rw (oneF area i h) (if-ind (λ (y : Merge). length (y .recs) ≡ length (h .recs)) _ (λ _. refl)
-    (λ _. length-map (set (set (h .recs) (pickF (h .recs) i .id) _) i (emptied (at (h .recs) i))) _ ∙ length-set (set (h .recs) (pickF (h .recs) i .id) _) i (emptied (at (h .recs) i)) ∙ length-set (h .recs) (pickF (h .recs) i .id) _))
-
-pub round-length : (area n : ℕ) (h : Merge) → length (upto n (mergeOneF area) h .recs) ≡ length (h .recs)
-unfolding upto
-round-length area zero h = refl
-round-length area (suc n) h = one-length area n (upto n (mergeOneF area) h) ∙ round-length area n h
 
 own-most : (fs : List Rec) (x : ℕ) → ownOne fs x ≤ 1
 unfolding ownOne

@@ -1,23 +1,25 @@
 -- Laws of the parts that the merge writes. Assumes nothing.
-use Prim.Native.Nat.{ℕ, zero, suc, _+_, _-_, _≤_, _<_}
+use Prim.Native.Nat.{ℕ, suc, _+_, _-_, _≤_, _<_}
 use native.Mathlib.Omega.{arith}
 use native.Mathlib.Decide.{ℕ-discrete}
 use mathlib.Core.Path.{_≡_, refl, sym, ap, _∙_}
-use mathlib.Core.Logic.{⊎-elim, _⊎_, inl, inr}
+use mathlib.Core.Logic.{⊎-elim, inl, inr}
 use mathlib.Core.Bool.{true, false}
 use mathlib.Core.List.{List, [], _∷_, _++_, map}
 use lib.ListN.{length, getD, set, take, drop, length-take}
-use lib.Seq.{take-append-le, take-all, take-nil, getD-set-same, getD-set-other, take-take, take-add, drop-drop, ext-getD}
+use lib.Seq.{take-append-le, take-all, getD-set-same, getD-set-other, take-take, take-add, drop-drop, ext-getD}
 use borrow.Rule.Slice.PartMut.{putMid, midOf, same-len-mid}
 use Rattle.rules.specs.Base.{if_then_else_, any}
 use Rattle.rules.specs.Records.{has}
 use Rattle.rules.specs.Merge.{around, tidy, place}
+use Rattle.laws.proofs.Basics.{drop-take}
 use Rattle.space.specs.Space.{Frame}
-use Rattle.space.proofs.Laws.{drop-mid, getD-before, getD-after, frame-then, frame-set, frame-wider, frame-put, sec-before, sec-after, length-sec, getD-sec}
+use Rattle.space.proofs.Laws.{drop-mid, getD-before, getD-after, frame-then, frame-set, frame-wider, frame-put, length-sec, getD-sec}
 use Rattle.pool.proofs.HasLaws.{has-cons, has-head, place-other, place-first}
 use Rattle.pool.specs.Lists.{swapOne}
 use Rattle.pool.specs.Part.{Clear, Copied, renamedList}
 use Rattle.table.specs.View.{part}
+use Rattle.table.proofs.ViewLaws.{part-before, part-after}
 
 -- ---- copies
 
@@ -61,12 +63,6 @@ copy-done a e to z ws₀ ws k n c s q h₁ h₂ g =
 
 -- ---- all but one entry
 
-drop-take : (n m : ℕ) (l : List ℕ) → drop n (take m l) ≡ take (m - n) (drop n l)
-drop-take zero m l = let e : m ≡ m - 0 = omega arith in ap (λ (j : ℕ). take j l) e
-drop-take (suc n) zero l = let e : 0 ≡ 0 - suc n = omega arith in ap (λ (j : ℕ). take j (drop (suc n) l)) e
-drop-take (suc n) (suc m) [] = sym (take-nil (suc m - suc n))
-drop-take (suc n) (suc m) (x ∷ l) = let e : m - n ≡ suc m - suc n = omega arith in drop-take n m l ∙ ap (λ (j : ℕ). take j (drop n l)) e
-
 -- a part in two
 part-split : (a b e : ℕ) (ws : List ℕ) → a ≤ b → b ≤ e → part a e ws ≡ part a b ws ++ part b e ws
 unfolding part
@@ -85,15 +81,6 @@ around-is a e k ws h =
     drop-take (suc k) (e - a) (drop a ws) ∙ ap (λ (j : ℕ). take j (drop (suc k) (drop a ws))) w ∙ ap (take (e - (a + k + 1))) (drop-drop (suc k) a ws ∙ ap (λ (j : ℕ). drop j ws) v) in
     let q : take k (take (e - a) (drop a ws)) ≡ take ((a + k) - a) (drop a ws) = take-take k (e - a) (drop a ws) (omega arith) ∙ ap (λ (j : ℕ). take j (drop a ws)) (sym u) in
     rw (p, q) refl
-
--- a part outside of a frame
-pub part-before : {x y : ℕ} {ws ws′ : List ℕ} (a e : ℕ) → Frame x y ws ws′ → a ≤ e → e ≤ x → part a e ws′ ≡ part a e ws
-unfolding part
-part-before a e f h g = sec-before a (e - a) f (omega arith)
-
-pub part-after : {x y : ℕ} {ws ws′ : List ℕ} (a e : ℕ) → Frame x y ws ws′ → y ≤ a → part a e ws′ ≡ part a e ws
-unfolding part
-part-after a e f h = sec-after a (e - a) f h
 
 module _ (a e k to z c d : ℕ) (ws : List ℕ) (C : Clear a e to z ws) (h : a + k < e) (ec : c ≡ a + k + 1) (ed : d ≡ to + (e - c)) where
   pub around-first : Clear c e to z ws
@@ -198,9 +185,6 @@ module _ (ws : List ℕ) (a e old new k : ℕ) (h : a ≤ e) (g : e ≤ length w
     pub rename-frame : Frame a e ws (putMid a (e - a) (putMid a (e - a) ws ys₁) ys₂)
     rename-frame = frame-then (frame-put a e ws ys₁ h g n₁) (frame-put a e (putMid a (e - a) ws ys₁) ys₂ h (rw len₁ g) n₂)
 
-    pub rename-le : a + m ≤ e
-    rename-le = omega (arith, m-le)
-
 pub part-le : (a e m : ℕ) (l : List ℕ) → a ≤ e → m ≤ length (take (e - a) l) → a + m ≤ e
 part-le a e m l h g = omega (arith, length-take (e - a) l)
 
@@ -270,9 +254,6 @@ module _ (a e k b f j to z : ℕ) (ws : List ℕ) (C : Clear a e to z ws) (C′ 
       join-frame =
           let ny : length ys ≡ y - to = ly ∙ length-sec to (y - to) ws₂ (omega (arith, join-within)) in
           frame-then (frame-wider to z f₁ (omega arith) (omega arith)) (frame-then (frame-wider to z f₂ (omega arith) (omega arith)) (frame-wider to z (frame-put to y ws₂ ys join-order join-within ny) (omega arith) (omega arith)))
-
-pub part-most : (n m : ℕ) (l : List ℕ) → m ≤ length (take n l) → m ≤ n
-part-most n m l g = omega (arith, length-take n l)
 
 pub join-le : (to x y n g h : ℕ) (l : List ℕ) → x + 1 ≡ to + g → y + 1 ≡ x + h → 1 ≤ g → 1 ≤ h → n ≤ length (take (y - to) l) → to + n + 2 ≤ to + g + h
 join-le to x y n g h l p q i j m = omega (arith, length-take (y - to) l)

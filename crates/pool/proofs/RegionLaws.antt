@@ -5,7 +5,7 @@ use native.Mathlib.Omega.{arith}
 use native.Mathlib.Decide.{ℕ-discrete}
 use mathlib.Core.Path.{_≡_, refl, sym, ap, _∙_}
 use mathlib.Core.Logic.{⊎-elim, inl, inr}
-use mathlib.Core.Bool.{true, false, not, false≢true}
+use mathlib.Core.Bool.{true, not, false≢true}
 use mathlib.Core.List.{List, [], _∷_, _++_, map}
 use lib.ListN.{length, getD, set, length-set, length-map, List·getD-map}
 use lib.Seq.{getD-set-same, getD-set-other}
@@ -17,6 +17,7 @@ use Rattle.rules.specs.Records.{Rec, at, has}
 use Rattle.rules.specs.Merge.{place, around, tidy, emptied}
 use Rattle.laws.proofs.Basics.{if-ind}
 use Rattle.laws.proofs.Sums.{sum-same}
+use Rattle.laws.proofs.MergeEnds.{at-map}
 use Rattle.space.specs.Space.{Frame, sec}
 use Rattle.space.proofs.Laws.{getD-before, getD-after, frame-then, frame-set, frame-wider, frame-put, sec-put, getD-sec, length-sec}
 use Rattle.table.specs.View.{startOf, endOf, listAt, recAt, view, recsOf, Parts, Under, Held}
@@ -26,7 +27,7 @@ use Rattle.pool.specs.Part.{renamedList}
 use Rattle.pool.specs.Fixed.{renamedF, absorbedF, mergedPair}
 use Rattle.pool.specs.Pool.{lenAt, countAt, newList, joinedList, Halves, Pool, Laid, Listed, Outside, Turned, Relisted}
 use Rattle.pool.proofs.FloorLaws.{swap-has, swap-old, swap-other, has-first, has-later}
-use Rattle.pool.proofs.MergeLaws.{has-some, tidy-has, append-has, around-has, renF-id, renF-count, renF-area, renF-visited, renF-overlap, renF-floors, renF-newList, renF-fresh, at-map, at-i, at-n, at-else}
+use Rattle.pool.proofs.MergeLaws.{has-some, tidy-has, append-has, around-has, renF-id, renF-count, renF-area, renF-visited, renF-overlap, renF-floors, renF-newList, renF-fresh, at-i, at-n, at-else}
 use Rattle.pool.proofs.SumLaws.{sum-split, sum-two}
 
 -- ---- what is listed

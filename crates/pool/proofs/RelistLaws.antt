@@ -10,7 +10,8 @@ use lib.ListN.{length, getD}
 use Rattle.laws.specs.Sums.{sumTo}
 use Rattle.laws.proofs.Sums.{sum-same}
 use Rattle.table.specs.View.{part, startOf, endOf, listAt, Parts}
-use Rattle.table.proofs.ViewLaws.{sec-same, list-same, part-none}
+use Rattle.table.proofs.ViewLaws.{list-same, part-none}
+use Rattle.space.proofs.Laws.{sec-same}
 use Rattle.pool.specs.Pool.{without, lenAt, restTo, newList, joinedList, Pool, Beside, Apart, Laid, Outside, Pair, Sources, There, Carried, Rows, Swept, Target, Absorbed, Relisted}
 use Rattle.pool.proofs.AbsorbLaws.{by-three, absorbed-in, absorbed-lists, absorbed-len, absorbed-id}
 use Rattle.pool.proofs.RenameLaws.{swept-less, swept-apart}

@@ -9,10 +9,9 @@ use lib.ListN.{length, getD}
 use Rattle.space.specs.Space.{Frame}
 use Rattle.space.proofs.Laws.{getD-before, getD-after}
 use Rattle.table.specs.View.{part, startOf, endOf, listAt, Parts, Placed}
-use Rattle.table.proofs.ViewLaws.{wide-same, list-same}
+use Rattle.table.proofs.ViewLaws.{wide-same, list-same, part-after}
 use Rattle.pool.specs.Part.{renamedList}
 use Rattle.pool.specs.Pool.{newList, Apart, Shrunk, Renamed, Passed, Rows, Swept}
-use Rattle.pool.proofs.PartLaws.{part-after}
 use Rattle.pool.proofs.CarryLaws.{new-dead, new-live}
 
 -- ---- one record

@@ -9,17 +9,17 @@ use mathlib.Core.List.{List, [], _∷_}
 use lib.ListN.{length, getD, set}
 use lib.Dec.{eqb, ltb}
 use borrow.Author.Tests.{eqb-true}
-use Rattle.rules.specs.Base.{_and_, _or_, if_then_else_, upto, tab, many}
+use Rattle.rules.specs.Base.{_and_, _or_, if_then_else_, upto, tab}
 use Rattle.rules.specs.Field.{Field, spans, cellOf}
 use Rattle.rules.specs.Growth.{plain}
 use Rattle.rules.specs.Contour.{firstSolid, contour}
 use Rattle.rules.specs.Records.{Rec, fresh, at, has, others, onceAll, counted, addSpan, records}
 use Rattle.laws.proofs.Basics.{upto-next, tab-at, length-tab}
-use Rattle.laws.proofs.Cells.{cellOf-in, Cell, before}
+use Rattle.laws.proofs.Cells.{cellOf-in, before}
 use Rattle.field.specs.Lent.{Celled}
 use Rattle.field.proofs.Places.{cell-is, sum-is, layer-stands}
 use Rattle.table.specs.View.{part, startOf, endOf, listAt, recAt, recsOf, Held}
-use Rattle.table.proofs.ViewLaws.{view-by, part-none, rec-eq}
+use Rattle.table.proofs.ViewLaws.{view-by, part-none, rec-eq, recs-at}
 use Rattle.records.specs.Cell.{twins, othersFrom}
 use Rattle.records.specs.Rows.{mine, Row, Keeping, Step, plusOne, overlaid, floored, celled, contoured, traced}
 use Rattle.records.specs.Fresh.{Renewed}
@@ -28,7 +28,7 @@ use Rattle.records.specs.Build.{Added, Running}
 use Rattle.records.proofs.CellLaws.{any-twins}
 use Rattle.records.proofs.JoinLaws.{others-from}
 use Rattle.records.proofs.CountLaws.{many-passes, many-none, mine-not}
-use Rattle.records.proofs.RowLaws.{pool-fits, list-parts, floor-parts, at-recs, step-then}
+use Rattle.records.proofs.RowLaws.{pool-fits, list-parts, floor-parts, step-then}
 use Rattle.records.proofs.NameLaws.{own-name, lists-under, floors-below}
 
 -- ---------------------------------------------------------------- a span's cell
@@ -272,7 +272,7 @@ module _ (w : ℕ) (is ks ar cs ids : List ℕ) (b next : ℕ) (ws₀ p ws : Lis
   lent-there F g = given-kept w is ks ar cs ids b (next + 1) ws₀ p (B .room) (N .size) (N .after) F g
 
   recs-are : (i : ℕ) → i < next + 1 → recAt ws (next + 1) (7 * (next + 1)) (11 * (next + 1)) i ≡ at (upto s (addSpan (x .F) ids) (tab (next + 1) 0 fresh)) i
-  recs-are i g = sym (at-recs ws (next + 1) i g) ∙ ap (λ (l : List Rec). at l i) (R .same (x .F) (lent-there (x .F) (x .given)))
+  recs-are i g = sym (recs-at ws (next + 1) i g) ∙ ap (λ (l : List Rec). at l i) (R .same (x .F) (lent-there (x .F) (x .given)))
 
   some : 0 < next + 1
   some = omega arith

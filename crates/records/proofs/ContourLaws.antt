@@ -9,7 +9,7 @@ use lib.ListN.{length, getD, set}
 use lib.Seq.{getD-set-same}
 use lib.Dec.{eqb}
 use borrow.Author.Tests.{eq-eqb, ne-eqb}
-use Rattle.rules.specs.Base.{if_then_else_, many}
+use Rattle.rules.specs.Base.{if_then_else_}
 use Rattle.rules.specs.Field.{Field, areaOf}
 use Rattle.rules.specs.Growth.{plain}
 use Rattle.rules.specs.Records.{Rec, at, fresh, onceAll}
@@ -17,12 +17,12 @@ use Rattle.laws.proofs.Basics.{many-le}
 use Rattle.flood.proofs.Sight.{area-is}
 use Rattle.contour.specs.Ways.{Ways}
 use Rattle.table.specs.View.{startOf, endOf, listAt, recAt, view, recsOf}
-use Rattle.table.proofs.ViewLaws.{list-length, view-at, view-length}
+use Rattle.table.proofs.ViewLaws.{list-length, view-at, view-length, recs-at}
 use Rattle.records.specs.Cell.{twins, othersFrom}
 use Rattle.records.specs.Rows.{Keeping, Step, Tracing, traced, plusOne, overlaid, floored, celled, withArea, withList, contoured}
 use Rattle.records.specs.Stock.{Reach, SomeReach}
 use Rattle.records.proofs.CellLaws.{twins-alone, others-alone}
-use Rattle.records.proofs.RowLaws.{list-parts, floor-parts, count-room, at-recs, step-then, store-start, store-end}
+use Rattle.records.proofs.RowLaws.{list-parts, floor-parts, count-room, step-then, store-start, store-end}
 use Rattle.records.proofs.StepLaws.{step-none, overlaid-not, step-one, step-area}
 use Rattle.records.proofs.TraceLaws.{list-tracing}
 
@@ -50,7 +50,7 @@ module _ (ids : List ℕ) (m top k : ℕ) (ws : List ℕ) (K : Keeping ids m top
   unfolding contoured recAt if_then_else_
   contour-there g F s =
       let n : eqb (length (listAt ws m (7 * m) r)) 0 ≡ false = ne-eqb (length (listAt ws m (7 * m) r)) 0 (λ (z : length (listAt ws m (7 * m) r) ≡ 0). omega (arith, long)) in
-      step-none (contoured F ids s) ids m r top k ws K (rw (at-recs ws m r h, n))
+      step-none (contoured F ids s) ids m r top k ws K (rw (recs-at ws m r h, n))
 
   module _ (g : e ≤ a) where
     pub none-yet : endOf ws m (7 * m) r ≤ startOf ws m (7 * m) r
@@ -77,7 +77,7 @@ module _ (ids : List ℕ) (m top k : ℕ) (ws : List ℕ) (K : Keeping ids m top
       contour-taken v t ev ws′ q F l =
           let n : s < length ar = omega (arith, l .ways .spot .stands .span, ap length (l .areas)) in
           let ar-is : areaOf F s ≡ v = area-is F ar s (l .areas) n ∙ sym ev in
-          step-as (λ x. withList (traced F ids s) (withArea v x)) (contoured F ids s) ids m r t k ws ws′ (rw (at-recs ws m r h, empty, ar-is))
+          step-as (λ x. withList (traced F ids s) (withArea v x)) (contoured F ids s) ids m r t k ws ws′ (rw (recs-at ws m r h, empty, ar-is))
           (step-then (withArea v) (withList (traced F ids s)) ids m r top t k k ws (set ws (2 * m + r) v) ws′ h (step-area ids m top k ws K r h v) (q F (l .ways)))
 
 -- ---------------------------------------------------------------- the cell

@@ -5,13 +5,13 @@ use native.Mathlib.Omega.{arith}
 use native.Mathlib.Numerals.{add-one}
 use native.Mathlib.Decide.{ℕ-discrete}
 use mathlib.Core.Path.{_≡_, refl, sym, ap, _∙_}
-use mathlib.Core.Bool.{Bool, true, false, not, false≢true}
+use mathlib.Core.Bool.{true, false, not, false≢true}
 use mathlib.Core.List.{List, [], _∷_, map}
 use lib.ListN.{length, getD, set, take, length-set, length-append, length-map}
 use lib.Seq.{getD-set-same, getD-set-other}
 use lib.Dec.{eqb, ltb}
 use borrow.Author.Tests.{eq-eqb, ne-eqb, ltb-true, not-true}
-use Rattle.rules.specs.Base.{_and_, if_then_else_, keep, tab, upto, many}
+use Rattle.rules.specs.Base.{_and_, keep, tab, many}
 use Rattle.rules.specs.Field.{Field, spans, cellOf}
 use Rattle.rules.specs.Growth.{plain}
 use Rattle.rules.specs.Contour.{firstSolid}

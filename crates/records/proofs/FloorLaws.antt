@@ -11,16 +11,16 @@ use lib.Seq.{take-take}
 use lib.Dec.{eqb}
 use borrow.Rule.Slice.PartMut.{putMid, midOf, same-len-mid}
 use borrow.Author.Tests.{le-ltb}
-use Rattle.rules.specs.Base.{_and_, many}
+use Rattle.rules.specs.Base.{_and_}
 use Rattle.rules.specs.Records.{Rec, at, onceAll}
 use Rattle.space.specs.Space.{Frame, sec}
 use Rattle.space.proofs.Laws.{frame-none, frame-put, getD-before, getD-after, sec-put, sec-after, length-sec}
 use Rattle.table.specs.View.{part, startOf, endOf, listAt, recAt, recsOf, Placed}
-use Rattle.table.proofs.ViewLaws.{rec-eq, list-same, wide-same}
+use Rattle.table.proofs.ViewLaws.{rec-eq, list-same, wide-same, recs-at}
 use Rattle.records.specs.Cell.{JoinedAll, Roomy}
 use Rattle.records.specs.Rows.{walked, Row, Keeping, Change, Step, floored}
 use Rattle.records.proofs.CountLaws.{many-same}
-use Rattle.records.proofs.RowLaws.{pool-fits, floors-past, floors-inside, floors-apart, list-parts, floor-parts, at-recs, change-recs, change-keeping}
+use Rattle.records.proofs.RowLaws.{pool-fits, floors-past, floors-inside, floors-apart, list-parts, floor-parts, change-recs, change-keeping}
 
 module _ (ids : List ℕ) (m top k : ℕ) (ws : List ℕ) (K : Keeping ids m top k ws) (r : ℕ) (h : r < m) (a e z : ℕ)
     (ea : a ≡ startOf ws m (11 * m) r) (ee : e ≡ endOf ws m (11 * m) r) (ez : z ≡ a + 62 * getD ws (m + r) 0) where
@@ -188,7 +188,7 @@ module _ (ids : List ℕ) (m top k : ℕ) (ws : List ℕ) (K : Keeping ids m top
             (ap (λ (x : ℕ). not (eqb x 0)) (kept (3 * m + r) (omega arith)))
             (list-kept r h)
             new)
-            ∙ ap (λ (x : Rec). set (recsOf ws m) r (floored o x)) (sym (at-recs ws m r h));
+            ∙ ap (λ (x : Rec). set (recsOf ws m) r (floored o x)) (sym (recs-at ws m r h));
         size = l₂ ∙ len₁;
         after = λ j g. kept-past j (omega (arith, room-inside));
       }

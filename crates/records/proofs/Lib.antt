@@ -1,6 +1,5 @@
 pub mod CellLaws
 pub mod JoinLaws
-pub mod PlainLaws
 pub mod CountLaws
 pub mod RowLaws
 pub mod StepLaws

@@ -3,29 +3,18 @@
 use Prim.Native.Nat.{ℕ, zero, suc, _+_, _-_, _<_}
 use native.Mathlib.Omega.{arith}
 use native.Mathlib.Decide.{ℕ-discrete, decLt}
-use mathlib.Core.Path.{_≡_, ap}
+use mathlib.Core.Path.{_≡_}
 use mathlib.Core.Bool.{true, not}
 use mathlib.Core.List.{List, [], _∷_, map}
-use lib.ListN.{length, getD, take}
+use lib.ListN.{length, getD}
 use lib.Dec.{eqb}
-use Rattle.rules.specs.Base.{_and_, keep, tab, upto}
-use Rattle.rules.specs.Field.{Field, spans, cellOf}
+use Rattle.rules.specs.Base.{keep, tab, upto}
+use Rattle.rules.specs.Field.{Field, cellOf}
 use Rattle.rules.specs.Growth.{plain}
 use Rattle.rules.specs.Contour.{across, solid, firstSolid, Walker, stride, walk, trim, contour}
-use Rattle.rules.specs.Records.{Rec, fresh, at, has, once, onceAll, others, counted, addSpan, records}
-use Rattle.laws.proofs.Basics.{All, append-all, if-ind, upto-ind, store-cases, tab-at, length-tab}
-use Rattle.records.proofs.PlainLaws.{plain-yes}
-
-pub all-at : (P : ℕ → Type 0) (l : List ℕ) → All P l → (x : ℕ) → x < length l → P (getD l x 0)
-all-at P [] a x h = absurd (omega arith)
-all-at P (y ∷ l) a zero h = a .0
-all-at P (y ∷ l) a (suc x) h = all-at P l (a .1) x (omega arith)
-
-all-take : (P : ℕ → Type 0) (n : ℕ) (l : List ℕ) → All P l → All P (take n l)
-all-take P zero [] a = tt
-all-take P zero (y ∷ l) a = tt
-all-take P (suc n) [] a = tt
-all-take P (suc n) (y ∷ l) a = (a .0, all-take P n l (a .1))
+use Rattle.rules.specs.Records.{Rec, fresh, at, has, once, onceAll, others, counted, addSpan}
+use Rattle.laws.proofs.Basics.{All, append-all, if-ind, upto-ind, store-cases, tab-at, length-tab, all-at, take-all}
+use Rattle.laws.proofs.Plain.{plain-yes}
 
 all-once : (P : ℕ → Type 0) (l : List ℕ) (r : ℕ) → All P l → P r → All P (once l r)
 unfolding once
@@ -68,7 +57,7 @@ module _ (ids : List ℕ) (m : ℕ) (some : 0 < m) (below : (x : ℕ) → plain 
     contour-under s d =
         let l = walk F ids s d 40000 (record { span = s; dir = d; last = across F ids s d; listed = across F ids s d ∷ [] }) .listed in
         let a : All (λ x. x < 32768 → x < m) l = walk-under s d 40000 _ (id-under _, tt) in
-        if-ind (λ (x : List ℕ). All (λ x. x < 32768 → x < m) x) _ (λ _. all-take (λ x. x < 32768 → x < m) (length l - 1) l a) (λ _. a)
+        if-ind (λ (x : List ℕ). All (λ x. x < 32768 → x < m) x) _ (λ _. take-all (λ x. x < 32768 → x < m) (length l - 1) l a) (λ _. a)
 
     record Named (i : ℕ) (x : Rec) : Type 0 where
       id : i < m → x .id ≡ i
@@ -113,7 +102,7 @@ module _ (ids : List ℕ) (m : ℕ) (some : 0 < m) (below : (x : ℕ) → plain 
 
     pub lists-under : (k i x : ℕ) → x < length (at (upto k (addSpan F ids) (tab m 0 fresh)) i .list)
         → getD (at (upto k (addSpan F ids) (tab m 0 fresh)) i .list) x 0 < 32768 → getD (at (upto k (addSpan F ids) (tab m 0 fresh)) i .list) x 0 < m
-    lists-under k i x h = all-at (λ x. x < 32768 → x < m) (at (upto k (addSpan F ids) (tab m 0 fresh)) i .list) (all-named k i .list) x h
+    lists-under k i x h = all-at (λ x. x < 32768 → x < m) (at (upto k (addSpan F ids) (tab m 0 fresh)) i .list) x (all-named k i .list) h
 
     pub floors-below : (k i x : ℕ) → x < length (at (upto k (addSpan F ids) (tab m 0 fresh)) i .floors) → getD (at (upto k (addSpan F ids) (tab m 0 fresh)) i .floors) x 0 < m
-    floors-below k i x h = all-at (λ x. x < m) (at (upto k (addSpan F ids) (tab m 0 fresh)) i .floors) (all-named k i .floors) x h
+    floors-below k i x h = all-at (λ x. x < m) (at (upto k (addSpan F ids) (tab m 0 fresh)) i .floors) x (all-named k i .floors) h

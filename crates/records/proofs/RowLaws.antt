@@ -1,20 +1,20 @@
 -- The records while they are built: a change of one leaves the others, so the rule's list of records changes at one place.
 -- Columns, tables, pool and floors lie apart, and so do the rooms of two records' floors.
-use Prim.Native.Nat.{ℕ, _+_, _*_, _-_, _≤_, _<_}
+use Prim.Native.Nat.{ℕ, _+_, _*_, _≤_, _<_}
 use native.Mathlib.Omega.{arith}
 use native.Mathlib.Decide.{ℕ-discrete, decLt}
 use mathlib.Core.Path.{_≡_, sym, ap, _∙_}
 use mathlib.Core.List.{List}
 use lib.ListN.{length, getD, set, take, length-set}
 use lib.Seq.{getD-set-same, getD-set-other, set-set}
-use lib.Dec.{eqb, ltb}
+use lib.Dec.{eqb}
 use borrow.Author.Tests.{le-ltb}
 use Rattle.rules.specs.Base.{_and_, many}
 use Rattle.rules.specs.Records.{Rec, at, fresh}
 use Rattle.laws.proofs.Basics.{many-le}
 use Rattle.table.specs.View.{startOf, endOf, listAt, recAt, view, recsOf, Parts}
-use Rattle.table.proofs.ViewLaws.{view-length, view-at, view-set, rec-same, list-same, wide-same}
-use Rattle.records.specs.Rows.{slot, floorsAt, walked, mine, Row, Keeping, Change, Step}
+use Rattle.table.proofs.ViewLaws.{view-length, view-set, rec-same, list-same, wide-same}
+use Rattle.records.specs.Rows.{floorsAt, walked, mine, Row, Keeping, Change, Step}
 use Rattle.records.proofs.CountLaws.{slot-room, slot-apart, many-take-le, mine-le}
 
 -- ---------------------------------------------------------------- what lies where
@@ -60,10 +60,6 @@ module _ (ids : List ℕ) (m top k : ℕ) (ws : List ℕ) (K : Keeping ids m top
   }
 
 -- ---------------------------------------------------------------- a change of one record
-
-pub at-recs : (ws : List ℕ) (m i : ℕ) → i < m → at (recsOf ws m) i ≡ recAt ws m (7 * m) (11 * m) i
-unfolding recsOf
-at-recs ws m i h = view-at ws m (7 * m) (11 * m) i h
 
 module _ (m r : ℕ) (ws ws′ : List ℕ) (C : Change m r ws ws′) where
   rec-other : (x : ℕ) → x < m → (x ≡ r → ⊥) → recAt ws′ m (7 * m) (11 * m) x ≡ recAt ws m (7 * m) (11 * m) x

@@ -1,6 +1,6 @@
 -- A span adds one to its record, sets overlap, and gives its area: each a store in one column, so each is one step on the rule's records.
 -- The rule's `counted` is these steps, the floors and the contour, one after the other.
-use Prim.Native.Nat.{ℕ, _+_, _*_, _-_, _≤_, _<_}
+use Prim.Native.Nat.{ℕ, _+_, _*_, _≤_, _<_}
 use native.Mathlib.Omega.{arith}
 use native.Mathlib.Numerals.{add-one}
 use mathlib.Core.Path.{_≡_, refl, sym, ap, _∙_}
@@ -13,11 +13,11 @@ use Rattle.rules.specs.Base.{_or_, many}
 use Rattle.rules.specs.Growth.{plain}
 use Rattle.rules.specs.Records.{Rec, at, fresh}
 use Rattle.table.specs.View.{recAt, recsOf}
-use Rattle.table.proofs.ViewLaws.{rec-eq}
+use Rattle.table.proofs.ViewLaws.{rec-eq, recs-at}
 use Rattle.records.specs.Rows.{walked, mine, Row, Keeping, Change, Step, plusOne, overlaid, withArea}
 use Rattle.records.proofs.CellLaws.{or-true}
 use Rattle.records.proofs.CountLaws.{many-same, many-counts, many-passes, mine-yes, mine-other}
-use Rattle.records.proofs.RowLaws.{list-parts, floor-parts, at-recs, change-recs, change-keeping, store-start, store-end, store-list, store-change, store-walked, store-blank, store-after}
+use Rattle.records.proofs.RowLaws.{list-parts, floor-parts, change-recs, change-keeping, store-start, store-end, store-list, store-change, store-walked, store-blank, store-after}
 
 -- nothing happens
 pub step-none : (f : Rec → Rec) (ids : List ℕ) (m r top k : ℕ) (ws : List ℕ) → Keeping ids m top k ws → f (at (recsOf ws m) r) ≡ at (recsOf ws m) r → Step f ids m r top k ws ws
@@ -84,7 +84,7 @@ module _ (ids : List ℕ) (m top k : ℕ) (ws : List ℕ) (K : Keeping ids m top
             (ap (λ (x : ℕ). not (eqb x 0)) (getD-set-other ws q (3 * m + r) v 0 (λ z. omega arith)))
             (store-list ids m top k ws K q v low (7 * m) r h (list-parts ids m top k ws K))
             (store-list ids m top k ws K q v low (11 * m) r h (floor-parts ids m top k ws K)))
-            ∙ ap (λ (x : Rec). set (recsOf ws m) r (plusOne x)) (sym (at-recs ws m r h));
+            ∙ ap (λ (x : Rec). set (recsOf ws m) r (plusOne x)) (sym (recs-at ws m r h));
         size = C .size;
         after = store-after ids m top k ws K q v low;
       }
@@ -109,7 +109,7 @@ module _ (ids : List ℕ) (m top k : ℕ) (ws : List ℕ) (K : Keeping ids m top
             (ap (λ (x : ℕ). not (eqb x 0)) here ∙ sym (or-true (not (eqb (getD ws q 0) 0))))
             (store-list ids m top k ws K q 1 low (7 * m) r h (list-parts ids m top k ws K))
             (store-list ids m top k ws K q 1 low (11 * m) r h (floor-parts ids m top k ws K)))
-            ∙ ap (λ (x : Rec). set (recsOf ws m) r (overlaid true x)) (sym (at-recs ws m r h));
+            ∙ ap (λ (x : Rec). set (recsOf ws m) r (overlaid true x)) (sym (recs-at ws m r h));
         size = C .size;
         after = store-after ids m top k ws K q 1 low;
       }
@@ -137,7 +137,7 @@ module _ (ids : List ℕ) (m top k : ℕ) (ws : List ℕ) (K : Keeping ids m top
             (ap (λ (x : ℕ). not (eqb x 0)) (getD-set-other ws q (3 * m + r) a 0 (λ z. omega arith)))
             (store-list ids m top k ws K q a low (7 * m) r h (list-parts ids m top k ws K))
             (store-list ids m top k ws K q a low (11 * m) r h (floor-parts ids m top k ws K)))
-            ∙ ap (λ (x : Rec). set (recsOf ws m) r (withArea a x)) (sym (at-recs ws m r h));
+            ∙ ap (λ (x : Rec). set (recsOf ws m) r (withArea a x)) (sym (recs-at ws m r h));
         size = C .size;
         after = store-after ids m top k ws K q a low;
       }

@@ -4,7 +4,7 @@ use Prim.Native.Nat.{ℕ, _+_, _*_, _-_, _≤_, _<_}
 use native.Mathlib.Omega.{arith}
 use native.Mathlib.Decide.{ℕ-discrete, decLt}
 use mathlib.Core.Path.{_≡_, refl, sym, ap, _∙_}
-use mathlib.Core.Bool.{true, false, not}
+use mathlib.Core.Bool.{false, not}
 use mathlib.Core.List.{List, [], _++_}
 use lib.ListN.{length, getD, set, take, replicate, length-append, length-replicate, getD-replicate, List·getD-eq-default}
 use lib.Seq.{getD-append-add, length-take-le, take-at, drop-at}
@@ -29,10 +29,10 @@ use Rattle.contour.proofs.EdgeLaws.{ways-edged, edge-at, edge-none}
 use Rattle.contour.proofs.PoolLaws.{laid-whole}
 use Rattle.contour.proofs.Room.{contour-room}
 use Rattle.table.specs.View.{part, startOf, endOf, listAt, recAt, recsOf, Placed}
-use Rattle.table.proofs.ViewLaws.{rec-eq, list-same, wide-same}
+use Rattle.table.proofs.ViewLaws.{rec-eq, list-same, wide-same, recs-at}
 use Rattle.records.specs.Rows.{walked, Row, Keeping, Change, Step, Tracing, Traced, pooled, traced, withList}
 use Rattle.records.proofs.CountLaws.{many-same, many-apart, many-more}
-use Rattle.records.proofs.RowLaws.{pool-fits, floors-past, list-parts, floor-parts, at-recs, change-recs, change-keeping, walked-other}
+use Rattle.records.proofs.RowLaws.{pool-fits, floors-past, list-parts, floor-parts, change-recs, change-keeping, walked-other}
 
 -- ---------------------------------------------------------------- the pool after a list
 
@@ -319,7 +319,7 @@ module _ (ids : List ℕ) (m top k : ℕ) (ws : List ℕ) (K : Keeping ids m top
           (ap (λ (x : ℕ). not (eqb x 0)) (kept (3 * m + r) (omega arith)))
           new
           (floor-kept r h))
-          ∙ ap (λ (x : Rec). set (recsOf ws m) r (withList l x)) (sym (at-recs ws m r h));
+          ∙ ap (λ (x : Rec). set (recsOf ws m) r (withList l x)) (sym (recs-at ws m r h));
       size = l₂ ∙ len₁;
       after = λ j g. kept-past j (omega arith);
     }

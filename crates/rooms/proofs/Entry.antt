@@ -1,13 +1,11 @@
 -- Demand 3 of the outcome of the region entry itself: where it refuses nothing, the ids and max_region that it gives are rooms.
 -- It holds because the outcome is then that of the rules, and a field that 1 to 8 let pass is one that 1 to 6 let pass. Assumes nothing.
 use Prim.Native.Nat.{ℕ, _<_}
-use mathlib.Core.Path.{_≡_, refl}
-use mathlib.Core.Bool.{Bool, true, false}
+use mathlib.Core.Path.{_≡_}
 use mathlib.Core.List.{List, [], _∷_}
 use lib.ListN.{length}
 use lib.Dec.{eqb}
 use borrow.Author.Tests.{eqb-true, eqb-false}
-use Rattle.rules.specs.Base.{if_then_else_}
 use Rattle.rules.specs.Field.{Field, spans, areaOf}
 use Rattle.rules.specs.Refusals.{regionRefusal}
 use Rattle.rules.specs.Growth.{firstId}

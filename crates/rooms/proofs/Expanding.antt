@@ -4,15 +4,15 @@ use native.Mathlib.Omega.{arith}
 use mathlib.Core.Path.{_≡_, refl, sym, ap, _∙_}
 use mathlib.Core.Bool.{true, false, true≢false}
 use mathlib.Core.List.{List, [], _∷_, map}
-use lib.ListN.{length, getD, set, length-set}
+use lib.ListN.{length, getD, length-set}
 use lib.Dec.{eqb}
 use borrow.Author.Tests.{eqb-true, eqb-false, not-true}
-use Rattle.rules.specs.Base.{_and_, if_then_else_}
+use Rattle.rules.specs.Base.{if_then_else_}
 use Rattle.rules.specs.Field.{Field, spans, none, near, areaOf}
 use Rattle.rules.specs.Growth.{Marks, idOf, put, Taken, look, takes, finds, wrote, written, Spread, round, rounds, expand}
 use Rattle.laws.proofs.Basics.{both, if-ind, upto-ind, All, getD-set-cases, map-all}
 use Rattle.rooms.specs.Rooms.{Joined, stay, goes, Plain, Bears}
-use Rattle.rooms.proofs.Joins.{joined-trans, joined-sym, joined-map, plain-true, map-to}
+use Rattle.rooms.proofs.Joins.{joined-trans, joined-sym, joined-map, plain-true}
 
 -- ids from first on and below next are in use, each by one joined set of spans of one area
 pub record Grow (F : Field) (first next : ℕ) (ids : List ℕ) : Type 0 where
@@ -138,7 +138,7 @@ module _ (F : Field) (m : Marks) where
   round-idle : (es : List ℕ) → All Idle es → All (λ e. (e ≡ none → ⊥) → idOf (written F m es m) e ≡ 0) (map (λ e. if finds F m e then none else e) es)
   round-idle es i =
       let h = written-held es m i (record { size = refl; step = λ s. same refl; still = λ s k. refl }) in
-      map-to Idle (λ e. (e ≡ none → ⊥) → idOf (written F m es m) e ≡ 0) (λ e. if finds F m e then none else e) es
+      map-all Idle (λ e. (e ≡ none → ⊥) → idOf (written F m es m) e ≡ 0) (λ e. if finds F m e then none else e) es
       (λ e k. if-ind (λ (x : ℕ). (x ≡ none → ⊥) → idOf (written F m es m) x ≡ 0) (finds F m e) (λ _ n. absurd (n refl)) (λ f n. h .still e f ∙ k n)) i
 
 module _ (F : Field) (first next : ℕ) where
@@ -168,9 +168,9 @@ unfolding rounds round
 rounds-good F zero p h = h
 rounds-good F (suc k) p h =
     if-ind (λ (x : Spread). All (Good F) (x .stack)) _
-    (λ _. rounds-good F k (round F p) (map-all (Good F) _ (p .stack) (λ x i. if-ind (Good F) _ (λ _ n. absurd (n refl)) (λ _. i)) h))
+    (λ _. rounds-good F k (round F p) (map-all (Good F) (Good F) _ (p .stack) (λ x i. if-ind (Good F) _ (λ _ n. absurd (n refl)) (λ _. i)) h))
     (λ _. h)
 
 pub expand-good : (F : Field) (level : ℕ) (m : Marks) (es : List ℕ) → All (Good F) es → All (Good F) (expand F level m es .stack)
 unfolding expand
-expand-good F level m es h = rounds-good F _ _ (map-all (Good F) _ es (λ x i. if-ind (Good F) _ (λ _. i) (λ _ n. absurd (n refl))) h)
+expand-good F level m es h = rounds-good F _ _ (map-all (Good F) (Good F) _ es (λ x i. if-ind (Good F) _ (λ _. i) (λ _ n. absurd (n refl))) h)

@@ -1,13 +1,11 @@
 -- The failed flood: if the flood from a seed counts nothing, then after it every span has the id that it had before, so none bears the
 -- flood's id, and the floods after it are given that same id. It holds because only counted spans keep the id (`flood-leaves`). Assumes nothing.
-use Prim.Native.Nat.{ℕ, suc, _<_}
+use Prim.Native.Nat.{ℕ, _<_}
 use native.Mathlib.Omega.{arith}
-use mathlib.Core.Path.{_≡_, refl, sym, _∙_}
-use mathlib.Core.Bool.{Bool, true, false, not}
-use mathlib.Core.List.{List, [], _∷_}
-use lib.ListN.{length, getD}
+use mathlib.Core.Path.{_≡_, sym, _∙_}
+use mathlib.Core.List.{List, _∷_}
+use lib.ListN.{length}
 use lib.Seq.{ext-getD}
-use lib.Dec.{eqb}
 use borrow.Author.Tests.{eq-eqb, ne-eqb}
 use Rattle.rules.specs.Base.{_and_, if_then_else_}
 use Rattle.rules.specs.Field.{Field, spans, none, areaOf}

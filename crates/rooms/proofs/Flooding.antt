@@ -3,7 +3,7 @@ use Prim.Native.Nat.{ℕ, zero, suc, _+_, _*_, _-_, _<_}
 use native.Mathlib.Omega.{arith}
 use native.Mathlib.Decide.{ℕ-discrete}
 use mathlib.Core.Path.{_≡_, refl, sym, ap, _∙_, subst}
-use mathlib.Core.Bool.{Bool, true, false, not, true≢false}
+use mathlib.Core.Bool.{Bool, true, false, true≢false}
 use mathlib.Core.List.{List, [], _∷_}
 use lib.ListN.{length, getD, set, length-set}
 use lib.Seq.{getD-set-same, getD-set-other}
@@ -14,7 +14,7 @@ use Rattle.rules.specs.Field.{Field, spans, near, areaOf}
 use Rattle.rules.specs.Growth.{Marks, idOf, put, flagged, Seed, Flow, other, objects, pushed, visit, flow, flood, floods, Ids}
 use Rattle.laws.proofs.Basics.{both, if-ind, upto-ind, All, All-map, getD-set-cases}
 use Rattle.laws.proofs.FloodEnds.{Same, Blank, Fine, has-area, objects-same, pushed-fine, visit-fine, own-other, flood-ends}
-use Rattle.laws.proofs.NextId.{zeros, flood-zeros}
+use Rattle.laws.proofs.NextId.{zeros, flood-zeros, if-add}
 use Rattle.rooms.specs.Rooms.{Joined, stay, comes, Bears}
 use Rattle.rooms.proofs.Joins.{joined-trans, joined-sym, joined-map}
 use Rattle.rooms.proofs.Expanding.{Grow, same, step-grow, Good}
@@ -248,11 +248,6 @@ module _ (F : Field) (first : ℕ) where
       if-ind (λ n. Grow F first n (f .marks .ids)) (eqb (f .count) 0)
       (λ c. step-grow F first id (m .ids) (f .marks .ids) g (λ t. same (l .lost (eqb-true _ _ c) t)) (l .size ∙ sym (g .size)))
       (λ c. won-grow id s (m .ids) f p w g l (eqb-false _ _ c))
-
-if-add : (b : Bool) (i : ℕ) → (if b then i else suc i) ≡ i + (if b then 0 else 1)
-unfolding if_then_else_
-if-add true i = omega arith
-if-add false i = omega arith
 
 pub floods-grow : (F : Field) (first : ℕ) (dist : List ℕ) (level : ℕ) → ((s : ℕ) → s < spans F → areaOf F s < 256)
     → (es : List ℕ) → All (Good F) es → (m : Marks) (id : ℕ) → id + zeros (m .ids) < 0x8000 → Grow F first id (m .ids)

@@ -3,12 +3,11 @@ use Prim.Native.Nat.{ℕ}
 use native.Mathlib.Omega.{arith}
 use mathlib.Core.Path.{_≡_, refl}
 use mathlib.Core.Bool.{true}
-use mathlib.Core.List.{List, [], _∷_, map}
 use borrow.Author.Tests.{eqb-false, ne-eqb, lt-leb, leb-false, not-true}
 use Rattle.rules.specs.Base.{_and_}
-use Rattle.rules.specs.Field.{Field, spans, near}
+use Rattle.rules.specs.Field.{Field}
 use Rattle.rules.specs.Growth.{plain}
-use Rattle.laws.proofs.Basics.{both, All}
+use Rattle.laws.proofs.Basics.{both}
 use Rattle.rooms.specs.Rooms.{Joined, stay, goes, comes, Plain}
 
 module _ (F : Field) (C : ℕ → Type 0) where
@@ -16,11 +15,6 @@ module _ (F : Field) (C : ℕ → Type 0) where
   joined-head (stay c) = c
   joined-head (goes d h c p) = c
   joined-head (comes v d h e c p) = c
-
-  pub joined-last : {s t : ℕ} → Joined F C s t → C t
-  joined-last (stay c) = c
-  joined-last (goes d h c p) = joined-last p
-  joined-last (comes v d h e c p) = joined-last p
 
   pub joined-trans : {s t u : ℕ} → Joined F C s t → Joined F C t u → Joined F C s u
   joined-trans (stay c) q = q
@@ -47,13 +41,3 @@ plain-true r e =
 pub true-plain : (r : ℕ) → Plain r → plain r ≡ true
 unfolding _and_
 true-plain r p = rw (ne-eqb r 0 (λ e. omega arith), lt-leb 0x8000 r (p .1))
-
--- a span with no neighbour of the class, either way, is joined to itself alone
-pub joined-alone : (F : Field) (C : ℕ → Type 0) {s t : ℕ} → ((d : ℕ) → C (near F s d) → ⊥) → ((u d : ℕ) → near F u d ≡ s → C u → ⊥) → Joined F C s t → s ≡ t
-joined-alone F C n m (stay c) = refl
-joined-alone F C n m (goes d h c p) = absurd (n d (joined-head F C p))
-joined-alone F C n m (comes v d h e c p) = absurd (m v d e (joined-head F C p))
-
-pub map-to : (P Q : ℕ → Type 0) (f : ℕ → ℕ) (xs : List ℕ) → ((x : ℕ) → P x → Q (f x)) → All P xs → All Q (map f xs)
-map-to P Q f [] k h = tt
-map-to P Q f (x ∷ xs) k h = (k x (h .0), map-to P Q f xs k (h .1))

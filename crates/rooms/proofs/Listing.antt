@@ -6,26 +6,21 @@ use native.Mathlib.Decide.{decLt, ℕ-discrete}
 use mathlib.Core.Path.{_≡_, refl, sym, ap, _∙_}
 use mathlib.Core.Bool.{true≢false}
 use mathlib.Core.List.{List, [], _∷_}
-use lib.ListN.{length, getD, set, take, length-set, List·getD-eq-default}
+use lib.ListN.{length, getD, set, length-set, List·getD-eq-default}
 use lib.Seq.{getD-set-same}
 use lib.Dec.{ltb}
 use borrow.Author.Tests.{eqb-true, eqb-false, ltb-true, ltb-false, not-false}
-use Rattle.rules.specs.Base.{_and_, if_then_else_, upto, tab}
+use Rattle.rules.specs.Base.{if_then_else_, upto, tab}
 use Rattle.rules.specs.Field.{Field, spans, near, areaOf}
 use Rattle.rules.specs.Growth.{plain}
 use Rattle.rules.specs.Contour.{across, solid, Walker, stride, walk, trim, contour}
 use Rattle.rules.specs.Records.{Rec, fresh, at, counted, addSpan, records}
-use Rattle.laws.proofs.Basics.{both, if-ind, upto-ind, All, All-map, nonzero-in, tab-at, tab-each, length-tab, append-all}
+use Rattle.laws.proofs.Basics.{both, if-ind, upto-ind, All, All-map, nonzero-in, tab-at, tab-each, length-tab, append-all, take-all}
 use Rattle.rooms.specs.Rooms.{Plain, Bears}
 use Rattle.rooms.proofs.Joins.{plain-true, true-plain}
 use Rattle.rooms.proofs.Expanding.{Grow}
 
 -- ---------------------------------------------------------------- lists
-
-pub take-all : (P : ℕ → Type 0) (n : ℕ) (xs : List ℕ) → All P xs → All P (take n xs)
-take-all P zero xs h = tt
-take-all P (suc n) [] h = tt
-take-all P (suc n) (x ∷ xs) h = (h .0, take-all P n xs (h .1))
 
 pub at-set : (rs : List Rec) (i : ℕ) (v : Rec) (j : ℕ) (P : Rec → Type 0) → (j ≡ i → P v) → P (at rs j) → P (at (set rs i v) j)
 unfolding at

@@ -9,14 +9,15 @@ use lib.ListN.{length, getD, set, take, drop, length-set, length-map}
 use lib.Dec.{eqb}
 use borrow.Author.Tests.{eqb-true, eqb-false, not-true}
 use Rattle.rules.specs.Base.{if_then_else_, any}
-use Rattle.rules.specs.Field.{Field, spans, near, areaOf}
-use Rattle.rules.specs.Records.{Rec, fresh, at, has}
+use Rattle.rules.specs.Field.{Field, near, areaOf}
+use Rattle.rules.specs.Records.{Rec, at, has}
 use Rattle.rules.specs.Merge.{suits, Pick, picked, place, around, dedup, tidy, absorbed, emptied, renamed, Merge, mergeOne, merged}
-use Rattle.laws.proofs.Basics.{both, neither, if-ind, upto-ind, All, All-map, All-both, append-all}
+use Rattle.laws.proofs.Basics.{both, neither, if-ind, upto-ind, All, All-map, All-both, append-all, map-all, take-all}
+use Rattle.laws.proofs.MergeEnds.{renamed-fresh, at-map}
 use Rattle.rooms.specs.Rooms.{Joined, stay, goes}
-use Rattle.rooms.proofs.Joins.{joined-trans, joined-sym, joined-map, map-to}
+use Rattle.rooms.proofs.Joins.{joined-trans, joined-sym, joined-map}
 use Rattle.rooms.proofs.Expanding.{Grow}
-use Rattle.rooms.proofs.Listing.{take-all, at-set, at-past, Outer, under, Inner, outer-inner, Raw}
+use Rattle.rooms.proofs.Listing.{at-set, at-past, Outer, under, Inner, outer-inner, Raw}
 
 -- ---------------------------------------------------------------- lists
 
@@ -47,12 +48,6 @@ pub any-none : (p : ℕ → Bool) (l : List ℕ) → any p l ≡ false → All (
 unfolding any
 any-none p [] e = tt
 any-none p (x ∷ l) e = let a = neither _ _ e in (a .0, any-none p l (a .1))
-
-at-map : (f : Rec → Rec) → f (fresh 0) ≡ fresh 0 → (rs : List Rec) (j : ℕ) → at (map f rs) j ≡ f (at rs j)
-unfolding at
-at-map f e [] j = sym e
-at-map f e (x ∷ rs) zero = refl
-at-map f e (x ∷ rs) (suc j) = at-map f e rs j
 
 -- ---------------------------------------------------------------- a name for another
 
@@ -249,10 +244,6 @@ module _ (F : Field) (first next : ℕ) (ids : List ℕ) (g : Grow F first next 
 abbrev after : List Rec → ℕ → ℕ → ℕ → List Rec
 after rs i a b = map (renamed a b) (set (set rs b (absorbed (at rs b) (at rs i))) i (emptied (at rs i)))
 
-renamed-fresh : (a b : ℕ) → renamed a b (fresh 0) ≡ fresh 0
-unfolding renamed fresh if_then_else_
-renamed-fresh a b = refl
-
 renamed-id : (a b : ℕ) (r : Rec) → (a ≡ 0 → ⊥) → renamed a b r .id ≡ ren a b (r .id)
 unfolding renamed
 renamed-id a b r z =
@@ -270,7 +261,7 @@ renamed-list a b r Q z h =
     if-ind (λ (x : Rec). All Q (x .list)) (eqb (r .id) 0)
     (λ e. absurd (z (eqb-true _ _ e)))
     (λ _. if-ind (All Q) (has (r .list) a)
-    (λ _. tidy-all Q (map (λ x. if eqb x a then b else x) (r .list)) (map-to (λ x. Q (ren a b x)) Q (λ x. if eqb x a then b else x) (r .list) (λ x k. k) h))
+    (λ _. tidy-all Q (map (λ x. if eqb x a then b else x) (r .list)) (map-all (λ x. Q (ren a b x)) Q (λ x. if eqb x a then b else x) (r .list) (λ x k. k) h))
     (λ e. All-map (r .list) (λ x k. subst Q (ren-miss a b x (λ q. eqb-false _ _ (k .0) (sym q))) (k .1)) (All-both (λ x. eqb a x ≡ false) (λ x. Q (ren a b x)) (r .list) (any-none (eqb a) (r .list) e) h)))
 
 module _ (rs : List Rec) (i a b : ℕ) (az : a ≡ 0 → ⊥) where

@@ -13,7 +13,7 @@ use Rattle.rules.specs.Base.{_or_, if_then_else_, upto, any}
 use Rattle.rules.specs.Records.{Rec, at, has, once}
 use Rattle.rules.specs.Merge.{place}
 use Rattle.rules.specs.Numbering.{live}
-use Rattle.laws.proofs.Basics.{either, if-ind, upto-ind, All, All-map, Distinct, nonzero-in, append-all}
+use Rattle.laws.proofs.Basics.{either, if-ind, upto-ind, All, All-map, Distinct, nonzero-in, append-all, or-right, all-at}
 use Rattle.rooms.proofs.Listing.{under}
 use Rattle.rooms.proofs.Merging.{any-none}
 
@@ -24,11 +24,6 @@ unfolding _or_
 or-map true b c f e = refl
 or-map false b c f e = f e
 
-or-right : (a b : Bool) → b ≡ true → a or b ≡ true
-unfolding _or_
-or-right true b e = refl
-or-right false b e = e
-
 any-left : (p : ℕ → Bool) (l ys : List ℕ) → any p l ≡ true → any p (l ++ ys) ≡ true
 unfolding any
 any-left p [] ys e = absurd (false≢true e)
@@ -38,11 +33,6 @@ any-last : (p : ℕ → Bool) (l : List ℕ) (x : ℕ) → p x ≡ true → any 
 unfolding any _or_
 any-last p [] x e = rw e
 any-last p (y ∷ l) x e = or-right (p y) _ (any-last p l x e)
-
-pub all-at : (P : ℕ → Type 0) (l : List ℕ) (i : ℕ) → All P l → i < length l → P (getD l i 0)
-all-at P [] i h g = absurd (omega arith)
-all-at P (x ∷ l) zero h g = h .0
-all-at P (x ∷ l) (suc i) h g = all-at P l i (h .1) (omega arith)
 
 distinct-last : (l : List ℕ) (x : ℕ) → Distinct l → All (λ y. eqb x y ≡ false) l → Distinct (l ++ (x ∷ []))
 distinct-last [] x d h = (tt, tt)

@@ -1,9 +1,9 @@
 -- Demand 3, whole: in every field that is not refused, each region is a room. Assumes nothing.
-use Prim.Native.Nat.{ℕ, zero, suc, _+_, _-_, _≤_, _<_}
+use Prim.Native.Nat.{ℕ, zero, suc, _-_, _≤_, _<_}
 use native.Mathlib.Omega.{arith}
 use native.Mathlib.Decide.{decLt}
 use mathlib.Core.Path.{_≡_, refl, sym, ap, _∙_}
-use mathlib.Core.Bool.{Bool, true, false, not, true≢false}
+use mathlib.Core.Bool.{true, false, not, true≢false}
 use mathlib.Core.List.{List, [], _∷_, _++_, map}
 use lib.ListN.{length, getD, length-append}
 use lib.Dec.{eqb}
@@ -16,7 +16,7 @@ use Rattle.rules.specs.Records.{Rec, at, has, records}
 use Rattle.rules.specs.Filter.{filtered}
 use Rattle.rules.specs.Merge.{place, merged}
 use Rattle.rules.specs.Numbering.{live, numberOf, numbered, regions}
-use Rattle.laws.proofs.Basics.{if-ind, All-map, pigeonhole, nonzero-in}
+use Rattle.laws.proofs.Basics.{if-ind, All-map, pigeonhole, nonzero-in, all-at}
 use Rattle.laws.proofs.Cells.{passed}
 use Rattle.laws.proofs.Grows.{first-few, grown-next}
 use Rattle.rooms.specs.Rooms.{Joined, Plain, Bears, Rooms}
@@ -26,7 +26,7 @@ use Rattle.rooms.proofs.Growing.{grown-grow}
 use Rattle.rooms.proofs.Listing.{under, end, records-raw}
 use Rattle.rooms.proofs.Filtering.{filtered-raw}
 use Rattle.rooms.proofs.Merging.{cls, Sound, cls-record, merged-sound, raw-sound}
-use Rattle.rooms.proofs.Numbering.{all-at, place-in, place-at, place-left, add, live-upto, Made, Counting, counting, add-last}
+use Rattle.rooms.proofs.Numbering.{place-in, place-at, place-left, add, live-upto, Made, Counting, counting, add-last}
 
 getD-map0 : (φ : ℕ → ℕ) → φ 0 ≡ 0 → (ids : List ℕ) (s : ℕ) → getD (map φ ids) s 0 ≡ φ (getD ids s 0)
 getD-map0 φ e [] s = sym e

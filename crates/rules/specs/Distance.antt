@@ -1,8 +1,7 @@
 -- The distance rules.
-use Prim.Native.Nat.{ℕ, zero, suc, _+_, _*_, _-_, _/_, min, max}
-use mathlib.Core.Bool.{Bool}
+use Prim.Native.Nat.{ℕ, _+_, _*_, _-_, _/_, min, max}
 use mathlib.Core.List.{List, [], _∷_}
-use lib.ListN.{length, getD, set}
+use lib.ListN.{getD, set}
 use lib.Dec.{leb, ltb, eqb}
 use Rattle.rules.specs.Base.{if_then_else_, upto, tab}
 use Rattle.rules.specs.Field.{Field, spans, near, corner, areaOf}

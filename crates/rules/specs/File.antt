@@ -2,7 +2,6 @@
 -- least area, merge area: 10 bytes), 2 cell (count: 1 byte), 3 span (area, four connections: 5 bytes), 4 end (none). Order: header,
 -- each cell followed by its spans, end."
 use Prim.Native.Nat.{ℕ, zero, suc, _+_, _*_}
-use mathlib.Core.Bool.{Bool, true, false}
 use mathlib.Core.List.{List, [], _∷_, _++_}
 use lib.ListN.{length, getD, take, drop}
 use lib.Dec.{leb, ltb, eqb}

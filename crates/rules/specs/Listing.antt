@@ -2,13 +2,12 @@
 use Prim.Native.Nat.{ℕ, zero, suc, _+_, _*_, _/_, _%_}
 use Prim.Native.Char.{code}
 use Prim.Native.String.{String, len, charAt}
-use mathlib.Core.Bool.{Bool, true, false}
 use mathlib.Core.List.{List, [], _∷_, _++_}
-use lib.ListN.{length, getD, take, drop, replicate}
+use lib.ListN.{getD, replicate}
 use lib.Dec.{ltb, eqb}
 use Rattle.rules.specs.Base.{if_then_else_, tab}
 use Rattle.rules.specs.Field.{Field, spans}
-use Rattle.rules.specs.Outcomes.{DistanceOutcome, RegionOutcome, distanceOutcome, regionOutcome}
+use Rattle.rules.specs.Outcomes.{RegionOutcome, distanceOutcome, regionOutcome}
 use Rattle.rules.specs.File.{Level, Reading, refused, described, readFile}
 
 -- ---------------------------------------------------------------- text, as ASCII codes

@@ -1,6 +1,6 @@
 -- The merge, in the Rust's steps `can_merge_with`, `merge_regions`, `remove_adjacent_neighbours` and `replace_neighbour`.
 use Prim.Native.Nat.{ℕ, zero, suc, _+_, _%_}
-use mathlib.Core.Bool.{Bool, true, false, not}
+use mathlib.Core.Bool.{Bool, not}
 use mathlib.Core.List.{List, [], _∷_, _++_, map}
 use lib.ListN.{length, getD, set, take, drop}
 use lib.Dec.{leb, ltb, eqb}

@@ -4,7 +4,7 @@ use mathlib.Core.List.{List, [], _∷_}
 use lib.ListN.{length, replicate}
 use lib.Dec.{eqb}
 use Rattle.rules.specs.Base.{if_then_else_}
-use Rattle.rules.specs.Field.{Field, spans}
+use Rattle.rules.specs.Field.{Field}
 use Rattle.rules.specs.Refusals.{refusal, regionRefusal}
 use Rattle.rules.specs.Distance.{raw, greatest, blur}
 use Rattle.rules.specs.Growth.{grown}

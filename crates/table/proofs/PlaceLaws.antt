@@ -1,6 +1,6 @@
 -- A table's entry is written: four numbers, each in its own column. The others keep theirs, since no two of these places are the same.
 -- The halves of a number give it back.
-use Prim.Native.Nat.{ℕ, _+_, _-_, _*_, _/_, _%_, _≤_, _<_}
+use Prim.Native.Nat.{ℕ, _+_, _*_, _/_, _%_, _≤_, _<_}
 use native.Mathlib.Omega.{arith}
 use native.Mathlib.Nat.{div-add-mod'}
 use mathlib.Core.Path.{_≡_, _∙_}
@@ -17,9 +17,6 @@ abbrev put : List ℕ → ℕ → ℕ → ℕ → List ℕ
 put ws m a v = set (set ws a (v % 65536)) (a + m) (v / 65536)
 
 module _ (ws : List ℕ) (m a v : ℕ) (h : a + m < length ws) where
-  put-length : length (put ws m a v) ≡ length ws
-  put-length = length-set (set ws a (v % 65536)) (a + m) (v / 65536) ∙ length-set ws a (v % 65536)
-
   put-other : (j : ℕ) → (j ≡ a → ⊥) → (j ≡ a + m → ⊥) → getD (put ws m a v) j 0 ≡ getD ws j 0
   put-other j p q = getD-set-other (set ws a (v % 65536)) (a + m) j (v / 65536) 0 q ∙ getD-set-other ws a j (v % 65536) 0 p
 

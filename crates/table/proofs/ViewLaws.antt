@@ -12,9 +12,9 @@ use lib.Seq.{drop-cons, ext-getD, getD-set-same, getD-set-other}
 use Rattle.rules.specs.Base.{tab}
 use Rattle.rules.specs.Records.{Rec, at, fresh}
 use Rattle.laws.proofs.Basics.{tab-at, length-tab}
-use Rattle.space.specs.Space.{Frame, sec}
-use Rattle.space.proofs.Laws.{getD-after, length-sec, getD-sec}
-use Rattle.table.specs.View.{part, wide, startOf, endOf, listAt, recAt, view, Parts, Held}
+use Rattle.space.specs.Space.{Frame}
+use Rattle.space.proofs.Laws.{getD-after, length-sec, getD-sec, sec-same, sec-before, sec-after}
+use Rattle.table.specs.View.{part, wide, startOf, endOf, listAt, recAt, view, Parts, Held, recsOf}
 
 pub wide-is : (ws : List ℕ) (m a x y : ℕ) → x ≡ getD ws a 0 → y ≡ getD ws (a + m) 0 → x + 65536 * y ≡ wide ws m a
 unfolding wide
@@ -98,15 +98,29 @@ view-set ws ws′ m s t r x k e h =
       | no q ↦ h i g q ∙ sym (view-at ws m s t i g) ∙ sym (getD-set-other (view ws m s t) r i x (fresh 0) q)
     ])
 
+-- ---- the records, with their tables at 7m and 11m
+
+pub recs-length : (ws : List ℕ) (m : ℕ) → length (recsOf ws m) ≡ m
+unfolding recsOf
+recs-length ws m = view-length ws m (7 * m) (11 * m)
+
+pub recs-at : (ws : List ℕ) (m i : ℕ) → i < m → at (recsOf ws m) i ≡ recAt ws m (7 * m) (11 * m) i
+unfolding recsOf
+recs-at ws m i h = view-at ws m (7 * m) (11 * m) i h
+
+pub id-at : (ws : List ℕ) (m r : ℕ) → r < m → at (recsOf ws m) r .id ≡ getD ws r 0
+unfolding recAt
+id-at ws m r h = ap (λ (q : Rec). q .id) (recs-at ws m r h)
+
 -- ---- a part
 
-pub sec-same : (ws ws′ : List ℕ) (a n : ℕ) → a + n ≤ length ws → length ws′ ≡ length ws → ((k : ℕ) → a ≤ k → k < a + n → getD ws′ k 0 ≡ getD ws k 0) → sec a n ws′ ≡ sec a n ws
-sec-same ws ws′ a n h l e =
-    let p = length-sec a n ws h in
-    let q = length-sec a n ws′ (rw l h) in
-    ext-getD 0 (sec a n ws′) (sec a n ws) (q ∙ sym p) (λ i g.
-    let g′ : i < n = rw q at g in
-    getD-sec a n i ws′ g′ ∙ e (a + i) (omega arith) (omega arith) ∙ sym (getD-sec a n i ws g′))
+pub part-after : {a e : ℕ} {ws ws′ : List ℕ} (b c : ℕ) → Frame a e ws ws′ → e ≤ b → part b c ws′ ≡ part b c ws
+unfolding part
+part-after b c f h = sec-after b (c - b) f h
+
+pub part-before : {a e : ℕ} {ws ws′ : List ℕ} (b c : ℕ) → Frame a e ws ws′ → b ≤ c → c ≤ a → part b c ws′ ≡ part b c ws
+unfolding part
+part-before b c f h g = sec-before b (c - b) f (omega arith)
 
 pub list-same : (ws ws′ : List ℕ) (m s r : ℕ) → startOf ws′ m s r ≡ startOf ws m s r → endOf ws′ m s r ≡ endOf ws m s r → startOf ws m s r ≤ endOf ws m s r
     → endOf ws m s r ≤ length ws → length ws′ ≡ length ws → ((k : ℕ) → startOf ws m s r ≤ k → k < endOf ws m s r → getD ws′ k 0 ≡ getD ws k 0)

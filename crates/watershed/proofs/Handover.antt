@@ -13,10 +13,9 @@ use Rattle.laws.specs.Sums.{sumTo}
 use Rattle.laws.proofs.Sums.{sum-same}
 use Rattle.rooms.proofs.Joins.{plain-true}
 use Rattle.table.specs.View.{recAt}
-use Rattle.table.proofs.ViewLaws.{list-length}
+use Rattle.table.proofs.ViewLaws.{list-length, recs-at}
 use Rattle.records.specs.Rows.{floorsAt}
 use Rattle.records.specs.Stock.{Given, Built}
-use Rattle.records.proofs.RowLaws.{at-recs}
 use Rattle.records.proofs.Fits.{own-number, counts-fit, lists-fit}
 use Rattle.numbering.specs.Number.{Spans}
 use Rattle.pool.specs.Pool.{lenAt, countAt}
@@ -27,7 +26,7 @@ module _ (F : Field) (w : ℕ) (is ks ar cs ids : List ℕ) (b next : ℕ) (ws�
   size = g .idents ∙ sym (ap length (g .lent .areas))
 
   rec-is : (r : ℕ) → r < next + 1 → recAt ws (next + 1) (7 * (next + 1)) (11 * (next + 1)) r ≡ at (records F ids next) r
-  rec-is r h = sym (at-recs ws (next + 1) r h) ∙ ap (λ (l : List Rec). at l r) (B .same F g)
+  rec-is r h = sym (recs-at ws (next + 1) r h) ∙ ap (λ (l : List Rec). at l r) (B .same F g)
 
   id-is : (r : ℕ) → r < next + 1 → getD ws r 0 ≡ at (records F ids next) r .id
   unfolding recAt

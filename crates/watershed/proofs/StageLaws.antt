@@ -13,11 +13,11 @@ use Rattle.rules.specs.Records.{records}
 use Rattle.rules.specs.Filter.{filtered}
 use Rattle.rules.specs.Merge.{merged}
 use Rattle.rules.specs.Numbering.{Regions, numbered, regions}
+use Rattle.laws.proofs.Basics.{getD-any}
 use Rattle.laws.proofs.Grows.{first-few, grown-next}
 use Rattle.laws.proofs.Lengths.{records-length, filtered-length}
 use Rattle.rooms.proofs.Joins.{plain-true}
 use Rattle.rooms.proofs.Growing.{grown-grow}
-use Rattle.space.proofs.Laws.{getD-any}
 use Rattle.field.specs.Lent.{lent}
 use Rattle.field.proofs.Refused.{sound-reached}
 use Rattle.expand.specs.Layout.{Clear}

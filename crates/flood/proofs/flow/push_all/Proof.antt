@@ -1,7 +1,6 @@
 -- The loop's invariant: the flow is the rule's after d directions (`Pushing`), and the stack has room. The measure is the directions left.
 -- Assumes nothing.
 use Prim.Native.Nat.{_-_}
-use native.Mathlib.Omega.{arith}
 use borrow.Author.Needs.{needs}
 use Rattle.flood.proofs.Pushes.{Pushing, pushing-start, pushing-next, pushing-done}
 use Rattle.flood.proofs.flow.push_all.Statement.{statement}

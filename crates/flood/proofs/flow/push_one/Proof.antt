@@ -3,7 +3,7 @@
 use native.Mathlib.Omega.{arith}
 use borrow.Author.Needs.{needs}
 use denote.Ref.{now}
-use lib.ListN.{length, getD, length-set}
+use lib.ListN.{length, length-set}
 use Prim.Native.Nat.{_+_, _<_}
 use mathlib.Core.Path.{refl}
 use Rattle.field.proofs.Places.{leaf-none}

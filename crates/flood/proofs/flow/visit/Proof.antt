@@ -1,12 +1,10 @@
 -- The popped span bears the id, so it is a span, and its cell is read where it stands (Visits). It objects, and the flow is the rule's; or it counts,
 -- and its neighbours are pushed from the workspace without it. Assumes nothing.
 use mathlib.Core.Path.{_≡_, refl, sym, ap, _∙_}
-use mathlib.Core.List.{List}
-use Prim.Native.Nat.{ℕ, _+_, _-_, _<_, _≤_}
+use Prim.Native.Nat.{_+_, _-_, _<_, _≤_}
 use native.Mathlib.Omega.{arith}
-use borrow.Author.Needs.{needs}
 use denote.Ref.{now}
-use lib.ListN.{length, getD, set, take, length-set}
+use lib.ListN.{length, getD, take, length-set}
 use Rattle.space.specs.Space.{tally}
 use Rattle.flood.proofs.Pushes.{sized-kept}
 use Rattle.flood.proofs.Visits.{good-held, good-top, popped-some, popped-ground, popped-site, popped-some-site, lent-con, visit-objects, visit-counts, popped-kept, popped-blank, kept-then}

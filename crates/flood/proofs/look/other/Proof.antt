@@ -1,6 +1,4 @@
 -- `other` is the rule's test, in two tests. Assumes nothing.
-use mathlib.Core.Path.{_≡_}
-use mathlib.Core.Bool.{not}
 use borrow.Author.Tests.{eq-eqb, ne-eqb}
 use Rattle.rules.specs.Base.{_and_}
 use Rattle.flood.proofs.look.other.Statement.{statement}

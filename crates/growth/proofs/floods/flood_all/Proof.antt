@@ -1,9 +1,7 @@
 -- The loop's invariant: floods from the entries from j on give what floods from all give (`Flooded`). The measure is the entries left.
 -- Assumes nothing.
-use mathlib.Core.Path.{_≡_, refl, sym, _∙_}
-use Prim.Native.Nat.{_-_, _<_, _≤_}
+use Prim.Native.Nat.{_-_, _≤_}
 use native.Mathlib.Omega.{arith}
-use borrow.Author.Needs.{needs}
 use denote.Ref.{now}
 use lib.ListN.{length}
 use Rattle.flood.proofs.Pushes.{sized-kept}

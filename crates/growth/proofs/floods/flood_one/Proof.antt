@@ -1,6 +1,6 @@
 -- A used entry and one with an id leave all as it is; else the flood gives what the rule's flood gives, and its id is advanced by success alone (SeaLaws).
 -- Assumes nothing.
-use mathlib.Core.Path.{_≡_, refl, _∙_}
+use mathlib.Core.Path.{refl}
 use Prim.Native.Nat.{_<_}
 use native.Mathlib.Omega.{arith}
 use borrow.Author.Needs.{needs}

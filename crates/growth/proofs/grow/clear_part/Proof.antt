@@ -1,5 +1,4 @@
 -- The part is lent and comes back as zeros; nothing else changes (GrowLaws). Assumes nothing.
-use native.Mathlib.Omega.{arith}
 use borrow.Author.Needs.{needs}
 use Rattle.growth.proofs.GrowLaws.{part-clear, part-frame}
 use Rattle.growth.proofs.grow.clear_part.Statement.{statement}

@@ -1,9 +1,6 @@
 -- What the expansion asks and what it leaves are told by `Ready` (ExpandTurn). Assumes nothing.
-use mathlib.Core.Path.{_≡_}
 use native.Mathlib.Omega.{arith}
 use borrow.Author.Needs.{needs}
-use denote.Ref.{now}
-use lib.ListN.{length}
 use Rattle.growth.proofs.ExpandTurn.{given-as, expanded-as}
 use Rattle.growth.proofs.turns.expand_turn.Statement.{statement}
 use Rattle.growth.proofs.turns.expand_turn.Tie as tie

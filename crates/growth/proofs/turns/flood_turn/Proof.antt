@@ -1,9 +1,7 @@
 -- What the floods ask and what they leave are told by `Ready` (FloodTurn). Assumes nothing.
-use mathlib.Core.Path.{_≡_}
 use native.Mathlib.Omega.{arith}
 use borrow.Author.Needs.{needs}
 use denote.Ref.{now}
-use lib.ListN.{length}
 use Rattle.growth.proofs.ExpandTurn.{section}
 use Rattle.growth.proofs.FloodTurn.{entries-as, sized-as, washed}
 use Rattle.growth.proofs.turns.flood_turn.Statement.{statement}

@@ -1,11 +1,9 @@
 -- Each of the two calls gives the stacks that the rule loads (TurnLaws). Assumes nothing.
-use mathlib.Core.Path.{_≡_}
-use Prim.Native.Nat.{_+_, _<_}
+use Prim.Native.Nat.{_+_}
 use native.Mathlib.Omega.{arith}
 use native.Mathlib.Nat.{mod-lt}
 use borrow.Author.Needs.{needs}
 use denote.Ref.{now}
-use lib.ListN.{length}
 use Rattle.growth.proofs.TurnLaws.{loaded-sorted, left-stacked, left-fits, loaded-appended}
 use Rattle.growth.proofs.turns.load.Statement.{statement}
 use Rattle.growth.proofs.turns.load.Tie as tie

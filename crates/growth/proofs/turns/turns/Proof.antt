@@ -1,11 +1,9 @@
 -- The loop's invariant: what is there is what the turns so far leave (`Ebb`), count - left of them; each turn adds one (EbbLaws). The measure
 -- is the turns left. Assumes nothing.
 use mathlib.Core.Path.{_≡_}
-use Prim.Native.Nat.{suc, _+_, _-_, _*_, _≤_, _<_}
+use Prim.Native.Nat.{suc, _-_, _≤_}
 use native.Mathlib.Omega.{arith}
 use borrow.Author.Needs.{needs}
-use denote.Ref.{now}
-use lib.ListN.{length}
 use Rattle.growth.specs.Turns.{Ebb}
 use Rattle.growth.proofs.EbbLaws.{ebb-start, ebb-next, ebb-end}
 use Rattle.growth.proofs.turns.turns.Statement.{statement}

@@ -1,6 +1,6 @@
 -- `add_span` is the rule's `addSpan`: ids 0 and flagged ids pass, any other is counted.
 -- The three ways out are the rule's test for a plain id.
-use Rattle.records.proofs.PlainLaws.{plain-zero, plain-flagged, plain-yes}
+use Rattle.laws.proofs.Plain.{plain-zero, plain-flagged, plain-yes}
 use Rattle.records.proofs.BuildLaws.{added-none}
 use borrow.Author.Needs.{needs}
 use Rattle.records.proofs.build.add_span.Statement.{statement}
@@ -19,7 +19,7 @@ returns : tie.Need-returns
 returns c = let p = S (c .before) .pre in added-none _ _ _ _ _ _ _ _ _ _ _ (p .1) (p .2) (plain-zero _ (c .if1 .taken))
 
 returns-2 : tie.Need-returns-2
-returns-2 c = let p = S (c .before .before) .pre in added-none _ _ _ _ _ _ _ _ _ _ _ (p .1) (p .2) (plain-flagged _ (c .before .if1 .left) (c .if2 .taken))
+returns-2 c = let p = S (c .before .before) .pre in added-none _ _ _ _ _ _ _ _ _ _ _ (p .1) (p .2) (plain-flagged _ (c .if2 .taken))
 
 count-span-requires : tie.Need-count-span-requires
 count-span-requires c κs = let e = c .before in

@@ -1,7 +1,7 @@
 -- `join_one` is the rule's: the span itself, id 0 and flagged ids do not join, another id joins once.
 -- The four ways out are the rule's tests, in order.
 use Rattle.records.proofs.CellLaws.{join-self, join-not, join-yes}
-use Rattle.records.proofs.PlainLaws.{plain-zero, plain-flagged, plain-yes}
+use Rattle.laws.proofs.Plain.{plain-zero, plain-flagged, plain-yes}
 use mathlib.Core.Path.{refl}
 use borrow.Author.Needs.{needs}
 use Rattle.records.proofs.cell.join_one.Statement.{statement}
@@ -20,7 +20,7 @@ returns-2 : tie.Need-returns-2
 returns-2 c = (join-not _ _ _ _ _ (c .before .before .before .before .before .pre .1 .0) (c .before .before .if1 .left) (plain-zero _ (c .if2 .taken)), λ _. refl)
 
 returns-3 : tie.Need-returns-3
-returns-3 c = (join-not _ _ _ _ _ (c .before .before .before .before .before .before .pre .1 .0) (c .before .before .before .if1 .left) (plain-flagged _ (c .before .if2 .left) (c .if3 .taken)), λ _. refl)
+returns-3 c = (join-not _ _ _ _ _ (c .before .before .before .before .before .before .pre .1 .0) (c .before .before .before .if1 .left) (plain-flagged _ (c .if3 .taken)), λ _. refl)
 
 once-requires : tie.Need-once-requires
 once-requires c κs =

@@ -58,7 +58,8 @@ pub fn side_gussetraft_regions(
     build_regions(field, distances, max_distance, sizes, workspace, ids)
 }
 
-/// The checks that the distance entry makes.
+/// The checks that the distance entry makes. Its max_distance is not that of the function below, so that the compiler does not make one
+/// function of the two, which the counter could not tell apart.
 #[unsafe(no_mangle)]
 #[inline(never)]
 pub fn side_checker_distance(

@@ -45,7 +45,7 @@ fn stack_of(level: u16, distance: u16) -> usize
     a - b
 }
 
-// Span i goes to its stack. At most levels the distance rules most spans out, so it is looked at first.
+// Span i goes to its stack.
 fn sort_one(
     area: &[u8],
     dist: &[u16],

@@ -6,10 +6,10 @@ use native.Mathlib.Nat.{le-refl, add-zero}
 use native.Mathlib.Numerals.{add-one}
 use native.Mathlib.Decide.{decLt, ℕ-discrete}
 use mathlib.Core.Path.{_≡_, refl, sym, ap, _∙_}
-use mathlib.Core.Bool.{Bool, true, false, true≢false, false≢true}
+use mathlib.Core.Bool.{Bool, true, false, _&&_, _||_, true≢false, false≢true}
 use mathlib.Core.List.{List, [], _∷_, _++_, map}
-use lib.ListN.{length, getD, set, take, replicate, length-set, length-replicate, getD-replicate, drop}
-use lib.Seq.{getD-set-same, getD-set-other, take-nil}
+use lib.ListN.{drop-of-length-le, length, getD, set, take, replicate, length-set, length-replicate, getD-replicate, drop}
+use lib.Seq.{drop-cons, getD-set-same, getD-set-other, take-nil}
 use lib.Dec.{eqb}
 use borrow.Author.Tests.{eqb-true, eq-eqb, leb-true, leb-false, ltb-true, ltb-false}
 use Rattle.rules.specs.Base.{_and_, _or_, if_then_else_, upto, tab, every, any, keep, many}
@@ -47,6 +47,32 @@ pub or-right : (a b : Bool) → b ≡ true → a or b ≡ true
 unfolding _or_
 or-right true b e = refl
 or-right false b e = e
+
+pub or-no : (a : Bool) → a or false ≡ a
+unfolding _or_
+or-no true = refl
+or-no false = refl
+
+pub or-yes : (a : Bool) → a or true ≡ true
+unfolding _or_
+or-yes true = refl
+or-yes false = refl
+
+pub or-swap : (a b c : Bool) → (a or b) or c ≡ a or (b or c)
+unfolding _or_
+or-swap true b c = refl
+or-swap false b c = refl
+
+-- the connectives of code are the rules' own
+pub code-and : (a b : Bool) → a && b ≡ a and b
+unfolding _and_
+code-and true b = refl
+code-and false b = refl
+
+pub code-or : (a b : Bool) → a || b ≡ a or b
+unfolding _or_
+code-or true b = refl
+code-or false b = refl
 
 -- two tests that say the same
 pub same-test : (a b : Bool) → (a ≡ true → b ≡ true) → (b ≡ true → a ≡ true) → a ≡ b
@@ -105,6 +131,11 @@ unfolding tab
 tab-each P zero at f d j p h = p
 tab-each P (suc n) at f d zero p h = h at
 tab-each P (suc n) at f d (suc j) p h = tab-each P n (suc at) f d j p h
+
+pub zeros-at : (n i : ℕ) → _≡_ {A = ℕ} (getD (replicate n 0) i 0) 0
+zeros-at zero i = refl
+zeros-at (suc n) zero = refl
+zeros-at (suc n) (suc i) = zeros-at n i
 
 -- what is read within a list is the same for every default
 pub getD-any : (l : List ℕ) (i d e : ℕ) → i < length l → getD l i d ≡ getD l i e
@@ -255,6 +286,25 @@ pub any-many : (f : ℕ → Bool) (es : List ℕ) → any f es ≡ true → 0 < 
 unfolding any many _or_
 any-many f [] e = absurd (false≢true e)
 any-many f (x ∷ es) e = if-ind (λ n. 0 < n) (f x) (λ _. omega arith) (λ z. any-many f es (rw z at e))
+
+-- ---------------------------------------------------------------- is there one that p holds of?
+
+module _ (p : ℕ → Bool) (l : List ℕ) (i : ℕ) where
+  pub any-more : i < length l → any p (drop i l) ≡ p (getD l i 0) or any p (drop (i + 1) l)
+  unfolding any
+  any-more h = rw (drop-cons l i 0 h, add-one i)
+
+  pub any-past : length l ≤ i → any p (drop i l) ≡ false
+  unfolding any
+  any-past h = rw (drop-of-length-le l h)
+
+  -- a search that goes on past what it finds
+  module _ (found : Bool) (e : found or any p (drop i l) ≡ any p l) where
+    pub any-go : (b : Bool) → i < length l → b ≡ found or p (getD l i 0) → b or any p (drop (i + 1) l) ≡ any p l
+    any-go b h q = ap (λ c. c or any p (drop (i + 1) l)) q ∙ or-swap found _ _ ∙ sym (ap (λ c. found or c) (any-more h)) ∙ e
+
+    pub any-done : length l ≤ i → found ≡ any p l
+    any-done h = sym (or-no found) ∙ sym (ap (λ c. found or c) (any-past h)) ∙ e
 
 -- ---------------------------------------------------------------- distinct numbers
 

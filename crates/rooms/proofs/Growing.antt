@@ -6,13 +6,13 @@ use native.Mathlib.Decide.{decLt}
 use mathlib.Core.Path.{_≡_, refl, ap, _∙_}
 use mathlib.Core.Bool.{Bool}
 use mathlib.Core.List.{List, []}
-use lib.ListN.{length, getD, replicate, List·getD-eq-default}
+use lib.ListN.{length, getD, List·getD-eq-default}
 use lib.Dec.{eqb}
 use borrow.Author.Tests.{eqb-false, not-true, not-false}
 use Rattle.rules.specs.Base.{_and_, tab, keep}
 use Rattle.rules.specs.Field.{Field, spans, areaOf}
 use Rattle.rules.specs.Growth.{Marks, idOf, walkable, paintOf, painted, firstId, blank, sorted, remains, expand, Turn, loaded, turn, grown}
-use Rattle.laws.proofs.Basics.{both, if-ind, upto-ind, All, tab-at, length-tab, set-cases, keep-all, append-all, tab-each}
+use Rattle.laws.proofs.Basics.{both, if-ind, upto-ind, All, tab-at, length-tab, set-cases, keep-all, append-all, tab-each, zeros-at}
 use Rattle.laws.proofs.Grows.{Down, expand-down, down-zeros, Room, loaded-inside, turn-room, first-few}
 use Rattle.laws.proofs.Lengths.{painted-length}
 use Rattle.laws.proofs.NextId.{zeros-le}
@@ -33,11 +33,6 @@ paint-is F b s =
     (λ _. if-ind (λ (r : ℕ). (areaOf F s ≡ 0 → r ≡ 0) × (Plain r → ⊥)) _ (λ _. ((λ e. absurd (n e)), λ p. omega arith))
     (λ _. if-ind (λ (r : ℕ). (areaOf F s ≡ 0 → r ≡ 0) × (Plain r → ⊥)) _ (λ _. ((λ e. absurd (n e)), λ p. omega arith))
     (λ _. if-ind (λ (r : ℕ). (areaOf F s ≡ 0 → r ≡ 0) × (Plain r → ⊥)) _ (λ _. ((λ e. absurd (n e)), λ p. omega arith)) (λ _. ((λ _. refl), λ p. omega arith))))))
-
-zeros-at : (n s : ℕ) → _≡_ {A = ℕ} (getD (replicate n 0) s 0) 0
-zeros-at zero s = refl
-zeros-at (suc n) zero = refl
-zeros-at (suc n) (suc s) = zeros-at n s
 
 painted-is : (F : Field) (b s : ℕ) → (areaOf F s ≡ 0 → idOf (painted F b) s ≡ 0) × (Plain (idOf (painted F b) s) → ⊥)
 unfolding painted

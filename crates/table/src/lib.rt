@@ -1,4 +1,8 @@
 // The records in the workspace: what is read of them, and their tables of parts.
+mod search;
+
+pub use crate::search::holds;
+pub use crate::search::place;
 ghost use mathlib.Core.Path.{_≡_};
 ghost use Prim.Native.Nat.{_+_, _*_, _/_, _%_, _≤_, _<_};
 ghost use lib.ListN.{length, getD, set};

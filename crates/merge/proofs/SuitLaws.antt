@@ -1,31 +1,28 @@
 -- Laws of the workspace's view. Assumes nothing.
-use Prim.Native.Nat.{ℕ, suc, _+_, _-_, _*_, _≤_, _<_}
+use Prim.Native.Nat.{ℕ, zero, suc, _+_, _-_, _*_, _≤_, _<_}
 use native.Mathlib.Omega.{arith}
 use native.Mathlib.Numerals.{add-one}
 use mathlib.Core.Path.{_≡_, refl, sym, ap, _∙_}
 use mathlib.Core.Bool.{Bool, true, false}
 use mathlib.Core.List.{List, [], _∷_}
-use lib.ListN.{drop-of-length-le, length, getD, drop}
+use lib.ListN.{drop-of-length-le, length, getD, take, drop}
 use lib.Seq.{drop-cons}
 use lib.Dec.{eqb}
 use borrow.Author.Tests.{eq-eqb, ne-eqb, le-leb, lt-leb}
 use Rattle.rules.specs.Base.{_and_, _or_, any, many}
 use Rattle.rules.specs.Records.{Rec, at, fresh}
-use Rattle.laws.proofs.Basics.{tab-at}
+use Rattle.rules.specs.Merge.{place}
+use Rattle.laws.proofs.Basics.{tab-at, any-more, any-past}
+use Rattle.space.proofs.Laws.{getD-sec, length-sec}
 use Rattle.table.proofs.ViewLaws.{map-tab, view-length, view-at, view-drop}
-use Rattle.table.specs.View.{listAt, recAt, view, Below, Held}
+use Rattle.table.specs.View.{part, listAt, recAt, view, Below, Held}
+use Rattle.table.proofs.SearchLaws.{place-within, place-before, place-holds}
 use Rattle.pool.specs.Fixed.{floorIs, floorIn, idsOf, suitsF}
 
 -- ---- searches
 
-module _ (p : ℕ → Bool) (l : List ℕ) (i : ℕ) where
-  any-more : i < length l → any p (drop i l) ≡ p (getD l i 0) or any p (drop (i + 1) l)
-  unfolding any
-  any-more h = rw (drop-cons l i 0 h, add-one i)
-
-  pub any-end : any p l ≡ any p (drop i l) → length l ≤ i → false ≡ any p l
-  unfolding any
-  any-end e h = sym (e ∙ rw (drop-of-length-le l h) refl)
+pub any-end : (p : ℕ → Bool) (l : List ℕ) (i : ℕ) → any p l ≡ any p (drop i l) → length l ≤ i → false ≡ any p l
+any-end p l i e h = sym (e ∙ any-past p l i h)
 
 module _ (ids l : List ℕ) (b i f : ℕ) (e : any (floorIs ids b) l ≡ any (floorIs ids b) (drop i l)) (h : i < length l) (q : f ≡ getD l i 0) where
   pub floor-here : getD ids f 0 ≡ b → true ≡ any (floorIs ids b) l
@@ -39,35 +36,70 @@ module _ (ids l : List ℕ) (b i f : ℕ) (e : any (floorIs ids b) l ≡ any (fl
   pub floor-in : Below (length ids) l → f < length ids
   floor-in w = rw q (w .below i h)
 
--- ---- the records
-
 -- ---- a floor through the present ids
 
-module _ (ws : List ℕ) (m s t i a b : ℕ) (r : Bool) (h : i < m)
-    (q : r ≡ (eqb (recAt ws m s t i .id) a and any (floorIs ws b) (recAt ws m s t i .floors)))
-    (e : floorIn ws (view ws m s t) a b ≡ floorIn ws (drop i (view ws m s t)) a b) where
-  pub found-here : r ≡ true → true ≡ floorIn ws (view ws m s t) a b
-  unfolding floorIn _or_
-  found-here z = sym (e ∙ rw (view-drop ws m s t i h, ← q, z) refl)
+-- an id looked for among those from i up to m
+module _ (ws : List ℕ) (i m a k : ℕ) (h : i ≤ m) (w : m ≤ length ws) (q : k ≡ place (take (m - i) (drop i ws)) a) where
+  pub next-is : i + k ≡ i + place (part i m ws) a
+  unfolding part
+  next-is = rw q refl
 
-  pub found-next : r ≡ false → floorIn ws (view ws m s t) a b ≡ floorIn ws (drop (i + 1) (view ws m s t)) a b
-  unfolding floorIn _or_
-  found-next z = e ∙ rw (view-drop ws m s t i h, ← q, z) refl
+  pub next-upto : i + k ≤ m
+  next-upto = omega (arith, place-within (take (m - i) (drop i ws)) a, length-sec i (m - i) ws (omega arith), q)
 
-pub found-end : (ws : List ℕ) (m s t i a b : ℕ) → m ≤ i → floorIn ws (view ws m s t) a b ≡ floorIn ws (drop i (view ws m s t)) a b → false ≡ floorIn ws (view ws m s t) a b
-unfolding floorIn
-found-end ws m s t i a b h e =
-    let w : length (view ws m s t) ≤ i = rw (view-length ws m s t) h in
-    sym (e ∙ rw (drop-of-length-le (view ws m s t) w) refl)
+-- record i and those after it
+pub record From (ws : List ℕ) (m s t a b i : ℕ) : Type 0 where
+  pub all : floorIn ws (view ws m s t) a b ≡ floorIn ws (drop i (view ws m s t)) a b
 
-module _ (ws : List ℕ) (m s t i a b : ℕ) where
-  pub other-id : (getD ws i 0 ≡ a → ⊥) → false ≡ (eqb (recAt ws m s t i .id) a and any (floorIs ws b) (recAt ws m s t i .floors))
-  unfolding recAt _and_
-  other-id n = rw (ne-eqb (getD ws i 0) a n)
+module _ (ws : List ℕ) (m s t a b : ℕ) where
+  pub from-first : From ws m s t a b 0
+  from-first = record { all = refl }
 
-  pub same-id : (l : List ℕ) (r : Bool) → getD ws i 0 ≡ a → l ≡ listAt ws m t i → r ≡ any (floorIs ws b) l → r ≡ (eqb (recAt ws m s t i .id) a and any (floorIs ws b) (recAt ws m s t i .floors))
-  unfolding recAt _and_
-  same-id l r n e q = rw (eq-eqb (getD ws i 0) a n, ← e) q
+  other-record : (i : ℕ) → i < m → (getD ws i 0 ≡ a → ⊥) → From ws m s t a b i → From ws m s t a b (i + 1)
+  unfolding floorIn recAt _and_ _or_
+  other-record i h n e = record { all = e .all ∙ rw (view-drop ws m s t i h, ne-eqb (getD ws i 0) a n) refl }
+
+  -- records of other ids have nothing to say
+  others : (k i : ℕ) → i + k ≤ m → ((j : ℕ) → j < k → getD ws (i + j) 0 ≡ a → ⊥) → From ws m s t a b i → From ws m s t a b (i + k)
+  others zero i h n e = let z : i + 0 ≡ i = omega arith in rw z e
+  others (suc k) i h n e =
+      let z : i + suc k ≡ (i + 1) + k = omega arith in
+      let y : i + 0 ≡ i = omega arith in
+      let f = other-record i (omega arith) (rw y at (n 0 (omega arith))) e in
+      rw z (others k (i + 1) (omega arith) (λ j g d. n (suc j) (omega arith) (let x : i + suc j ≡ (i + 1) + j = omega arith in rw x d)) f)
+
+  module _ (i r : ℕ) (h : i ≤ m) (w : m ≤ length ws) (q : r ≡ i + place (part i m ws) a) where
+    -- the entry j of what is searched
+    entry : (j : ℕ) → j < m - i → getD (part i m ws) j 0 ≡ getD ws (i + j) 0
+    unfolding part
+    entry j g = getD-sec i (m - i) j ws g
+
+    size : length (part i m ws) ≡ m - i
+    unfolding part
+    size = length-sec i (m - i) ws (omega arith)
+
+    pub next-from : From ws m s t a b i → From ws m s t a b r
+    next-from e =
+        let p = place-within (part i m ws) a in
+        rw q (others (place (part i m ws) a) i (omega (arith, size)) (λ j g d. place-before (part i m ws) a j g (entry j (omega (arith, size)) ∙ d)) e)
+
+    pub next-has : r < m → getD ws r 0 ≡ a
+    next-has g = rw q (sym (entry (place (part i m ws) a) (omega arith)) ∙ place-holds (part i m ws) a (omega (arith, size)))
+
+  module _ (i : ℕ) (h : i < m) (n : getD ws i 0 ≡ a) (e : From ws m s t a b i) (l : List ℕ) (d : l ≡ listAt ws m t i) (r : Bool) (q : r ≡ any (floorIs ws b) l) where
+    pub found-here : r ≡ true → true ≡ floorIn ws (view ws m s t) a b
+    unfolding floorIn recAt _and_ _or_
+    found-here z = sym (e .all ∙ rw (view-drop ws m s t i h, eq-eqb (getD ws i 0) a n, ← d, ← q, z) refl)
+
+    pub found-next : r ≡ false → From ws m s t a b (i + 1)
+    unfolding floorIn recAt _and_ _or_
+    found-next z = record { all = e .all ∙ rw (view-drop ws m s t i h, eq-eqb (getD ws i 0) a n, ← d, ← q, z) refl }
+
+  pub found-end : (i : ℕ) → m ≤ i → From ws m s t a b i → false ≡ floorIn ws (view ws m s t) a b
+  unfolding floorIn
+  found-end i h e =
+      let w : length (view ws m s t) ≤ i = rw (view-length ws m s t) h in
+      sym (e .all ∙ rw (drop-of-length-le (view ws m s t) w) refl)
 
 pub floors-below : (ws : List ℕ) (m s t i : ℕ) (l : List ℕ) → Held m s t ws → i < m → l ≡ listAt ws m t i → Below (length ws) l
 floors-below ws m s t i l h g e =

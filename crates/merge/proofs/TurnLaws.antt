@@ -24,12 +24,6 @@ use Rattle.pool.proofs.MergeLaws.{oneF, pickF, firstPick, pick-rep, round-alike
 
 -- ---- whether it may be merged
 
-pub border-yes : (l : List ℕ) (k : ℕ) → k ≡ place l 0 → k < length l → true ≡ any (eqb 0) l
-border-yes l k e h = sym (place-some l 0 (λ q. omega arith))
-
-pub border-no : (l : List ℕ) (k : ℕ) → k ≡ place l 0 → k ≤ length l → length l ≤ k → false ≡ any (eqb 0) l
-border-no l k e g h = sym (place-all l 0 (omega arith))
-
 may-by : (a b c d : Bool) → (a ≡ true) ⊎ ((b ≡ true) ⊎ ((c ≡ true) ⊎ (d ≡ true))) → false ≡ not (a or b or c or d)
 unfolding _or_
 may-by true b c d e = refl
@@ -140,8 +134,8 @@ module _ (m p h o i n : ℕ) (ws : List ℕ) (P : Pool m p h o ws) (hi : i < m) 
 
       module _ (d′ : j ≡ q′ → ⊥) where
         -- the place is within the list
-        pub try-listed : (i ≡ n → ⊥) → (getD ws i 0 ≡ 0 → ⊥) → (getD ws n 0 ≡ 0 → ⊥) → Listed m n k i j ws
-        try-listed ne a b = record {
+        pub try-listed : (i ≡ n → ⊥) → (getD ws i 0 ≡ 0 → ⊥) → (getD ws n 0 ≡ 0 → ⊥) → (getD ws i 0 ≡ n → ⊥) → Listed m n k i j ws
+        try-listed ne a b x = record {
           pair = record {
             first = hn;
             second = hi;
@@ -151,6 +145,7 @@ module _ (m p h o i n : ℕ) (ws : List ℕ) (P : Pool m p h o ws) (hi : i < m) 
           };
           live = a;
           live′ = b;
+          other = x;
           first = e;
           first′ = e′;
         }
@@ -353,8 +348,14 @@ module _ (area m : ℕ) (ws₀ ws ws′ : List ℕ) (c : ℕ) (e : record { recs
       ∙ sym (T .same ∙ merged-last area (T .fuel) (recsOf ws m) w)
 
 -- before the first merge
-pub laid-start : (m p h : ℕ) (ws : List ℕ) → Laid m p h (h + p) ws
-laid-start m p h ws = record { from = omega arith; upto = omega arith; below = λ w. absurd (omega arith); apart = λ w. absurd (omega arith) }
+pub laid-start : (m p h o : ℕ) (ws : List ℕ) → Laid m p h o (h + p) ws
+laid-start m p h o ws = record {
+  from = omega arith;
+  upto = omega arith;
+  below = λ w. absurd (omega arith);
+  apart = λ w. absurd (omega arith);
+  owned = λ w. absurd (omega arith);
+}
 
 pub pool-calm : (m p h o : ℕ) (ws : List ℕ) → Pool m p h o ws → Calm m ws
 pool-calm m p h o ws P = record { held = P .held; blank = P .blank }

@@ -2,8 +2,9 @@
 use crate::pick::pick;
 use pool::len_of;
 use pool::merge_regions;
-use pool::place;
+use table::holds;
 use table::list_of;
+use table::place;
 ghost use mathlib.Core.Path.{_≡_};
 ghost use Prim.Native.Nat.{suc, _+_, _*_, _≤_, _<_};
 ghost use lib.ListN.{getD};
@@ -28,10 +29,7 @@ pub struct Round {
 fn is_region_connected_to_border(l: &[u16]) -> bool
     ensures { λ r. ⌜ r ≡ any (eqb 0) (now (l .entry)) ⌝ }
 {
-    if place(l, 0) < l.len() {
-        return true;
-    }
-    false
+    holds(l, 0)
 }
 
 // May record i be merged at all?
@@ -75,12 +73,13 @@ fn try_merge(ws: &mut [u16], m: usize, p: usize, i: usize, n: usize, g: Round) -
     requires { ⌜ (i ≡ n → ⊥) ⌝ }
     requires { ⌜ (getD (now ws) i 0 ≡ 0 → ⊥) ⌝ }
     requires { ⌜ (getD (now ws) n 0 ≡ 0 → ⊥) ⌝ }
+    requires { ⌜ (getD (now ws) i 0 ≡ n → ⊥) ⌝ }
     requires { ⌜ g .merges < 65536 ⌝ }
-    requires { ⌜ Laid m p (g .now) (g .top) (now ws) ⌝ }
+    requires { ⌜ Laid m p (g .now) (g .other) (g .top) (now ws) ⌝ }
     ensures { λ r. ⌜ record { recs = recsOf (now (ws .exit)) m; merges = r .merges } ≡ tryMerge i n (record { recs = recsOf (now (ws .entry)) m; merges = g .merges }) ⌝ }
     ensures { λ r. ⌜ Pool m p (r .now) (r .other) (now (ws .exit)) ⌝ }
     ensures { λ r. ⌜ r .merges ≤ g .merges + 1 ⌝ }
-    ensures { λ r. ⌜ Laid m p (r .now) (r .top) (now (ws .exit)) ⌝ }
+    ensures { λ r. ⌜ Laid m p (r .now) (r .other) (r .top) (now (ws .exit)) ⌝ }
 {
     let a = ws[i];
     let b = ws[n];
@@ -110,16 +109,16 @@ fn merge_one(ws: &mut [u16], m: usize, p: usize, area: u16, i: usize, g: Round) 
     requires { ⌜ Reps (recsOf (now ws) m) ⌝ }
     requires { ⌜ i < m ⌝ }
     requires { ⌜ g .merges < 65536 ⌝ }
-    requires { ⌜ Laid m p (g .now) (g .top) (now ws) ⌝ }
+    requires { ⌜ Laid m p (g .now) (g .other) (g .top) (now ws) ⌝ }
     ensures { λ r. ⌜ record { recs = recsOf (now (ws .exit)) m; merges = r .merges } ≡ mergeOneF area i (record { recs = recsOf (now (ws .entry)) m; merges = g .merges }) ⌝ }
     ensures { λ r. ⌜ Pool m p (r .now) (r .other) (now (ws .exit)) ⌝ }
     ensures { λ r. ⌜ r .merges ≤ g .merges + 1 ⌝ }
-    ensures { λ r. ⌜ Laid m p (r .now) (r .top) (now (ws .exit)) ⌝ }
+    ensures { λ r. ⌜ Laid m p (r .now) (r .other) (r .top) (now (ws .exit)) ⌝ }
 {
     if may_merge(ws, m, area, i) {} else {
         return g;
     }
-    let best = pick(ws, m, 7 * m, 11 * m, i);
+    let best = pick(ws, m, i);
     let id = best.id;
     if id == ws[i] {
         return g;
@@ -139,10 +138,10 @@ fn merge_round(
 ) -> Round
     requires { ⌜ Pool m p h o (now ws) ⌝ }
     requires { ⌜ Joined (recsOf (now ws) m) ⌝ }
-    requires { ⌜ Laid m p h top (now ws) ⌝ }
+    requires { ⌜ Laid m p h o top (now ws) ⌝ }
     ensures { λ r. ⌜ record { recs = recsOf (now (ws .exit)) m; merges = r .merges } ≡ upto m (mergeOneF area) (record { recs = recsOf (now (ws .entry)) m; merges = 0 }) ⌝ }
     ensures { λ r. ⌜ Pool m p (r .now) (r .other) (now (ws .exit)) ⌝ }
-    ensures { λ r. ⌜ Laid m p (r .now) (r .top) (now (ws .exit)) ⌝ }
+    ensures { λ r. ⌜ Laid m p (r .now) (r .other) (r .top) (now (ws .exit)) ⌝ }
 {
     let mut g = Round {
         now: h,

@@ -2,12 +2,13 @@
 use pool::many;
 use table::at;
 use table::list_of;
+use table::place;
 ghost use mathlib.Core.Path.{_≡_};
-ghost use Prim.Native.Nat.{_<_};
+ghost use Prim.Native.Nat.{_+_, _*_, _≤_, _<_};
 ghost use lib.ListN.{length};
-ghost use lib.Dec.{eqb};
-ghost use Rattle.rules.specs.Base.{_and_, any};
-ghost use Rattle.table.specs.View.{recAt, view, Below, Held};
+ghost use Rattle.rules.specs.Base.{any};
+ghost use Rattle.rules.specs.Merge.{place};
+ghost use Rattle.table.specs.View.{part, recAt, view, Below, Held};
 ghost use Rattle.pool.specs.Fixed.{floorIs, floorIn, suitsF};
 
 // Does the list hold a record whose id is b?
@@ -25,47 +26,45 @@ fn any_floor(ws: &[u16], l: &[u16], b: u16) -> bool
     false
 }
 
-// Record i, if its id is a: has it a floor of id b?
-fn floor_at(ws: &[u16], m: usize, s: usize, t: usize, i: usize, a: u16, b: u16) -> bool
-    requires { ⌜ Held m s t (now ws) ⌝ }
-    requires { ⌜ i < m ⌝ }
-    ensures { λ r. ⌜ r ≡ (eqb (recAt (now (ws .entry)) m s t i .id) a and any (floorIs (now (ws .entry)) b) (recAt (now (ws .entry)) m s t i .floors)) ⌝ }
+// The first record of id a, from i on, or m.
+fn next_record(ws: &[u16], m: usize, a: u16, i: usize) -> usize
+    requires { ⌜ m ≤ length (now ws) ⌝ }
+    requires { ⌜ i ≤ m ⌝ }
+    ensures { λ r. ⌜ r ≡ i + place (part i m (now (ws .entry))) a ⌝ }
+    ensures { λ r. ⌜ r ≤ m ⌝ }
 {
-    if ws[i] != a {
-        return false;
-    }
-    any_floor(ws, list_of(ws, m, t, i), b)
+    i + place(&ws[i..m], a)
 }
 
 // Has some record of id a a floor of id b?
-fn floor_in(ws: &[u16], m: usize, s: usize, t: usize, a: u16, b: u16) -> bool
-    requires { ⌜ Held m s t (now ws) ⌝ }
-    ensures { λ r. ⌜ r ≡ floorIn (now (ws .entry)) (view (now (ws .entry)) m s t) a b ⌝ }
+fn floor_in(ws: &[u16], m: usize, a: u16, b: u16) -> bool
+    requires { ⌜ Held m (7 * m) (11 * m) (now ws) ⌝ }
+    ensures { λ r. ⌜ r ≡ floorIn (now (ws .entry)) (view (now (ws .entry)) m (7 * m) (11 * m)) a b ⌝ }
 {
-    let mut i = 0;
+    let mut i = next_record(ws, m, a, 0);
     while i < m {
-        if floor_at(ws, m, s, t, i, a, b) {
+        if any_floor(ws, list_of(ws, m, 11 * m, i), b) {
             return true;
         }
-        i += 1;
+        i = next_record(ws, m, a, i + 1);
     }
     false
 }
 
 // The same area, listed at most once, and not a floor.
-pub(crate) fn can_merge_with(ws: &[u16], m: usize, s: usize, t: usize, i: usize, j: usize) -> bool
-    requires { ⌜ Held m s t (now ws) ⌝ }
+pub(crate) fn can_merge_with(ws: &[u16], m: usize, i: usize, j: usize) -> bool
+    requires { ⌜ Held m (7 * m) (11 * m) (now ws) ⌝ }
     requires { ⌜ i < m ⌝ }
     requires { ⌜ j < m ⌝ }
-    ensures { λ r. ⌜ r ≡ suitsF (view (now (ws .entry)) m s t) (recAt (now (ws .entry)) m s t i) (recAt (now (ws .entry)) m s t j) ⌝ }
+    ensures { λ r. ⌜ r ≡ suitsF (view (now (ws .entry)) m (7 * m) (11 * m)) (recAt (now (ws .entry)) m (7 * m) (11 * m) i) (recAt (now (ws .entry)) m (7 * m) (11 * m) j) ⌝ }
 {
     if ws[2 * m + i] != ws[2 * m + j] {
         return false;
     }
-    if 1 < many(list_of(ws, m, s, i), ws[j]) {
+    if 1 < many(list_of(ws, m, 7 * m, i), ws[j]) {
         return false;
     }
-    if floor_in(ws, m, s, t, ws[i], ws[j]) {
+    if floor_in(ws, m, ws[i], ws[j]) {
         return false;
     }
     true

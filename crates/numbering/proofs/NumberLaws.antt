@@ -17,10 +17,12 @@ use Rattle.rules.specs.Merge.{place}
 use Rattle.rules.specs.Numbering.{numberOf}
 use Rattle.space.specs.Space.{Frame}
 use Rattle.space.proofs.Laws.{getD-before, frame-set, cases}
-use Rattle.pool.proofs.HasLaws.{or-no, or-yes, or-first, has-end, has-cons, has-head, place-other, place-first}
+use Rattle.table.proofs.SearchLaws.{has-cons, has-head, place-other, place-first}
+use Rattle.pool.proofs.HasLaws.{or-first, has-end}
 use Rattle.pool.specs.Lists.{mapTo}
 use Rattle.pool.proofs.ListLaws.{mapTo-at}
 use Rattle.numbering.specs.Number.{stepLive, liveIds, numIn, renumber, nonzero, Numbers, Column, Blank, Marked, Spans}
+use Rattle.laws.proofs.Basics.{or-yes, or-no}
 
 -- ---- an id's number
 

@@ -1,11 +1,12 @@
 -- Floors that stay as they were tell, through the present ids, what the rule's renamed floors tell. Assumes nothing.
-use Prim.Native.Nat.{ℕ, zero, suc}
+use Prim.Native.Nat.{ℕ, zero, suc, _<_}
+use native.Mathlib.Omega.{arith}
 use native.Mathlib.Decide.{ℕ-discrete}
 use mathlib.Core.Path.{_≡_, refl, sym, ap, _∙_}
 use mathlib.Core.Logic.{⊎-elim, _⊎_, inl, inr}
 use mathlib.Core.Bool.{Bool, true, false, true≢false, false≢true}
 use mathlib.Core.List.{List, [], _∷_, _++_}
-use lib.ListN.{getD, List·getD-map}
+use lib.ListN.{length, getD, List·getD-map}
 use lib.Dec.{eqb}
 use borrow.Author.Tests.{eq-eqb, ne-eqb, eqb-true}
 use Rattle.rules.specs.Base.{_and_, if_then_else_, any}
@@ -34,6 +35,11 @@ has-first x l v e = or-left (eqb v x) (any (eqb v) l) (eq-eqb v x e)
 pub has-later : (x : ℕ) (l : List ℕ) (v : ℕ) → has l v ≡ true → has (x ∷ l) v ≡ true
 unfolding any
 has-later x l v e = or-right (eqb v x) (any (eqb v) l) e
+
+pub has-at : (l : List ℕ) (x : ℕ) → x < length l → has l (getD l x 0) ≡ true
+has-at [] x h = absurd (omega arith)
+has-at (y ∷ l) zero h = has-first y l y refl
+has-at (y ∷ l) (suc x) h = has-later y l (getD l x 0) (has-at l x (omega arith))
 
 has-swap : (o n : ℕ) (l : List ℕ) (v : ℕ) → has l v ≡ true → has (swapped o n l) (swapOne o n v) ≡ true
 unfolding any swapOne

@@ -5,6 +5,7 @@ pub mod CarryLaws
 pub mod SumLaws
 pub mod AbsorbLaws
 pub mod RenameLaws
+pub mod OwnLaws
 pub mod RelistLaws
 pub mod RegionLaws
 pub mod FloorLaws

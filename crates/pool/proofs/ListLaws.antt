@@ -8,10 +8,10 @@ use mathlib.Core.List.{List, [], _∷_, _++_, map, append-assoc, append-nil}
 use lib.ListN.{drop-of-length-le, length, getD, set, take, drop}
 use lib.Seq.{getD-take, take-take, drop-cons, take-suc-set, drop-set-lt, length-take-le}
 use lib.Dec.{eqb}
-use borrow.Author.Tests.{eq-eqb, ne-eqb, le-ltb}
+use borrow.Author.Tests.{le-ltb}
 use Rattle.rules.specs.Base.{_and_, if_then_else_, many}
 use Rattle.rules.specs.Contour.{trim}
-use Rattle.rules.specs.Merge.{tidy, place}
+use Rattle.rules.specs.Merge.{tidy}
 use Rattle.laws.specs.Squeeze.{squeeze}
 use Rattle.laws.proofs.Tidy.{tidy-is, trim-same, trim-other}
 use Rattle.pool.specs.Lists.{mapTo, again}
@@ -70,27 +70,6 @@ module _ (l : List ℕ) (k : ℕ) (h : k ≤ length l) (g : 1 < k) where
 
 pub tidy-joins : (l l′ : List ℕ) (k r : ℕ) → take k l′ ≡ squeeze l → take r l′ ≡ trim (take k l′) → take r l′ ≡ tidy l
 tidy-joins l l′ k r e f = f ∙ ap trim e ∙ sym (tidy-is l)
-
--- ---- the first entry r
-
-module _ (l : List ℕ) (r i : ℕ) (e : place l r ≡ i + place (drop i l) r) where
-  pub place-here : i < length l → getD l i 0 ≡ r → i ≡ place l r
-  unfolding place if_then_else_
-  place-here h q =
-      let z : place (drop i l) r ≡ 0 = rw (drop-cons l i 0 h, eq-eqb _ _ q) refl in
-      omega arith
-
-  pub place-next : i < length l → (getD l i 0 ≡ r → ⊥) → place l r ≡ (i + 1) + place (drop (i + 1) l) r
-  unfolding place if_then_else_
-  place-next h q =
-      let z : place (drop i l) r ≡ suc (place (drop (i + 1) l) r) = rw (drop-cons l i 0 h, ne-eqb (getD l i 0) r q, add-one i) refl in
-      omega arith
-
-  pub place-end : length l ≤ i → i ≡ place l r
-  unfolding place
-  place-end h =
-      let z : place (drop i l) r ≡ 0 = rw (drop-of-length-le l h) refl in
-      omega arith
 
 -- ---- a list under f, entry by entry
 

@@ -15,11 +15,11 @@ use Rattle.rules.specs.Merge.{around, tidy, place}
 use Rattle.laws.proofs.Basics.{drop-take}
 use Rattle.space.specs.Space.{Frame}
 use Rattle.space.proofs.Laws.{drop-mid, getD-before, getD-after, frame-then, frame-set, frame-wider, frame-put, length-sec, getD-sec}
-use Rattle.pool.proofs.HasLaws.{has-cons, has-head, place-other, place-first}
 use Rattle.pool.specs.Lists.{swapOne}
 use Rattle.pool.specs.Part.{Clear, Copied, renamedList}
 use Rattle.table.specs.View.{part}
 use Rattle.table.proofs.ViewLaws.{part-before, part-after}
+use Rattle.table.proofs.SearchLaws.{has-cons, has-head, place-other, place-first}
 
 -- ---- copies
 
@@ -141,14 +141,14 @@ place-some (x ∷ l) r e =
       | no q ↦ has-cons x l r q ∙ place-some l r (λ z. e (place-other x l r q ∙ ap suc z))
     ]
 
-part-put : (a k m : ℕ) (ws ys : List ℕ) → a ≤ length ws → m ≤ length ys → take m (drop a (putMid a k ws ys)) ≡ take m ys
+pub part-put : (a k m : ℕ) (ws ys : List ℕ) → a ≤ length ws → m ≤ length ys → take m (drop a (putMid a k ws ys)) ≡ take m ys
 part-put a k m ws ys h g = ap (take m) (drop-mid a k ws ys h) ∙ take-append-le m ys (drop k (drop a ws)) g
 
-renamed-none : (old new : ℕ) (l : List ℕ) → has l old ≡ false → renamedList old new l ≡ l
+pub renamed-none : (old new : ℕ) (l : List ℕ) → has l old ≡ false → renamedList old new l ≡ l
 unfolding renamedList if_then_else_
 renamed-none old new l h = rw h
 
-renamed-some : (old new : ℕ) (l : List ℕ) → has l old ≡ true → renamedList old new l ≡ tidy (map (swapOne old new) l)
+pub renamed-some : (old new : ℕ) (l : List ℕ) → has l old ≡ true → renamedList old new l ≡ tidy (map (swapOne old new) l)
 unfolding renamedList if_then_else_
 renamed-some old new l h = rw h
 

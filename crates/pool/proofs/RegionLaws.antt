@@ -1,10 +1,10 @@
 -- One merge is the rule's: the lists as `relist` leaves them, the counts added, the ids renamed; nothing else of the records changes.
 -- What is listed stays below m: an entry of a new list is one of the old ones, or the absorber.
-use Prim.Native.Nat.{ℕ, zero, suc, _+_, _-_, _*_, _≤_, _<_}
+use Prim.Native.Nat.{ℕ, suc, _+_, _-_, _*_, _≤_, _<_}
 use native.Mathlib.Omega.{arith}
 use native.Mathlib.Decide.{ℕ-discrete}
 use mathlib.Core.Path.{_≡_, refl, sym, ap, _∙_}
-use mathlib.Core.Logic.{⊎-elim, inl, inr}
+use mathlib.Core.Logic.{⊎-elim, _⊎_, inl, inr}
 use mathlib.Core.Bool.{true, not, false≢true}
 use mathlib.Core.List.{List, [], _∷_, _++_, map}
 use lib.ListN.{length, getD, set, length-set, length-map, List·getD-map}
@@ -26,16 +26,12 @@ use Rattle.pool.specs.Lists.{swapOne}
 use Rattle.pool.specs.Part.{renamedList}
 use Rattle.pool.specs.Fixed.{renamedF, absorbedF, mergedPair}
 use Rattle.pool.specs.Pool.{lenAt, countAt, newList, joinedList, Halves, Pool, Laid, Listed, Outside, Turned, Relisted}
-use Rattle.pool.proofs.FloorLaws.{swap-has, swap-old, swap-other, has-first, has-later}
+use Rattle.pool.proofs.FloorLaws.{swap-has, swap-old, swap-other, has-at}
 use Rattle.pool.proofs.MergeLaws.{has-some, tidy-has, append-has, around-has, renF-id, renF-count, renF-area, renF-visited, renF-overlap, renF-floors, renF-newList, renF-fresh, at-i, at-n, at-else}
+use Rattle.pool.proofs.OwnLaws.{halves-same, halves-turn}
 use Rattle.pool.proofs.SumLaws.{sum-split, sum-two}
 
 -- ---- what is listed
-
-has-at : (l : List ℕ) (x : ℕ) → x < length l → has l (getD l x 0) ≡ true
-has-at [] x h = absurd (omega arith)
-has-at (y ∷ l) zero h = has-first y l y refl
-has-at (y ∷ l) (suc x) h = has-later y l (getD l x 0) (has-at l x (omega arith))
 
 under-has : (m : ℕ) (l : List ℕ) → Under m l → (v : ℕ) → has l v ≡ true → v < 32768 → v < m
 unfolding any
@@ -98,21 +94,14 @@ pub record After (m n i old : ℕ) (ws ws′ : List ℕ) : Type 0 where
 -- the halves, in either order
 module _ (m p h o b c : ℕ) (ws : List ℕ) (P : Pool m p h o ws) (W : Turned h o b c) where
   turned-halves : Halves m p b c ws
-  turned-halves = ⊎-elim (λ (w : (b ≡ h) × (c ≡ o)). rw (w .0, w .1) (P .halves)) (λ (w : (b ≡ o) × (c ≡ h)). rw (w .0, w .1) (record {
-    past = P .halves .past′;
-    past′ = P .halves .past;
-    apart = ⊎-elim (λ (v : h + p ≤ o). inr v) (λ (v : o + p ≤ h). inl v) (P .halves .apart);
-    into = P .halves .into′;
-    into′ = P .halves .into;
-    fits = P .halves .fits′;
-    fits′ = P .halves .fits;
-  })) W
+  turned-halves =
+      ⊎-elim (λ (w : (b ≡ h) × (c ≡ o)). rw (w .0, w .1) (P .halves)) (λ (w : (b ≡ o) × (c ≡ h)). rw (w .0, w .1) (halves-turn m p h o ws (P .halves))) W
 
   turned-floors : (r : ℕ) → r < m → (b + p ≤ startOf ws m (11 * m) r) × (c + p ≤ startOf ws m (11 * m) r)
   turned-floors r g =
       ⊎-elim (λ (w : (b ≡ h) × (c ≡ o)). rw (w .0, w .1) (P .floors r g)) (λ (w : (b ≡ o) × (c ≡ h)). rw (w .0, w .1) (P .floors r g .1, P .floors r g .0)) W
 
-module _ (m p h o b c n k i j : ℕ) (ws ws₁ ws₃ : List ℕ) (P : Pool m p h o ws) (W : Turned h o b c) (L : Listed m n k i j ws) (R : Relisted m p n k i j (getD ws i 0) n b ws ws₁)
+module _ (m p h o b c n k i j : ℕ) (ws ws₁ ws₃ : List ℕ) (P : Pool m p h o ws) (W : Turned h o b c) (L : Listed m n k i j ws) (R : Relisted m p n k i j (getD ws i 0) n b c ws ws₁)
     (A : After m n i (getD ws i 0) ws₁ ws₃) (l₁ : length ws₁ ≡ length ws) (l₃ : length ws₃ ≡ length ws₁) where
   abbrev old : ℕ
   old = getD ws i 0
@@ -129,14 +118,14 @@ module _ (m p h o b c n k i j : ℕ) (ws ws₁ ws₃ : List ℕ) (P : Pool m p h
   H : Halves m p b c ws
   H = turned-halves m p h o b c ws P W
 
-  floor-past : (x : ℕ) → x < m → b + p ≤ startOf ws m (11 * m) x
-  floor-past x g = turned-floors m p h o b c ws P W x g .0
+  floor-past : (x : ℕ) → x < m → (b + p ≤ startOf ws m (11 * m) x) × (c + p ≤ startOf ws m (11 * m) x)
+  floor-past x g = turned-floors m p h o b c ws P W x g
 
-  kept : (y : ℕ) → 2 * m ≤ y → Outside m b (b + p) y → getD ws₃ y 0 ≡ getD ws y 0
-  kept y g w = getD-after y (A .frame) g ∙ R .kept y w
+  kept : (y : ℕ) → 2 * m ≤ y → Outside m b (b + p) y → (y < c) ⊎ (c + p ≤ y) → getD ws₃ y 0 ≡ getD ws y 0
+  kept y g w v = getD-after y (A .frame) g ∙ R .kept y w v
 
   low : (y : ℕ) → y < 7 * m → getD ws₁ y 0 ≡ getD ws y 0
-  low y g = R .kept y (inl g, inl (omega (arith, H .past)))
+  low y g = R .kept y (inl g, inl (omega (arith, H .past))) (inl (omega (arith, H .past′)))
 
   mid : (y : ℕ) → 2 * m ≤ y → y < 7 * m → getD ws₃ y 0 ≡ getD ws y 0
   mid y a b = getD-after y (A .frame) a ∙ low y b
@@ -148,7 +137,7 @@ module _ (m p h o b c n k i j : ℕ) (ws ws₁ ws₃ : List ℕ) (P : Pool m p h
   lists-at x g = list-past m (7 * m) (R .parts) (A .frame) (omega arith) l₃ x g
 
   high : (y : ℕ) → 11 * m ≤ y → y < 15 * m → getD ws₃ y 0 ≡ getD ws y 0
-  high y a b = kept y (omega arith) (inr a, inl (omega (arith, H .past)))
+  high y a b = kept y (omega arith) (inr a, inl (omega (arith, H .past))) (inl (omega (arith, H .past′)))
 
   start-f : (x : ℕ) → x < m → startOf ws₃ m (11 * m) x ≡ startOf ws m (11 * m) x
   start-f x g = wide-same ws ws₃ m (11 * m + x) (high (11 * m + x) (omega arith) (omega arith)) (high (11 * m + x + m) (omega arith) (omega arith))
@@ -159,7 +148,7 @@ module _ (m p h o b c n k i j : ℕ) (ws ws₁ ws₃ : List ℕ) (P : Pool m p h
   floors-at : (x : ℕ) → x < m → listAt ws₃ m (11 * m) x ≡ listAt ws m (11 * m) x
   floors-at x g =
       list-same ws ws₃ m (11 * m) x (start-f x g) (stop-f x g) (P .held .floors .order x g) (P .held .floors .within x g) (l₃ ∙ l₁) (λ y a b.
-      kept y (omega (arith, floor-past x g, H .past)) (inr (omega (arith, floor-past x g, H .past)), inr (omega (arith, floor-past x g))))
+      kept y (omega (arith, floor-past x g .0, H .past)) (inr (omega (arith, floor-past x g .0, H .past)), inr (omega (arith, floor-past x g .0))) (inr (omega (arith, floor-past x g .1))))
 
   -- ---- the records
 
@@ -276,18 +265,10 @@ module _ (m p h o b c n k i j : ℕ) (ws ws₁ ws₃ : List ℕ) (P : Pool m p h
   unfolding countAt
   merged-pool = record {
     held = held₃;
-    halves = record {
-      past = H .past;
-      past′ = H .past′;
-      apart = H .apart;
-      into = rw (l₃, l₁) (H .into);
-      into′ = rw (l₃, l₁) (H .into′);
-      fits = H .fits;
-      fits′ = H .fits′;
-    };
+    halves = halves-same m p b c ws ws₃ (l₃ ∙ l₁) H;
     from = λ x g. rw (start-3 x g) (R .from x g);
     upto = λ x g. rw (stop-3 x g) (R .upto x g);
-    floors = λ x g. rw (start-f x g) (turned-floors m p h o b c ws P W x g);
+    floors = λ x g. rw (start-f x g) (floor-past x g);
     room = rw (sum-same (lenAt ws₃ m) (lenAt ws₁ m) m len-3) (R .room);
     spans = omega (
       arith,
@@ -299,12 +280,15 @@ module _ (m p h o b c n k i j : ℕ) (ws ws₁ ws₃ : List ℕ) (P : Pool m p h
     blank = λ x g. mid (5 * m + x) (omega arith) (omega arith) ∙ P .blank x g;
   }
 
-  merged-laid : (top : ℕ) → Laid m p b top ws₁ → Laid m p b top ws₃
+  merged-laid : (top : ℕ) → Laid m p b c top ws₁ → Laid m p b c top ws₃
   merged-laid top D = record {
     from = D .from;
     upto = D .upto;
     below = λ w x g. rw (stop-3 x g) (D .below w x g);
     apart = λ w. record { apart = λ x y g q d. rw (start-3 x g, stop-3 x g, start-3 y q, stop-3 y q) (D .apart w .apart x y g q d) };
+    owned = λ w. record {
+      own = λ x q g u v k. getD-after (c + (q - b)) (A .frame) (omega (arith, H .past′)) ∙ D .owned w .own x q g (rw (start-3 x g) at u) (rw (stop-3 x g) at v) k;
+    };
   }
 
 -- ---- the counts and the ids, as the code writes them
@@ -351,19 +335,19 @@ module _ (m n i old : ℕ) (ws₁ ws₂ ys : List ℕ) (hn : n < m) (hi : i < m)
 
 -- two counts are no more than all
 module _ (m p h o n k i j : ℕ) (ws ws₁ : List ℕ) (P : Pool m p h o ws) (L : Listed m n k i j ws) where
-  pub spans-fit : (b c old new : ℕ) → Turned h o b c → Relisted m p n k i j old new b ws ws₁ → getD ws₁ (m + n) 0 + getD ws₁ (m + i) 0 < 65536
+  pub spans-fit : (b c old new : ℕ) → Turned h o b c → Relisted m p n k i j old new b c ws ws₁ → getD ws₁ (m + n) 0 + getD ws₁ (m + i) 0 < 65536
   unfolding countAt
   spans-fit b c old new W R =
       let H = turned-halves m p h o b c ws P W in
-      let a : getD ws₁ (m + n) 0 ≡ getD ws (m + n) 0 = R .kept (m + n) (inl (omega (arith, L .pair .first)), inl (omega (arith, L .pair .first, H .past))) in
-      let d : getD ws₁ (m + i) 0 ≡ getD ws (m + i) 0 = R .kept (m + i) (inl (omega (arith, L .pair .second)), inl (omega (arith, L .pair .second, H .past))) in
+      let a : getD ws₁ (m + n) 0 ≡ getD ws (m + n) 0 = R .kept (m + n) (inl (omega (arith, L .pair .first)), inl (omega (arith, L .pair .first, H .past))) (inl (omega (arith, L .pair .first, H .past′))) in
+      let d : getD ws₁ (m + i) 0 ≡ getD ws (m + i) 0 = R .kept (m + i) (inl (omega (arith, L .pair .second)), inl (omega (arith, L .pair .second, H .past))) (inl (omega (arith, L .pair .second, H .past′))) in
       omega (arith, P .spans, sum-split (countAt ws m) i n m (L .pair .second) (L .pair .first) (L .pair .apart))
 
   pub columns-in : length ws₁ ≡ length ws → 2 * m ≤ length ws₁
   columns-in l = omega (arith, P .held .lists .room)
 
 -- as the code has it
-module _ (m p h o b c n k i j : ℕ) (ws ws₁ ws₂ ys : List ℕ) (P : Pool m p h o ws) (L : Listed m n k i j ws) (W : Turned h o b c) (R : Relisted m p n k i j (getD ws i 0) n b ws ws₁)
+module _ (m p h o b c n k i j : ℕ) (ws ws₁ ws₂ ys : List ℕ) (P : Pool m p h o ws) (L : Listed m n k i j ws) (W : Turned h o b c) (R : Relisted m p n k i j (getD ws i 0) n b c ws ws₁)
     (l₁ : length ws₁ ≡ length ws)
     (e : ws₂ ≡ set (set ws₁ (m + n) (getD ws₁ (m + n) 0 + getD ws₁ (m + i) 0)) (m + i) 0) (l₂ : length ws₂ ≡ length ws₁) (y : ys ≡ map (swapOne (getD ws i 0) n) (midOf 0 (m - 0) ws₂))
     (ly : length ys ≡ length (midOf 0 (m - 0) ws₂)) where
@@ -380,7 +364,7 @@ module _ (m p h o b c n k i j : ℕ) (ws ws₁ ws₂ ys : List ℕ) (P : Pool m 
   pub region-pool : Pool m p b c (putMid 0 (m - 0) ws₂ ys)
   region-pool = merged-pool m p h o b c n k i j ws ws₁ (putMid 0 (m - 0) ws₂ ys) P W L R after l₁ l₃
 
-  pub region-laid : (top : ℕ) → Laid m p b top ws₁ → Laid m p b top (putMid 0 (m - 0) ws₂ ys)
+  pub region-laid : (top : ℕ) → Laid m p b c top ws₁ → Laid m p b c top (putMid 0 (m - 0) ws₂ ys)
   region-laid = merged-laid m p h o b c n k i j ws ws₁ (putMid 0 (m - 0) ws₂ ys) P W L R after l₁ l₃
 
 pub recount-in : (ws : List ℕ) (m n i v : ℕ) → 2 * m ≤ length ws → i < m → m + i < length (set ws (m + n) v)

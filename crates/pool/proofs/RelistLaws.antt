@@ -11,10 +11,12 @@ use Rattle.laws.specs.Sums.{sumTo}
 use Rattle.laws.proofs.Sums.{sum-same}
 use Rattle.table.specs.View.{part, startOf, endOf, listAt, Parts}
 use Rattle.table.proofs.ViewLaws.{list-same, part-none}
-use Rattle.space.proofs.Laws.{sec-same}
-use Rattle.pool.specs.Pool.{without, lenAt, restTo, newList, joinedList, Pool, Beside, Apart, Laid, Outside, Pair, Sources, There, Carried, Rows, Swept, Target, Absorbed, Relisted}
+use Rattle.space.specs.Space.{Frame}
+use Rattle.space.proofs.Laws.{sec-same, getD-before, getD-after, frame-wider}
+use Rattle.pool.specs.Pool.{without, lenAt, restTo, newList, joinedList, Halves, Pool, Beside, Apart, Owned, Laid, Outside, Pair, Sources, There, Carried, Rows, Searched, Swept, Marked, Standing, Target, Absorbed, Relisted}
 use Rattle.pool.proofs.AbsorbLaws.{by-three, absorbed-in, absorbed-lists, absorbed-len, absorbed-id}
-use Rattle.pool.proofs.RenameLaws.{swept-less, swept-apart}
+use Rattle.pool.proofs.RenameLaws.{beside-free, swept-less, swept-apart}
+use Rattle.pool.proofs.OwnLaws.{past-start, past-end, halves-same, halves-turn}
 use Rattle.pool.proofs.SumLaws.{sum-split, sum-two, without-two}
 
 pub len-sub : (ws : List ℕ) (m r a e : ℕ) → Parts m (7 * m) ws → r < m → a ≡ startOf ws m (7 * m) r → e ≡ endOf ws m (7 * m) r → a ≤ e
@@ -81,8 +83,8 @@ module _ (m p b n k i j to : ℕ) (ws : List ℕ) (T : Target m n i to (b + p) w
     unfolding lenAt
     len-i₂ = rw (S .bare, S .bare′) (omega arith)
 
-    settled-relisted : Relisted m p n k i j old new b ws ws₂
-    settled-relisted = record {
+    settled-relisted : (c : ℕ) → Relisted m p n k i j old new b c ws ws₂
+    settled-relisted c = record {
       joined = joined-at;
       bare = bare-at;
       others = others-at;
@@ -101,8 +103,55 @@ module _ (m p b n k i j to : ℕ) (ws : List ℕ) (T : Target m n i to (b + p) w
         sum-two (lenAt ws m) i n m (Q .second) (Q .first) (Q .apart) (lenAt ws₂ m)
             (λ x g c d. omega (arith, S .there x g c d .short, absorbed-len m n k i j to (b + p) ws T Q ws₁ old new e l A x g c d)) (omega (arith, len-n₂, len-i₂, A .short)),
       );
-      kept = λ y g. kept y g ∙ A .kept y (g .0, ⊎-elim (λ (w : y < b). inl (omega arith)) (λ (w : b + p ≤ y). inr w) (g .1));
+      kept = λ y g _. kept y g ∙ A .kept y (g .0, ⊎-elim (λ (w : y < b). inl (omega arith)) (λ (w : b + p ≤ y). inr w) (g .1));
     }
+
+-- what is then written in the half at c leaves the lists as they are
+module _ (m p n k i j old new b c : ℕ) (ws ws₂ ws₃ : List ℕ) (H : Halves m p b c ws) (l₂ : length ws₂ ≡ length ws) (l₃ : length ws₃ ≡ length ws₂) (R : Relisted m p n k i j old new b c ws ws₂)
+    (F : Frame c (c + p) ws₂ ws₃) where
+  past : 11 * m ≤ c
+  past = omega (arith, H .past′)
+
+  start-₃ : (x : ℕ) → x < m → startOf ws₃ m (7 * m) x ≡ startOf ws₂ m (7 * m) x
+  start-₃ = past-start m c (c + p) ws₂ ws₃ F past
+
+  end-₃ : (x : ℕ) → x < m → endOf ws₃ m (7 * m) x ≡ endOf ws₂ m (7 * m) x
+  end-₃ = past-end m c (c + p) ws₂ ws₃ F past
+
+  list-₃ : (x : ℕ) → x < m → listAt ws₃ m (7 * m) x ≡ listAt ws₂ m (7 * m) x
+  list-₃ x g = list-same ws₂ ws₃ m (7 * m) x (start-₃ x g) (end-₃ x g) (R .parts .order x g) (R .parts .within x g) l₃ (λ y u v.
+      ⊎-elim (λ (w : b + p ≤ c). getD-before y F (omega (arith, R .upto x g))) (λ (w : c + p ≤ b). getD-after y F (omega (arith, R .from x g))) (H .apart))
+
+  len-₃ : (x : ℕ) → x < m → lenAt ws₃ m x ≡ lenAt ws₂ m x
+  unfolding lenAt
+  len-₃ x g = rw (start-₃ x g, end-₃ x g)
+
+  relisted-still : n < m → i < m → Relisted m p n k i j old new b c ws ws₃
+  relisted-still hn hi = record {
+    joined = list-₃ n hn ∙ R .joined;
+    bare = list-₃ i hi ∙ R .bare;
+    others = λ x g u v. list-₃ x g ∙ R .others x g u v;
+    parts = record {
+      room = rw l₃ (R .parts .room);
+      past = R .parts .past;
+      order = λ x g. rw (start-₃ x g, end-₃ x g) (R .parts .order x g);
+      within = λ x g. rw (end-₃ x g, l₃) (R .parts .within x g);
+      far = λ x g. rw (start-₃ x g) (R .parts .far x g);
+    };
+    from = λ x g. rw (start-₃ x g) (R .from x g);
+    upto = λ x g. rw (end-₃ x g) (R .upto x g);
+    room = rw (sum-same (lenAt ws₃ m) (lenAt ws₂ m) m len-₃) (R .room);
+    kept = λ y g w. ⊎-elim (λ (v : y < c). getD-before y F v) (λ (v : c + p ≤ y). getD-after y F v) w ∙ R .kept y g w;
+  }
+
+  laid-still : (top : ℕ) → b ≤ top → top ≤ b + p → ((x : ℕ) → x < m → endOf ws₂ m (7 * m) x ≤ top) → Apart m ws₂ → Owned m b c top ws₃ → Laid m p b c top ws₃
+  laid-still top u v below A O = record {
+    from = u;
+    upto = v;
+    below = λ _ x g. rw (end-₃ x g) (below x g);
+    apart = λ _. record { apart = λ x y g q d. rw (start-₃ x g, end-₃ x g, start-₃ y q, end-₃ y q) (A .apart x y g q d) };
+    owned = λ _. O;
+  }
 
 -- two records, and all others apart from both
 apart-by : (m i n : ℕ) (ws : List ℕ) → Beside ws m n i → ((x : ℕ) → x < m → (x ≡ i → ⊥) → (x ≡ n → ⊥) → Beside ws m x i × Beside ws m x n)
@@ -183,30 +232,53 @@ module _ (m p h o n k i j : ℕ) (ws : List ℕ) (P : Pool m p h o ws) (Q : Pair
             C .kept y (inr (omega (arith, P .halves .past′)), inl (omega arith)));
       }
 
-      pub relisted-there : Relisted m p n k i j old new o ws ws₂
-      relisted-there =
+      relisted-carried : Relisted m p n k i j old new o h ws ws₂
+      relisted-carried =
           settled-relisted m p o n k i j o ws target-there Q (omega (arith, P .halves .past′)) (omega arith) (P .room) (λ x g _ _. (omega (arith, P .from x g, P .halves .past), across x g)) ws₁ old new e l A
-          ws₂ e r l₂ settled-there (A .order) (omega (arith, C .room)) (λ y g. C .kept y (g .0, ⊎-elim (λ (w : y < o). inl (omega (arith, A .order))) (λ (w : o + p ≤ y). inr w) (g .1)))
+          ws₂ e r l₂ settled-there (A .order) (omega (arith, C .room)) (λ y g. C .kept y (g .0, ⊎-elim (λ (w : y < o). inl (omega (arith, A .order))) (λ (w : o + p ≤ y). inr w) (g .1))) h
 
-      pub laid-there : Laid m p o r ws₂
-      laid-there = record {
-        from = omega (arith, A .order, C .order);
-        upto = omega (arith, C .room);
-        below = λ _ x g. elim (ℕ-discrete x i) [
-          | yes a ↦ rw (a, settled-there .bare′) (C .order)
-          | no a ↦ elim (ℕ-discrete x n) [ yes b ↦ rw (b, settled-there .last) (C .order) | no b ↦ C .there x (omega arith) g a b .upto ]
-        ];
-        apart = λ _. apart-by m i n ws₂ (inl (omega (arith, settled-there .last, settled-there .bare)))
-            (λ x g a b. let t = C .there x (omega arith) g a b in (inr (omega (arith, t .from, settled-there .bare′)), inr (omega (arith, t .from, settled-there .last))))
-            (λ x y g k d a b a′ b′. elim (decLt x y) [
-              | yes w ↦ inr (C .apart x y (omega arith) w k a b a′ b′)
-              | no w ↦ inl (C .apart y x (omega arith) (omega arith) g a′ b′ a b)
-            ]);
+      below-there : (x : ℕ) → x < m → endOf ws₂ m (7 * m) x ≤ r
+      below-there x g = elim (ℕ-discrete x i) [
+        | yes a ↦ rw (a, settled-there .bare′) (C .order)
+        | no a ↦ elim (ℕ-discrete x n) [ yes b ↦ rw (b, settled-there .last) (C .order) | no b ↦ C .there x (omega arith) g a b .upto ]
+      ]
+
+      apart-there : Apart m ws₂
+      apart-there = apart-by m i n ws₂ (inl (omega (arith, settled-there .last, settled-there .bare)))
+          (λ x g a b. let t = C .there x (omega arith) g a b in (inr (omega (arith, t .from, settled-there .bare′)), inr (omega (arith, t .from, settled-there .last))))
+          (λ x y g k d a b a′ b′. elim (decLt x y) [
+            | yes w ↦ inr (C .apart x y (omega arith) w k a b a′ b′)
+            | no w ↦ inl (C .apart y x (omega arith) (omega arith) g a′ b′ a b)
+          ])
+
+      halves-there : Halves m p o h ws
+      halves-there = halves-turn m p h o ws (P .halves)
+
+      pub standing-there : Standing m p o h ws₂
+      standing-there = record {
+        few = P .held .few;
+        rows = record {
+          lists = relisted-carried .parts;
+          far = λ x g. omega (arith, relisted-carried .from x g, P .halves .past′);
+          apart = apart-there;
+        };
+        halves = halves-same m p o h ws ws₂ (l₂ ∙ l) halves-there;
+        from = relisted-carried .from;
+        upto = relisted-carried .upto;
       }
+
+      module _ (ws₃ : List ℕ) (l₃ : length ws₃ ≡ length ws₂) (F : Frame h (h + p) ws₂ ws₃) where
+        pub relisted-there : Relisted m p n k i j old new o h ws ws₃
+        relisted-there = relisted-still m p n k i j old new o h ws ws₂ ws₃ halves-there (l₂ ∙ l) l₃ relisted-carried F (Q .first) (Q .second)
+
+        pub laid-there : Owned m o h (o + p) ws₃ → Laid m p o h r ws₃
+        laid-there O =
+            laid-still m p n k i j old new o h ws ws₂ ws₃ halves-there (l₂ ∙ l) l₃ relisted-carried F r (omega (arith, A .order, C .order)) (omega (arith, C .room)) below-there apart-there
+            (record { own = λ x q g u v w. O .own x q g u v (omega (arith, C .room)) })
 
 -- ---- in place
 
-module _ (m p h o top n k i j : ℕ) (ws : List ℕ) (P : Pool m p h o ws) (D : Laid m p h top ws) (Q : Pair m n k i j ws) (room : lenAt ws m n + lenAt ws m i ≤ h + p - top) where
+module _ (m p h o top n k i j : ℕ) (ws : List ℕ) (P : Pool m p h o ws) (D : Laid m p h o top ws) (Q : Pair m n k i j ws) (room : lenAt ws m n + lenAt ws m i ≤ h + p - top) where
   free : top < h + p
   free = omega (arith, D .upto, Q .lists)
 
@@ -228,7 +300,7 @@ module _ (m p h o top n k i j : ℕ) (ws : List ℕ) (P : Pool m p h o ws) (D : 
     others-below : (x : ℕ) → x < m → (x ≡ i → ⊥) → (x ≡ n → ⊥) → endOf ws₁ m (7 * m) x ≤ top
     others-below x g a b = rw (A .stops x g a b) (D .below free x g)
 
-    pub rows-here : Rows m ws₁
+    rows-here : Rows m ws₁
     rows-here = record {
       lists = absorbed-lists m n k i j top (h + p) ws target-here Q ws₁ old new e l A;
       far = λ r g. by-three m n k i j top (h + p) ws target-here Q ws₁ old new e l A (λ a b. 11 * m ≤ a) r g (λ _ _. omega (arith, P .from r g, P .halves .past)) (target-here .past)
@@ -238,7 +310,36 @@ module _ (m p h o top n k i j : ℕ) (ws : List ℕ) (P : Pool m p h o ws) (D : 
           (λ x y g k d a b a′ b′. rw (A .starts x g a b, A .stops x g a b, A .starts y k a′ b′, A .stops y k a′ b′) (D .apart free .apart x y g k d));
     }
 
-    module _ (ws₂ : List ℕ) (l₂ : length ws₂ ≡ length ws₁) (W : Swept m i n m old new ws₁ ws₂) where
+    -- a place of the other half is as it was
+    other-half : (q : ℕ) → h ≤ q → q < top → getD ws₁ (o + (q - h)) 0 ≡ getD ws (o + (q - h)) 0
+    other-half q u v = A .kept (o + (q - h)) (
+      inr (omega (arith, P .halves .past′)),
+      ⊎-elim (λ (w : h + p ≤ o). inr (omega arith)) (λ (w : o + p ≤ h). inl (omega (arith, D .from, D .upto))) (P .halves .apart),
+    )
+
+    pub searched-here : Searched m i n h o top ws₁
+    searched-here = record {
+      rows = rows-here;
+      p = p;
+      halves = halves-same m p h o ws ws₁ l (P .halves);
+      order = D .from;
+      half = D .upto;
+      from = λ x g a b. rw (A .starts x g a b) (P .from x g);
+      upto = others-below;
+      owned = record {
+        own = λ x q g u v w. elim (ℕ-discrete x i) [
+          | yes a ↦ absurd (omega (arith, rw (a, A .bare) at u, A .order))
+          | no a ↦ elim (ℕ-discrete x n) [
+            | yes b ↦ absurd (omega (arith, rw (b, A .first) at u))
+            | no b ↦
+                let u′ : startOf ws m (7 * m) x ≤ q = rw (A .starts x g a b) at u in
+                other-half q (omega (arith, P .from x g)) w ∙ D .owned free .own x q g u′ (rw (A .stops x g a b) at v) w
+          ]
+        ];
+      };
+    }
+
+    module _ (ws₂ : List ℕ) (l₂ : length ws₂ ≡ length ws₁) (W : Swept m i n old new ws₁ ws₂) where
       there-at : (x : ℕ) → x < m → (x ≡ i → ⊥) → (x ≡ n → ⊥) → There m x old new h top ws₁ ws₂
       unfolding lenAt
       there-at x g a b =
@@ -256,30 +357,58 @@ module _ (m p h o top n k i j : ℕ) (ws : List ℕ) (P : Pool m p h o ws) (D : 
       settled-here = record {
         there = there-at;
         first = W .starts n (Q .first) ∙ A .first;
-        last = W .stops n (Q .first) (inr (inr refl)) ∙ A .last;
+        last = W .stops n (Q .first) (inr refl) ∙ A .last;
         bare = W .starts i (Q .second) ∙ A .bare;
-        bare′ = W .stops i (Q .second) (inr (inl refl)) ∙ A .bare′;
+        bare′ = W .stops i (Q .second) (inl refl) ∙ A .bare′;
         joined = sec-same ws₁ ws₂ top (e - top) (omega (arith, A .order, e-fits, P .halves .into)) l₂ (λ y c d.
             W .kept y (record { table = inr (omega (arith, target-here .past)); lists = λ x g a b. inr (omega (arith, others-below x g a b)) }));
       }
 
-      pub relisted-here : Relisted m p n k i j old new h ws ws₂
-      relisted-here =
+      relisted-renamed : Relisted m p n k i j old new h o ws ws₂
+      relisted-renamed =
           settled-relisted m p h n k i j top ws target-here Q (omega (arith, P .halves .past)) (D .from) (P .room)
           (λ x g _ _. (omega (arith, P .from x g, P .halves .past), inl (D .below free x g))) ws₁ old new e l A ws₂ h top l₂ settled-here (omega arith) (D .upto) (λ y g.
           W .kept y (record {
             table = g .0;
             lists = λ x q a b. ⊎-elim (λ (w : y < h). inl (rw (A .starts x q a b) (omega (arith, P .from x q)))) (λ (w : h + p ≤ y). inr (omega (arith, others-below x q a b, D .upto))) (g .1);
-          }))
+          })) o
 
-      pub laid-here : Laid m p h e ws₂
-      laid-here = record {
-        from = omega (arith, D .from, A .order);
-        upto = e-fits;
-        below = λ _ x g. omega (
-          arith,
-          swept-less m i n m old new ws₁ ws₂ rows-here W x g,
-          by-three m n k i j top (h + p) ws target-here Q ws₁ old new e l A (λ a b. b ≤ e) x g (λ _ _. omega (arith, D .below free x g, A .order)) (omega arith) (omega arith),
-        );
-        apart = λ _. swept-apart m i n m old new ws₁ ws₂ rows-here W;
-      }
+      below-here : (x : ℕ) → x < m → endOf ws₂ m (7 * m) x ≤ e
+      below-here x g = omega (
+        arith,
+        swept-less m i n old new ws₁ ws₂ rows-here W x g,
+        by-three m n k i j top (h + p) ws target-here Q ws₁ old new e l A (λ a b. b ≤ e) x g (λ _ _. omega (arith, D .below free x g, A .order)) (omega arith) (omega arith),
+      )
+
+      pub own-here : o + (e - h) ≤ length ws₂
+      own-here = omega (arith, e-fits, P .halves .into′)
+
+      module _ (ws₃ : List ℕ) (l₃ : length ws₃ ≡ length ws₂) (M : Marked h o top e n ws₂ ws₃) where
+        frame-here : Frame o (o + p) ws₂ ws₃
+        frame-here = frame-wider o (o + p) (M .kept) (omega arith) (omega (arith, e-fits))
+
+        pub relisted-here : Relisted m p n k i j old new h o ws ws₃
+        relisted-here = relisted-still m p n k i j old new h o ws ws₂ ws₃ (P .halves) (l₂ ∙ l) l₃ relisted-renamed frame-here (Q .first) (Q .second)
+
+        -- before top as it was, and n from there on
+        owned-here : Owned m h o e ws₃
+        owned-here = record {
+          own = λ x q g u v _.
+              let u₂ : startOf ws₁ m (7 * m) x ≤ q = rw (past-start m o (o + p) ws₂ ws₃ frame-here (omega (arith, P .halves .past′)) x g, W .starts x g) at u in
+              let v₂ : q < endOf ws₂ m (7 * m) x = rw (past-end m o (o + p) ws₂ ws₃ frame-here (omega (arith, P .halves .past′)) x g) at v in
+              elim (ℕ-discrete x i) [
+                | yes a ↦ absurd (omega (arith, rw (a, A .bare) at u₂, below-here x g))
+                | no a ↦ elim (ℕ-discrete x n) [
+                  | yes b ↦ rw b (M .each q (rw (b, A .first) at u₂) (omega (arith, below-here x g)))
+                  | no b ↦
+                      let w : q < top = omega (arith, W .done x g a b .upto, others-below x g a b) in
+                      let f : h ≤ q = omega (arith, A .starts x g a b, P .from x g) in
+                      getD-before (o + (q - h)) (M .kept) (omega arith) ∙ W .kept (o + (q - h)) (beside-free m i n h o top ws₁ searched-here q f w) ∙ searched-here .owned .own x q g u₂ (omega (arith, W .done x g a b .upto)) w
+                ]
+              ];
+        }
+
+        pub laid-here : Laid m p h o e ws₃
+        laid-here =
+            laid-still m p n k i j old new h o ws ws₂ ws₃ (P .halves) (l₂ ∙ l) l₃ relisted-renamed frame-here e (omega (arith, D .from, A .order)) e-fits below-here
+            (swept-apart m i n old new ws₁ ws₂ rows-here W) owned-here

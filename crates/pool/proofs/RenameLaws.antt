@@ -1,18 +1,28 @@
 -- Lists renamed where they are. They lie apart, so a list that is renamed leaves the others as they were; it only gets shorter, so they stay apart.
-use Prim.Native.Nat.{ℕ, suc, _+_, _*_, _≤_, _<_}
+-- A list is renamed where one of its places holds old, so one that never is holds none. A list can be met again: it holds no old then, so it stays.
+use Prim.Native.Nat.{ℕ, suc, _+_, _-_, _*_, _≤_, _<_}
 use native.Mathlib.Omega.{arith}
 use native.Mathlib.Decide.{ℕ-discrete, decLt}
 use mathlib.Core.Path.{_≡_, refl, sym, ap, _∙_}
 use mathlib.Core.Logic.{⊎-elim, _⊎_, inl, inr}
-use mathlib.Core.List.{List}
-use lib.ListN.{length, getD}
+use mathlib.Core.Bool.{true, false, true≢false}
+use mathlib.Core.List.{List, map}
+use lib.ListN.{length, getD, take, drop, length-take}
+use Rattle.rules.specs.Records.{has}
+use Rattle.rules.specs.Merge.{place}
 use Rattle.space.specs.Space.{Frame}
-use Rattle.space.proofs.Laws.{getD-before, getD-after}
+use Rattle.space.proofs.Laws.{cases, getD-before, getD-after, getD-sec}
 use Rattle.table.specs.View.{part, startOf, endOf, listAt, Parts, Placed}
-use Rattle.table.proofs.ViewLaws.{wide-same, list-same, part-after}
+use Rattle.table.proofs.ViewLaws.{wide-same, list-same, part-after, part-at, part-length}
+use Rattle.pool.specs.Lists.{swapOne}
 use Rattle.pool.specs.Part.{renamedList}
-use Rattle.pool.specs.Pool.{newList, Apart, Shrunk, Renamed, Passed, Rows, Swept}
+use Rattle.pool.specs.Pool.{newList, Apart, Renamed, Passed, Met, Rows, Searched, Free, Swept}
 use Rattle.pool.proofs.CarryLaws.{new-dead, new-live}
+use Rattle.pool.proofs.HasLaws.{has-not}
+use Rattle.pool.proofs.PartLaws.{renamed-none, renamed-some}
+use Rattle.pool.proofs.FloorLaws.{swap-old, swap-other, swap-has, has-at}
+use Rattle.pool.proofs.MergeLaws.{tidy-has}
+use Rattle.table.proofs.SearchLaws.{place-before}
 
 -- ---- one record
 
@@ -99,124 +109,264 @@ module _ (m x i n old new : ℕ) (ws : List ℕ) where
   pub passed-renamed : (x ≡ i → ⊥) → (x ≡ n → ⊥) → (ws′ : List ℕ) → Renamed m x old new ws ws′ → Passed m x i n old new ws ws′
   passed-renamed p q ws′ R = record { skipped = λ w. ⊎-elim (λ (e : x ≡ i). absurd (p e)) (λ (e : x ≡ n). absurd (q e)) w; renamed = λ _ _. R }
 
+-- ---- the record at s
+
+module _ (m s i n old new x : ℕ) (ws : List ℕ) (e : x ≡ getD ws s 0) where
+  pub met-nobody : m ≤ x → Met m s i n old new ws ws
+  met-nobody h = record { nobody = λ _. refl; passed = λ g. absurd (omega arith) }
+
+  pub met-passed : x < m → (ws′ : List ℕ) → Passed m x i n old new ws ws′ → Met m s i n old new ws ws′
+  met-passed h ws′ N = record { nobody = λ g. absurd (omega arith); passed = λ _. rw (← e) N }
+
+pub row-far : (m x : ℕ) (ws : List ℕ) → Rows m ws → x < m → 11 * m ≤ startOf ws m (7 * m) x
+row-far m x ws R h = R .far x h
+
+-- ---- a list renamed twice
+
+module _ (old new : ℕ) (ne : old ≡ new → ⊥) where
+  swap-free : (u : ℕ) → swapOne old new u ≡ old → ⊥
+  swap-free u e = elim (ℕ-discrete u old) [
+    | yes q ↦ ne (sym e ∙ ap (swapOne old new) q ∙ swap-old old new)
+    | no q ↦ q (sym (swap-other old new u q) ∙ e)
+  ]
+
+  -- no entry is old any more
+  swap-none : (l : List ℕ) → has (map (swapOne old new) l) old ≡ true → ⊥
+  unfolding swapOne
+  swap-none l h = let w = swap-has old new l old h in swap-free (w .0) (w .2)
+
+  renamed-free : (l : List ℕ) → has (renamedList old new l) old ≡ false
+  renamed-free l =
+      ⊎-elim (λ (h : has l old ≡ true). ⊎-elim (λ (g : has (renamedList old new l) old ≡ true).
+      absurd (swap-none l (tidy-has (map (swapOne old new) l) old (ap (λ (k : List ℕ). has k old) (sym (renamed-some old new l h)) ∙ g))))
+      (λ (g : has (renamedList old new l) old ≡ false). g) (cases (has (renamedList old new l) old)))
+      (λ (h : has l old ≡ false). ap (λ (k : List ℕ). has k old) (renamed-none old new l h) ∙ h) (cases (has l old))
+
+  new-free : (id : ℕ) (l : List ℕ) → (id ≡ 0 → ⊥) → has (newList old new id l) old ≡ false
+  new-free id l z = ap (λ (k : List ℕ). has k old) (sym (new-live old new id l (renamedList old new l) z refl)) ∙ renamed-free l
+
+new-none : (old new id : ℕ) (l : List ℕ) → ((id ≡ 0 → ⊥) → has l old ≡ false) → newList old new id l ≡ l
+new-none old new id l h = elim (ℕ-discrete id 0) [
+  | yes e ↦ sym (new-dead old new id l e)
+  | no e ↦ sym (new-live old new id l l e (sym (renamed-none old new l (h e))))
+]
+
 -- ---- all of them
 
-pub swept-none : (m i n old new : ℕ) (ws : List ℕ) → Swept m i n 0 old new ws ws
-swept-none m i n old new ws = record { done = λ x h _ _. absurd (omega arith); starts = λ _ _. refl; stops = λ _ _ _. refl; kept = λ _ _. refl }
+-- what a list is to become it was to become at first, and no place of it before q holds old
+pub record Sought (m i n q old new : ℕ) (ws ws′ : List ℕ) : Type 0 where
+  pub same : (x : ℕ) → x < m → (x ≡ i → ⊥) → (x ≡ n → ⊥) → newList old new (getD ws x 0) (listAt ws′ m (7 * m) x) ≡ newList old new (getD ws x 0) (listAt ws m (7 * m) x)
+  pub none : (x j : ℕ) → x < m → (x ≡ i → ⊥) → (x ≡ n → ⊥) → (getD ws x 0 ≡ 0 → ⊥) → startOf ws m (7 * m) x ≤ j → j < endOf ws′ m (7 * m) x → j < q → getD ws′ j 0 ≡ old → ⊥
+  pub starts : (x : ℕ) → x < m → startOf ws′ m (7 * m) x ≡ startOf ws m (7 * m) x
+  pub order : (x : ℕ) → x < m → startOf ws m (7 * m) x ≤ endOf ws′ m (7 * m) x
+  pub upto : (x : ℕ) → x < m → endOf ws′ m (7 * m) x ≤ endOf ws m (7 * m) x
+  pub stops : (x : ℕ) → x < m → (x ≡ i) ⊎ (x ≡ n) → endOf ws′ m (7 * m) x ≡ endOf ws m (7 * m) x
+  pub kept : (j : ℕ) → Free m i n j ws → getD ws′ j 0 ≡ getD ws j 0
 
-module _ (m i n c old new : ℕ) (ws₀ ws : List ℕ) (R : Rows m ws₀) (W : Swept m i n c old new ws₀ ws) where
-  swept-ends : (x : ℕ) → x < m → (startOf ws₀ m (7 * m) x ≤ endOf ws m (7 * m) x) × (endOf ws m (7 * m) x ≤ endOf ws₀ m (7 * m) x)
-  swept-ends x g =
-      elim (decLt x c) [
-        | yes k ↦ elim (ℕ-discrete x i) [
-          | yes a ↦ same (inr (inl a))
-          | no a ↦ elim (ℕ-discrete x n) [ yes b ↦ same (inr (inr b)) | no b ↦ (W .done x k a b .order, W .done x k a b .upto) ]
-        ]
-        | no k ↦ same (inl (omega arith))
-      ]
-    where
-      same : (c ≤ x) ⊎ ((x ≡ i) ⊎ (x ≡ n)) → (startOf ws₀ m (7 * m) x ≤ endOf ws m (7 * m) x) × (endOf ws m (7 * m) x ≤ endOf ws₀ m (7 * m) x)
-      same s = rw (W .stops x g s) (R .lists .order x g, omega arith)
+pub sought-none : (m i n h o top old new : ℕ) (ws : List ℕ) → Searched m i n h o top ws → Sought m i n h old new ws ws
+sought-none m i n h o top old new ws S = record {
+  same = λ _ _ _ _. refl;
+  none = λ x j g a b _ c _ d _. omega (arith, S .from x g a b);
+  starts = λ _ _. refl;
+  order = λ x g. S .rows .lists .order x g;
+  upto = λ _ _. omega arith;
+  stops = λ _ _ _. refl;
+  kept = λ _ _. refl;
+}
 
-  pub swept-less : (x : ℕ) → x < m → endOf ws m (7 * m) x ≤ endOf ws₀ m (7 * m) x
-  swept-less x g = swept-ends x g .1
+-- lists that start where they did and end no later lie apart as they did
+shrunk-apart : (m : ℕ) (ws ws′ : List ℕ) → Apart m ws → ((x : ℕ) → x < m → startOf ws′ m (7 * m) x ≡ startOf ws m (7 * m) x)
+    → ((x : ℕ) → x < m → endOf ws′ m (7 * m) x ≤ endOf ws m (7 * m) x) → Apart m ws′
+shrunk-apart m ws ws′ A starts less = record {
+  apart = λ x y g k d. rw (starts x g, starts y k) (⊎-elim (λ (w : endOf ws m (7 * m) x ≤ startOf ws m (7 * m) y). inl (omega (arith, less x g)))
+      (λ (w : endOf ws m (7 * m) y ≤ startOf ws m (7 * m) x). inr (omega (arith, less y k))) (A .apart x y g k d));
+}
 
-  pub swept-apart : Apart m ws
-  swept-apart = record {
-    apart = λ x y g k d. rw (W .starts x g, W .starts y k) (⊎-elim (λ (w : endOf ws₀ m (7 * m) x ≤ startOf ws₀ m (7 * m) y). inl (omega (arith, swept-less x g)))
-        (λ (w : endOf ws₀ m (7 * m) y ≤ startOf ws₀ m (7 * m) x). inr (omega (arith, swept-less y k))) (R .apart .apart x y g k d));
+-- the place beside r is in no list
+pub beside-free : (m i n h o top : ℕ) (ws : List ℕ) → Searched m i n h o top ws → (r : ℕ) → h ≤ r → r < top → Free m i n (o + (r - h)) ws
+beside-free m i n h o top ws S r d k = record {
+  table = inr (omega (arith, S .halves .past′));
+  lists = λ x g a b. ⊎-elim (λ (w : h + S .p ≤ o). inr (omega (arith, S .upto x g a b, S .half))) (λ (w : o + S .p ≤ h). inl (omega (arith, S .from x g a b, S .half, S .order))) (S .halves .apart);
+}
+
+module _ (m i n h o top q old new : ℕ) (ws₀ ws : List ℕ) (S : Searched m i n h o top ws₀) (T : Sought m i n q old new ws₀ ws) where
+  sought-own : (x r : ℕ) → x < m → startOf ws₀ m (7 * m) x ≤ r → r < endOf ws m (7 * m) x → h ≤ r → r < top → getD ws (o + (r - h)) 0 ≡ x
+  sought-own x r g a b d k = T .kept (o + (r - h)) (beside-free m i n h o top ws₀ S r d k) ∙ S .owned .own x r g a (omega (arith, T .upto x g)) k
+
+  sought-id : (x : ℕ) → x < m → getD ws x 0 ≡ getD ws₀ x 0
+  sought-id x g = T .kept x (record { table = inl (omega arith); lists = λ y k a b. inl (omega (arith, S .rows .far y k)) })
+
+  -- to the next place that holds old
+  sought-next : (p : ℕ) → p ≡ place (take (top - q) (drop q ws)) old → Sought m i n (q + p) old new ws₀ ws
+  sought-next p e = record {
+    same = T .same;
+    none = λ x j g a b z c d k. elim (decLt j q) [
+      | yes w ↦ T .none x j g a b z c d w
+      | no w ↦
+          let v : q + (j - q) ≡ j = omega arith in
+          let u : j - q < top - q = omega (arith, T .upto x g, S .upto x g a b) in
+          λ f. place-before (take (top - q) (drop q ws)) old (j - q) (omega arith) (getD-sec q (top - q) (j - q) ws u ∙ ap (λ (y : ℕ). getD ws y 0) v ∙ f)
+    ];
+    starts = T .starts;
+    order = T .order;
+    upto = T .upto;
+    stops = T .stops;
+    kept = T .kept;
+  }
+
+  none-in : top ≤ q → length ws ≡ length ws₀ → (x : ℕ) → x < m → (x ≡ i → ⊥) → (x ≡ n → ⊥) → (getD ws₀ x 0 ≡ 0 → ⊥) → has (listAt ws m (7 * m) x) old ≡ false
+  unfolding listAt
+  none-in w l x g a b z = has-not (part (startOf ws m (7 * m) x) (endOf ws m (7 * m) x) ws) old (λ j k f.
+      let c : j < endOf ws m (7 * m) x - startOf ws m (7 * m) x =
+      rw (part-length (startOf ws m (7 * m) x) (endOf ws m (7 * m) x) ws (omega (arith, T .order x g, T .starts x g)) (omega (arith, T .upto x g, S .rows .lists .within x g))) at k in
+      T .none x (startOf ws m (7 * m) x + j) g a b z (omega (arith, T .starts x g)) (omega arith) (omega (arith, T .upto x g, S .upto x g a b))
+      (sym (part-at (startOf ws m (7 * m) x) (endOf ws m (7 * m) x) j ws c) ∙ f))
+
+  pub sought-done : top ≤ q → length ws ≡ length ws₀ → Swept m i n old new ws₀ ws
+  sought-done w l = record {
+    done = λ x g a b. record {
+      order = T .order x g;
+      upto = T .upto x g;
+      list = sym (new-none old new (getD ws₀ x 0) (listAt ws m (7 * m) x) (none-in w l x g a b)) ∙ T .same x g a b;
+    };
+    starts = T .starts;
+    stops = T .stops;
+    kept = T .kept;
   }
 
   module _ (l : length ws ≡ length ws₀) where
-    pub swept-lists : Parts m (7 * m) ws
-    swept-lists = record {
-      room = rw l (R .lists .room);
-      past = R .lists .past;
-      order = λ x g. rw (W .starts x g) (swept-ends x g .0);
-      within = λ x g. rw l (omega (arith, swept-less x g, R .lists .within x g));
-      far = λ x g. rw (W .starts x g) (R .lists .far x g);
+    pub sought-rows : Rows m ws
+    sought-rows = record {
+      lists = record {
+        room = rw l (S .rows .lists .room);
+        past = S .rows .lists .past;
+        order = λ x g. rw (T .starts x g) (T .order x g);
+        within = λ x g. rw l (omega (arith, T .upto x g, S .rows .lists .within x g));
+        far = λ x g. rw (T .starts x g) (S .rows .lists .far x g);
+      };
+      far = λ x g. rw (T .starts x g) (S .rows .far x g);
+      apart = shrunk-apart m ws₀ ws (S .rows .apart) (T .starts) (T .upto);
     }
 
-    module _ (h : c < m) where
-      pub swept-far : 11 * m ≤ startOf ws m (7 * m) c
-      swept-far = rw (W .starts c h) (R .far c h)
-
-      -- the next one is as it was
-      waits : listAt ws m (7 * m) c ≡ listAt ws₀ m (7 * m) c
-      waits =
-          list-same ws₀ ws m (7 * m) c (W .starts c h) (W .stops c h (inl (omega arith))) (R .lists .order c h) (R .lists .within c h) l (λ j a b.
-          W .kept j (record {
-            table = inr (omega (arith, R .far c h));
-            lists = λ x k _ _. ⊎-elim (λ (w : endOf ws₀ m (7 * m) x ≤ startOf ws₀ m (7 * m) c). inr (omega arith)) (λ (w : endOf ws₀ m (7 * m) c ≤ startOf ws₀ m (7 * m) x). inl (omega arith))
-                (R .apart .apart x c (omega arith) h (λ e. omega arith));
-          }))
-
-      id-waits : getD ws c 0 ≡ getD ws₀ c 0
-      id-waits = W .kept c (record { table = inl (omega arith); lists = λ x k _ _. inl (omega (arith, R .far x (omega arith))) })
-
-      -- a place of another list is not in the list of c
-      beside : (x j : ℕ) → x < m → (x ≡ c → ⊥) → startOf ws₀ m (7 * m) x ≤ j → j < endOf ws₀ m (7 * m) x
-          → (j < startOf ws m (7 * m) c) ⊎ (endOf ws m (7 * m) c ≤ j)
-      beside x j g d a b =
-          rw (W .starts c h, W .stops c h (inl (omega arith)))
-          (⊎-elim (λ (w : endOf ws₀ m (7 * m) x ≤ startOf ws₀ m (7 * m) c). inl (omega arith)) (λ (w : endOf ws₀ m (7 * m) c ≤ startOf ws₀ m (7 * m) x). inr (omega arith)) (R .apart .apart x c g h d))
-
-      skip-on : (c ≡ i) ⊎ (c ≡ n) → Swept m i n (suc c) old new ws₀ ws
-      skip-on w = record {
-        done = λ x k a b. W .done x (earlier x k a b) a b;
-        starts = W .starts;
-        stops = λ x g s. W .stops x g (⊎-elim (λ (y : suc c ≤ x). inl (omega arith)) (λ (y : (x ≡ i) ⊎ (x ≡ n)). inr y) s);
-        kept = λ j f. W .kept j (record { table = f .table; lists = λ x k. f .lists x (omega arith) });
+    module _ (ne : old ≡ new → ⊥) (from : h ≤ q) (k : q < top) where
+      -- nothing is written, and the place is in no list that counts
+      stay : ((x : ℕ) → x < m → (x ≡ i → ⊥) → (x ≡ n → ⊥) → getD ws (o + (q - h)) 0 ≡ x → ⊥) → Sought m i n (suc q) old new ws₀ ws
+      stay f = record {
+        same = T .same;
+        none = λ x j g a b z c d w. elim (ℕ-discrete j q) [
+          | yes e ↦ absurd (f x g a b (sought-own x q g (omega arith) (omega arith) from k))
+          | no e ↦ T .none x j g a b z c d (omega arith)
+        ];
+        starts = T .starts;
+        order = T .order;
+        upto = T .upto;
+        stops = T .stops;
+        kept = T .kept;
       }
-        where
-          earlier : (x : ℕ) → x < suc c → (x ≡ i → ⊥) → (x ≡ n → ⊥) → x < c
-          earlier x k a b = elim (ℕ-discrete x c) [
-            | yes e ↦ absurd (⊎-elim (λ (y : c ≡ i). a (e ∙ y)) (λ (y : c ≡ n). b (e ∙ y)) w)
-            | no e ↦ omega arith
-          ]
 
-      module _ (ws′ : List ℕ) (l′ : length ws′ ≡ length ws) (p : c ≡ i → ⊥) (q : c ≡ n → ⊥) (N : Renamed m c old new ws ws′) where
-        next-done : Shrunk m c old new ws₀ ws′
-        next-done = record {
-          order = rw (← W .starts c h) (N .shrunk .order);
-          upto = omega (arith, N .shrunk .upto, W .stops c h (inl (omega arith)));
-          list = N .shrunk .list ∙ ap (λ (y : ℕ). newList old new y (listAt ws m (7 * m) c)) id-waits ∙ ap (newList old new (getD ws₀ c 0)) waits;
-        }
+      module _ (x : ℕ) (g : x < m) (a : x ≡ i → ⊥) (b : x ≡ n → ⊥) (e : getD ws (o + (q - h)) 0 ≡ x) (ws′ : List ℕ) (l′ : length ws′ ≡ length ws) (N : Renamed m x old new ws ws′) where
+        -- another list is as it was
+        other-list : (y : ℕ) → y < m → (y ≡ x → ⊥) → (j : ℕ) → startOf ws m (7 * m) y ≤ j → j < endOf ws m (7 * m) y → getD ws′ j 0 ≡ getD ws j 0
+        other-list y c d j u v = N .kept j (
+          inr (omega (arith, sought-rows .far y c)),
+          ⊎-elim (λ (w : endOf ws m (7 * m) y ≤ startOf ws m (7 * m) x). inl (omega arith)) (λ (w : endOf ws m (7 * m) x ≤ startOf ws m (7 * m) y). inr (omega arith)) (sought-rows .apart .apart y x c g d),
+        )
 
-        still-done : (x : ℕ) → x < c → Shrunk m x old new ws₀ ws → Shrunk m x old new ws₀ ws′
-        still-done x k s =
-            let d : x ≡ c → ⊥ = λ e. omega arith in
-            let g : x < m = omega arith in
-            record {
-              order = rw (N .stops x g d) (s .order);
-              upto = rw (N .stops x g d) (s .upto);
-              list = list-same ws ws′ m (7 * m) x (N .starts x g) (N .stops x g d) (swept-lists .order x g) (swept-lists .within x g) l′
-                  (λ j a b. N .kept j (inr (omega (arith, R .far x g, W .starts x g)), beside x j g d (omega (arith, W .starts x g)) (omega (arith, s .upto)))) ∙ s .list;
-            }
+        renamed-now : listAt ws′ m (7 * m) x ≡ newList old new (getD ws₀ x 0) (listAt ws m (7 * m) x)
+        renamed-now = N .shrunk .list ∙ ap (λ (y : ℕ). newList old new y (listAt ws m (7 * m) x)) (sought-id x g)
 
-        go-on : Swept m i n (suc c) old new ws₀ ws′
-        go-on = record {
-          done = λ x k a b. elim (ℕ-discrete x c) [
-            | yes e ↦ rw e next-done
-            | no e ↦ let k′ : x < c = omega arith in still-done x k′ (W .done x k′ a b)
-          ];
-          starts = λ x g. N .starts x g ∙ W .starts x g;
-          stops = λ x g s. N .stops x g (other x s) ∙ W .stops x g (⊎-elim (λ (y : suc c ≤ x). inl (omega arith)) (λ (y : (x ≡ i) ⊎ (x ≡ n)). inr y) s);
-          kept = λ j f. N .kept j (f .table, rw (W .starts c h, W .stops c h (inl (omega arith))) (f .lists c (omega arith) p q))
-              ∙ W .kept j (record { table = f .table; lists = λ x k. f .lists x (omega arith) });
-        }
-          where
-            other : (x : ℕ) → (suc c ≤ x) ⊎ ((x ≡ i) ⊎ (x ≡ n)) → x ≡ c → ⊥
-            other x s e = ⊎-elim (λ (y : suc c ≤ x). omega arith) (λ (y : (x ≡ i) ⊎ (x ≡ n)). ⊎-elim (λ (w : x ≡ i). p (sym e ∙ w)) (λ (w : x ≡ n). q (sym e ∙ w)) y) s
+        free-now : (getD ws₀ x 0 ≡ 0 → ⊥) → has (listAt ws′ m (7 * m) x) old ≡ false
+        free-now z = ap (λ (y : List ℕ). has y old) renamed-now ∙ new-free old new ne (getD ws₀ x 0) (listAt ws m (7 * m) x) z
 
-      pub swept-go : (ws′ : List ℕ) → length ws′ ≡ length ws → Passed m c i n old new ws ws′ → Swept m i n (c + 1) old new ws₀ ws′
-      swept-go ws′ l′ N = let k : c + 1 ≡ suc c = omega arith in rw k (elim (ℕ-discrete c i) [
-        | yes e ↦ rw (N .skipped (inl e)) (skip-on (inl e))
-        | no e ↦ elim (ℕ-discrete c n) [
-          | yes d ↦ rw (N .skipped (inr d)) (skip-on (inr d))
-          | no d ↦ go-on ws′ l′ e d (N .renamed e d)
+        same-now : (y : ℕ) → y < m → (y ≡ i → ⊥) → (y ≡ n → ⊥) → newList old new (getD ws₀ y 0) (listAt ws′ m (7 * m) y) ≡ newList old new (getD ws₀ y 0) (listAt ws₀ m (7 * m) y)
+        same-now y c u v = elim (ℕ-discrete y x) [
+          | yes d ↦ rw d (new-none old new (getD ws₀ x 0) (listAt ws′ m (7 * m) x) free-now ∙ renamed-now ∙ T .same x g a b)
+          | no d ↦ ap (newList old new (getD ws₀ y 0)) (list-same ws ws′ m (7 * m) y (N .starts y c) (N .stops y c d) (sought-rows .lists .order y c) (sought-rows .lists .within y c) l′ (other-list y c d)) ∙ T .same y c u v
         ]
+
+        upto-now : (y : ℕ) → y < m → endOf ws′ m (7 * m) y ≤ endOf ws m (7 * m) y
+        upto-now y c = elim (ℕ-discrete y x) [
+          | yes d ↦ rw d (N .shrunk .upto)
+          | no d ↦ rw (N .stops y c d) (omega arith)
+        ]
+
+        order-now : (y : ℕ) → y < m → startOf ws₀ m (7 * m) y ≤ endOf ws′ m (7 * m) y
+        order-now y c = elim (ℕ-discrete y x) [
+          | yes d ↦ rw d (omega (arith, N .shrunk .order, T .starts x g))
+          | no d ↦ rw (N .stops y c d) (T .order y c)
+        ]
+
+        none-here : (getD ws₀ x 0 ≡ 0 → ⊥) → (j : ℕ) → startOf ws₀ m (7 * m) x ≤ j → j < endOf ws′ m (7 * m) x → getD ws′ j 0 ≡ old → ⊥
+        unfolding listAt
+        none-here z j u v f =
+            let s = startOf ws′ m (7 * m) x in
+            let t = endOf ws′ m (7 * m) x in
+            let c : s ≡ startOf ws₀ m (7 * m) x = N .starts x g ∙ T .starts x g in
+            let w : s + (j - s) ≡ j = omega arith in
+            let r : getD (part s t ws′) (j - s) 0 ≡ old = part-at s t (j - s) ws′ (omega arith) ∙ ap (λ (y : ℕ). getD ws′ y 0) w ∙ f in
+            let lp : length (part s t ws′) ≡ t - s = part-length s t ws′ (omega arith) (omega (arith, upto-now x g, sought-rows .lists .within x g, l′)) in
+            true≢false (sym (has-at (part s t ws′) (j - s) (rw lp (omega arith))) ∙ ap (has (part s t ws′)) r ∙ free-now z)
+
+        go-on : Sought m i n (suc q) old new ws₀ ws′
+        go-on = record {
+          same = same-now;
+          none = λ y j c u v z s t w. elim (ℕ-discrete y x) [
+            | yes d ↦ none-here (λ f. z (ap (λ (r : ℕ). getD ws₀ r 0) d ∙ f)) j (rw d at s) (rw d at t)
+            | no d ↦
+                let t′ : j < endOf ws m (7 * m) y = rw (N .stops y c d) at t in
+                λ f. elim (ℕ-discrete j q) [
+                  | yes r ↦ d (sym (sought-own y q c (omega arith) (omega arith) from k) ∙ e)
+                  | no r ↦ T .none y j c u v z s t′ (omega arith) (sym (other-list y c d j (omega (arith, T .starts y c)) t′) ∙ f)
+                ]
+          ];
+          starts = λ y c. N .starts y c ∙ T .starts y c;
+          order = order-now;
+          upto = λ y c. omega (arith, upto-now y c, T .upto y c);
+          stops = λ y c s. N .stops y c (λ d. ⊎-elim (λ (w : y ≡ i). a (sym d ∙ w)) (λ (w : y ≡ n). b (sym d ∙ w)) s) ∙ T .stops y c s;
+          kept = λ j f. N .kept j (
+            f .table,
+            ⊎-elim (λ (w : j < startOf ws₀ m (7 * m) x). inl (omega (arith, T .starts x g))) (λ (w : endOf ws₀ m (7 * m) x ≤ j). inr (omega (arith, T .upto x g)))
+                (f .lists x g a b),
+          ) ∙ T .kept j f;
+        }
+
+      sought-go : (ws′ : List ℕ) → length ws′ ≡ length ws → Met m (o + (q - h)) i n old new ws ws′ → Sought m i n (q + 1) old new ws₀ ws′
+      sought-go ws′ l′ M = let z : q + 1 ≡ suc q = omega arith in rw z (elim (decLt (getD ws (o + (q - h)) 0) m) [
+        | yes g ↦ elim (ℕ-discrete (getD ws (o + (q - h)) 0) i) [
+          | yes a ↦ rw (M .passed g .skipped (inl a)) (stay (λ x _ c _ e. c (sym e ∙ a)))
+          | no a ↦ elim (ℕ-discrete (getD ws (o + (q - h)) 0) n) [
+            | yes b ↦ rw (M .passed g .skipped (inr b)) (stay (λ x _ _ c e. c (sym e ∙ b)))
+            | no b ↦ go-on (getD ws (o + (q - h)) 0) g a b refl ws′ l′ (M .passed g .renamed a b)
+          ]
+        ]
+        | no g ↦ rw (M .nobody (omega arith)) (stay (λ x c _ _ e. omega arith))
       ])
 
-pub swept-all : (m i n c old new : ℕ) (ws₀ ws : List ℕ) → c ≤ m → m ≤ c → Swept m i n c old new ws₀ ws → Swept m i n m old new ws₀ ws
-swept-all m i n c old new ws₀ ws h g W = let e : c ≡ m = omega arith in rw e at W
+-- a turn of the loop: old stands first at q + p, or nowhere before top
+module _ (m i n h o top q old new p : ℕ) (ws₀ ws : List ℕ) (S : Searched m i n h o top ws₀) (T : Sought m i n q old new ws₀ ws) (l : length ws ≡ length ws₀) (from : h ≤ q) (k : q < top)
+    (e : p ≡ place (take (top - q) (drop q ws)) old) (b : p ≤ length (take (top - q) (drop q ws))) where
+  next : Sought m i n (q + p) old new ws₀ ws
+  next = sought-next m i n h o top q old new ws₀ ws S T p e
+
+  pub turn-ends : q + p ≡ top → Swept m i n old new ws₀ ws
+  turn-ends d = sought-done m i n h o top (q + p) old new ws₀ ws S next (omega arith) l
+
+  module _ (d : q + p ≡ top → ⊥) where
+    pub turn-below : q + p < top
+    turn-below = omega (arith, length-take (top - q) (drop q ws))
+
+    pub turn-in : o + (q + p - h) < length ws
+    turn-in = omega (arith, turn-below, S .halves .into′, S .half)
+
+    pub turn-go : (old ≡ new → ⊥) → (ws′ : List ℕ) → length ws′ ≡ length ws → Met m (o + (q + p - h)) i n old new ws ws′ → Sought m i n (q + p + 1) old new ws₀ ws′
+    turn-go ne = sought-go m i n h o top (q + p) old new ws₀ ws S next l ne (omega arith) turn-below
+
+module _ (m i n old new : ℕ) (ws₀ ws : List ℕ) (R : Rows m ws₀) (W : Swept m i n old new ws₀ ws) where
+  pub swept-less : (x : ℕ) → x < m → endOf ws m (7 * m) x ≤ endOf ws₀ m (7 * m) x
+  swept-less x g = elim (ℕ-discrete x i) [
+    | yes a ↦ rw (W .stops x g (inl a)) (omega arith)
+    | no a ↦ elim (ℕ-discrete x n) [ yes b ↦ rw (W .stops x g (inr b)) (omega arith) | no b ↦ W .done x g a b .upto ]
+  ]
+
+  pub swept-apart : Apart m ws
+  swept-apart = shrunk-apart m ws₀ ws (R .apart) (W .starts) swept-less

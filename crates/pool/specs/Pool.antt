@@ -1,5 +1,6 @@
 -- The pool of neighbour lists: two halves of p numbers, at h and at o, with the lists in the half at h. A merge writes the joined list past all lists and
 -- renames the others where they are; where the half has no room for that, it writes all lists anew into the half at o, one after the other.
+-- So the half at o is free between merges: beside each place of a list, as far from o as the place is from h, stands the record whose list it is.
 -- All lists together fit a half, since a merge never lengthens their sum.
 use Prim.Native.Nat.{ℕ, _+_, _-_, _*_, _≤_, _<_}
 use mathlib.Core.Path.{_≡_}
@@ -10,6 +11,7 @@ use lib.Dec.{eqb}
 use Rattle.rules.specs.Base.{if_then_else_}
 use Rattle.rules.specs.Merge.{place, around, tidy}
 use Rattle.laws.specs.Sums.{sumTo}
+use Rattle.space.specs.Space.{Frame}
 use Rattle.table.specs.View.{part, startOf, endOf, listAt, Parts, Held}
 use Rattle.pool.specs.Part.{Clear, renamedList}
 
@@ -60,12 +62,17 @@ Beside ws m x y = (endOf ws m (7 * m) x ≤ startOf ws m (7 * m) y) ⊎ (endOf w
 pub record Apart (m : ℕ) (ws : List ℕ) : Type 0 where
   pub apart : (x y : ℕ) → x < m → y < m → (x ≡ y → ⊥) → Beside ws m x y
 
--- no list in the half at h goes past top, and the lists lie apart; with top at the half's end nothing is known of them
-pub record Laid (m p h top : ℕ) (ws : List ℕ) : Type 0 where
+-- beside a place before top that is in a list stands the list's record
+pub record Owned (m h o top : ℕ) (ws : List ℕ) : Type 0 where
+  pub own : (x q : ℕ) → x < m → startOf ws m (7 * m) x ≤ q → q < endOf ws m (7 * m) x → q < top → getD ws (o + (q - h)) 0 ≡ x
+
+-- no list in the half at h goes past top, the lists lie apart, and their records stand beside them; with top at the half's end nothing is known of them
+pub record Laid (m p h o top : ℕ) (ws : List ℕ) : Type 0 where
   pub from : h ≤ top
   pub upto : top ≤ h + p
   pub below : top < h + p → (x : ℕ) → x < m → endOf ws m (7 * m) x ≤ top
   pub apart : top < h + p → Apart m ws
+  pub owned : top < h + p → Owned m h o top ws
 
 -- neither in the table of lists nor from a up to z
 abbrev pub Outside : ℕ → ℕ → ℕ → ℕ → Type 0
@@ -142,23 +149,52 @@ pub record Passed (m x i n old new : ℕ) (ws ws′ : List ℕ) : Type 0 where
   pub skipped : (x ≡ i) ⊎ (x ≡ n) → ws′ ≡ ws
   pub renamed : (x ≡ i → ⊥) → (x ≡ n → ⊥) → Renamed m x old new ws ws′
 
+-- the record at s, if it is one
+pub record Met (m s i n old new : ℕ) (ws ws′ : List ℕ) : Type 0 where
+  pub nobody : m ≤ getD ws s 0 → ws′ ≡ ws
+  pub passed : getD ws s 0 < m → Passed m (getD ws s 0) i n old new ws ws′
+
 -- lists that can be renamed where they are
 pub record Rows (m : ℕ) (ws : List ℕ) : Type 0 where
   pub lists : Parts m (7 * m) ws
   pub far : (r : ℕ) → r < m → 11 * m ≤ startOf ws m (7 * m) r
   pub apart : Apart m ws
 
--- neither in the table of lists nor in the list of a record before c other than i and n
-pub record Free (m i n c j : ℕ) (ws : List ℕ) : Type 0 where
-  pub table : (j < 7 * m) ⊎ (11 * m ≤ j)
-  pub lists : (x : ℕ) → x < c → (x ≡ i → ⊥) → (x ≡ n → ⊥) → (j < startOf ws m (7 * m) x) ⊎ (endOf ws m (7 * m) x ≤ j)
+-- what a search through h .. top needs: the lists of all records but i and n are there, with their records beside them
+pub record Searched (m i n h o top : ℕ) (ws : List ℕ) : Type 0 where
+  pub rows : Rows m ws
+  pub p : ℕ
+  pub halves : Halves m p h o ws
+  pub order : h ≤ top
+  pub half : top ≤ h + p
+  pub from : (x : ℕ) → x < m → (x ≡ i → ⊥) → (x ≡ n → ⊥) → h ≤ startOf ws m (7 * m) x
+  pub upto : (x : ℕ) → x < m → (x ≡ i → ⊥) → (x ≡ n → ⊥) → endOf ws m (7 * m) x ≤ top
+  pub owned : Owned m h o top ws
 
--- the records before c are renamed where they are, but i and n
-pub record Swept (m i n c old new : ℕ) (ws ws′ : List ℕ) : Type 0 where
-  pub done : (x : ℕ) → x < c → (x ≡ i → ⊥) → (x ≡ n → ⊥) → Shrunk m x old new ws ws′
+-- neither in the table of lists nor in the list of a record other than i and n
+pub record Free (m i n j : ℕ) (ws : List ℕ) : Type 0 where
+  pub table : (j < 7 * m) ⊎ (11 * m ≤ j)
+  pub lists : (x : ℕ) → x < m → (x ≡ i → ⊥) → (x ≡ n → ⊥) → (j < startOf ws m (7 * m) x) ⊎ (endOf ws m (7 * m) x ≤ j)
+
+-- all records but i and n are renamed where they are
+pub record Swept (m i n old new : ℕ) (ws ws′ : List ℕ) : Type 0 where
+  pub done : (x : ℕ) → x < m → (x ≡ i → ⊥) → (x ≡ n → ⊥) → Shrunk m x old new ws ws′
   pub starts : (x : ℕ) → x < m → startOf ws′ m (7 * m) x ≡ startOf ws m (7 * m) x
-  pub stops : (x : ℕ) → x < m → (c ≤ x) ⊎ ((x ≡ i) ⊎ (x ≡ n)) → endOf ws′ m (7 * m) x ≡ endOf ws m (7 * m) x
-  pub kept : (j : ℕ) → Free m i n c j ws → getD ws′ j 0 ≡ getD ws j 0
+  pub stops : (x : ℕ) → x < m → (x ≡ i) ⊎ (x ≡ n) → endOf ws′ m (7 * m) x ≡ endOf ws m (7 * m) x
+  pub kept : (j : ℕ) → Free m i n j ws → getD ws′ j 0 ≡ getD ws j 0
+
+-- x stands beside the places a .. e of the half at h
+pub record Marked (h o a e x : ℕ) (ws ws′ : List ℕ) : Type 0 where
+  pub each : (q : ℕ) → a ≤ q → q < e → getD ws′ (o + (q - h)) 0 ≡ x
+  pub kept : Frame (o + (a - h)) (o + (e - h)) ws ws′
+
+-- all lists stand in the half at h, and lie apart
+pub record Standing (m p h o : ℕ) (ws : List ℕ) : Type 0 where
+  pub few : m < 32768
+  pub rows : Rows m ws
+  pub halves : Halves m p h o ws
+  pub from : (x : ℕ) → x < m → h ≤ startOf ws m (7 * m) x
+  pub upto : (x : ℕ) → x < m → endOf ws m (7 * m) x ≤ h + p
 
 -- two records, and where each lists the other
 pub record Pair (m n k i j : ℕ) (ws : List ℕ) : Type 0 where
@@ -199,8 +235,8 @@ pub record Absorbed (m n k i j old new to z e : ℕ) (ws ws′ : List ℕ) : Typ
 abbrev pub Turned : ℕ → ℕ → ℕ → ℕ → Type 0
 Turned h o b c = ((b ≡ h) × (c ≡ o)) ⊎ ((b ≡ o) × (c ≡ h))
 
--- all lists stand in the half at b
-pub record Relisted (m p n k i j old new b : ℕ) (ws ws′ : List ℕ) : Type 0 where
+-- all lists stand in the half at b; the one at c is free
+pub record Relisted (m p n k i j old new b c : ℕ) (ws ws′ : List ℕ) : Type 0 where
   pub joined : listAt ws′ m (7 * m) n ≡ joinedList (listAt ws m (7 * m) n) (listAt ws m (7 * m) i) k j old new
   pub bare : listAt ws′ m (7 * m) i ≡ []
   pub others : (x : ℕ) → x < m → (x ≡ i → ⊥) → (x ≡ n → ⊥) → listAt ws′ m (7 * m) x ≡ newList old new (getD ws x 0) (listAt ws m (7 * m) x)
@@ -208,12 +244,13 @@ pub record Relisted (m p n k i j old new b : ℕ) (ws ws′ : List ℕ) : Type 0
   pub from : (x : ℕ) → x < m → b ≤ startOf ws′ m (7 * m) x
   pub upto : (x : ℕ) → x < m → endOf ws′ m (7 * m) x ≤ b + p
   pub room : sumTo (lenAt ws′ m) m ≤ p
-  pub kept : (y : ℕ) → Outside m b (b + p) y → getD ws′ y 0 ≡ getD ws y 0
+  pub kept : (y : ℕ) → Outside m b (b + p) y → (y < c) ⊎ (c + p ≤ y) → getD ws′ y 0 ≡ getD ws y 0
 
--- record i is live and lists the live record n first at j, and n lists i first at k
+-- record i is live and lists the live record n first at j, and n lists i first at k; i's id is not n
 pub record Listed (m n k i j : ℕ) (ws : List ℕ) : Type 0 where
   pub pair : Pair m n k i j ws
   pub live : getD ws i 0 ≡ 0 → ⊥
   pub live′ : getD ws n 0 ≡ 0 → ⊥
+  pub other : getD ws i 0 ≡ n → ⊥
   pub first : k ≡ place (listAt ws m (7 * m) n) (getD ws i 0)
   pub first′ : j ≡ place (listAt ws m (7 * m) i) (getD ws n 0)

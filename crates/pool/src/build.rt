@@ -1,7 +1,7 @@
 // New lists, written beside the old ones.
-use crate::lists::place;
 use crate::lists::remove_adjacent_neighbours;
 use crate::lists::swap;
+use table::place;
 ghost use mathlib.Core.Path.{_≡_};
 ghost use mathlib.Core.List.{_++_};
 ghost use Prim.Native.Nat.{_+_, _-_, _≤_, _<_};

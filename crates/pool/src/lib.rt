@@ -3,12 +3,12 @@ mod absorb;
 mod build;
 mod carry;
 mod lists;
+mod own;
 mod regions;
 mod relist;
 mod rename;
 
 pub use crate::lists::many;
-pub use crate::lists::place;
 pub use crate::regions::merge_regions;
 pub use crate::relist::Half;
 pub use crate::relist::len_of;

@@ -2,11 +2,11 @@
 ghost use mathlib.Core.Path.{_≡_};
 ghost use mathlib.Core.List.{_++_, map};
 ghost use Prim.Native.Nat.{suc, _+_, _≤_, _<_};
-ghost use lib.ListN.{length, take, drop};
+ghost use lib.ListN.{length, take, drop, replicate};
 ghost use lib.Dec.{eqb};
 ghost use Rattle.rules.specs.Base.{many, if_then_else_};
 ghost use Rattle.rules.specs.Contour.{trim};
-ghost use Rattle.rules.specs.Merge.{tidy, place};
+ghost use Rattle.rules.specs.Merge.{tidy};
 ghost use Rattle.laws.specs.Squeeze.{squeeze};
 ghost use Rattle.pool.specs.Lists.{again, swapOne};
 
@@ -74,21 +74,6 @@ pub(crate) fn remove_adjacent_neighbours(l: &mut [u16]) -> usize
     trim(l, k)
 }
 
-// The place of the first entry r, or how many there are.
-pub fn place(l: &[u16], r: u16) -> usize
-    ensures { λ p. ⌜ p ≡ place (now (l .entry)) r ⌝ }
-    ensures { λ p. ⌜ p ≤ length (now (l .entry)) ⌝ }
-{
-    let mut i = 0;
-    while i < l.len() {
-        if l[i] == r {
-            return i;
-        }
-        i += 1;
-    }
-    i
-}
-
 // One more if x is r.
 fn count_one(k: usize, r: u16, x: u16) -> usize
     requires { ⌜ k < 18446744073709551615 ⌝ }
@@ -132,4 +117,15 @@ fn swap_one(r: u16, old: u16, new: u16) -> u16
         return new;
     }
     r
+}
+
+// Every entry becomes v.
+pub(crate) fn fill(l: &mut [u16], v: u16)
+    ensures { λ _. ⌜ now (l .exit) ≡ replicate (length (now (l .entry))) v ⌝ }
+{
+    let mut i = 0;
+    while i < l.len() {
+        l[i] = v;
+        i += 1;
+    }
 }

@@ -35,11 +35,11 @@ pub fn merge_regions(
     top: usize,
 ) -> Half
     requires { ⌜ Pool m p h o (now ws) ⌝ }
-    requires { ⌜ Laid m p h top (now ws) ⌝ }
+    requires { ⌜ Laid m p h o top (now ws) ⌝ }
     requires { ⌜ Listed m n k i j (now ws) ⌝ }
     ensures { λ _. ⌜ recsOf (now (ws .exit)) m ≡ mergedPair (recsOf (now (ws .entry)) m) i (getD (now (ws .entry)) i 0) n ⌝ }
     ensures { λ r. ⌜ Pool m p (r .now) (r .other) (now (ws .exit)) ⌝ }
-    ensures { λ r. ⌜ Laid m p (r .now) (r .top) (now (ws .exit)) ⌝ }
+    ensures { λ r. ⌜ Laid m p (r .now) (r .other) (r .top) (now (ws .exit)) ⌝ }
 {
     let old = ws[i];
     let new = n as u16;

@@ -1,6 +1,8 @@
 // All lists after a merge. They stay where they are while there is room past them for the joined one; otherwise all go to the other half of the pool.
 use crate::absorb::absorb;
 use crate::carry::carry_all;
+use crate::own::own_all;
+use crate::own::own_part;
 use crate::rename::rename_all;
 use table::end_of;
 use table::start_of;
@@ -42,11 +44,13 @@ fn relist_there(
 ) -> usize
     requires { ⌜ Pool m p h o (now ws) ⌝ }
     requires { ⌜ Pair m n k i j (now ws) ⌝ }
-    ensures { λ _. ⌜ Relisted m p n k i j old new o (now (ws .entry)) (now (ws .exit)) ⌝ }
-    ensures { λ e. ⌜ Laid m p o e (now (ws .exit)) ⌝ }
+    ensures { λ _. ⌜ Relisted m p n k i j old new o h (now (ws .entry)) (now (ws .exit)) ⌝ }
+    ensures { λ r. ⌜ Laid m p o h r (now (ws .exit)) ⌝ }
 {
     let e = absorb(ws, m, n, k, i, j, old, new, o, o + p);
-    carry_all(ws, m, i, n, old, new, e, o + p)
+    let r = carry_all(ws, m, i, n, old, new, e, o + p);
+    own_all(ws, m, o, h, p);
+    r
 }
 
 // The joined list at `top`, the others renamed where they are. Gives where the joined list ends.
@@ -65,14 +69,16 @@ fn relist_here(
     top: usize,
 ) -> usize
     requires { ⌜ Pool m p h o (now ws) ⌝ }
-    requires { ⌜ Laid m p h top (now ws) ⌝ }
+    requires { ⌜ Laid m p h o top (now ws) ⌝ }
     requires { ⌜ Pair m n k i j (now ws) ⌝ }
+    requires { ⌜ (old ≡ new → ⊥) ⌝ }
     requires { ⌜ lenAt (now ws) m n + lenAt (now ws) m i ≤ h + p - top ⌝ }
-    ensures { λ _. ⌜ Relisted m p n k i j old new h (now (ws .entry)) (now (ws .exit)) ⌝ }
-    ensures { λ e. ⌜ Laid m p h e (now (ws .exit)) ⌝ }
+    ensures { λ _. ⌜ Relisted m p n k i j old new h o (now (ws .entry)) (now (ws .exit)) ⌝ }
+    ensures { λ e. ⌜ Laid m p h o e (now (ws .exit)) ⌝ }
 {
     let e = absorb(ws, m, n, k, i, j, old, new, top, h + p);
-    rename_all(ws, m, i, n, old, new);
+    rename_all(ws, m, i, n, h, o, top, old, new);
+    own_part(ws, h, o, top, e, n);
     e
 }
 
@@ -92,11 +98,12 @@ pub(crate) fn relist(
     top: usize,
 ) -> Half
     requires { ⌜ Pool m p h o (now ws) ⌝ }
-    requires { ⌜ Laid m p h top (now ws) ⌝ }
+    requires { ⌜ Laid m p h o top (now ws) ⌝ }
     requires { ⌜ Pair m n k i j (now ws) ⌝ }
+    requires { ⌜ (old ≡ new → ⊥) ⌝ }
     ensures { λ r. ⌜ Turned h o (r .now) (r .other) ⌝ }
-    ensures { λ r. ⌜ Relisted m p n k i j old new (r .now) (now (ws .entry)) (now (ws .exit)) ⌝ }
-    ensures { λ r. ⌜ Laid m p (r .now) (r .top) (now (ws .exit)) ⌝ }
+    ensures { λ r. ⌜ Relisted m p n k i j old new (r .now) (r .other) (now (ws .entry)) (now (ws .exit)) ⌝ }
+    ensures { λ r. ⌜ Laid m p (r .now) (r .other) (r .top) (now (ws .exit)) ⌝ }
 {
     let both = len_of(ws, m, n) + len_of(ws, m, i);
     if both <= h + p - top {

@@ -1,13 +1,15 @@
 // Lists that are renamed where they are.
 use crate::build::replace_neighbour;
+use table::at;
 use table::end_of;
+use table::place;
 use table::set_part;
 use table::start_of;
 ghost use mathlib.Core.Path.{_≡_};
 ghost use Prim.Native.Nat.{_*_, _≤_, _<_};
-ghost use lib.ListN.{getD};
+ghost use lib.ListN.{length, getD};
 ghost use Rattle.table.specs.View.{startOf, Parts};
-ghost use Rattle.pool.specs.Pool.{Renamed, Passed, Rows, Swept};
+ghost use Rattle.pool.specs.Pool.{Renamed, Passed, Met, Rows, Searched, Swept};
 
 // In the list of record x, which is live, every old becomes new. The table is written only if the list ends elsewhere now.
 fn rename_list(ws: &mut [u16], m: usize, x: usize, old: u16, new: u16)
@@ -45,14 +47,42 @@ fn rename_one(ws: &mut [u16], m: usize, x: usize, i: usize, n: usize, old: u16, 
     rename_list(ws, m, x, old, new);
 }
 
-// All records but i and n.
-pub(crate) fn rename_all(ws: &mut [u16], m: usize, i: usize, n: usize, old: u16, new: u16)
+// The same, of the record at s. Beside a place that is in no list anything can stand.
+fn rename_at(ws: &mut [u16], m: usize, s: usize, i: usize, n: usize, old: u16, new: u16)
     requires { ⌜ Rows m (now ws) ⌝ }
-    ensures { λ _. ⌜ Swept m i n m old new (now (ws .entry)) (now (ws .exit)) ⌝ }
+    requires { ⌜ s < length (now ws) ⌝ }
+    ensures { λ _. ⌜ Met m s i n old new (now (ws .entry)) (now (ws .exit)) ⌝ }
 {
-    let mut x = 0;
-    while x < m {
-        rename_one(ws, m, x, i, n, old, new);
-        x += 1;
+    let x = at(ws, s);
+    if m <= x {
+        return;
+    }
+    rename_one(ws, m, x, i, n, old, new);
+}
+
+// All records but i and n. Few of them list old, so it is looked for in h .. top, and the record is the one that stands beside it, in the half at o.
+pub(crate) fn rename_all(
+    ws: &mut [u16],
+    m: usize,
+    i: usize,
+    n: usize,
+    h: usize,
+    o: usize,
+    top: usize,
+    old: u16,
+    new: u16,
+)
+    requires { ⌜ Searched m i n h o top (now ws) ⌝ }
+    requires { ⌜ (old ≡ new → ⊥) ⌝ }
+    ensures { λ _. ⌜ Swept m i n old new (now (ws .entry)) (now (ws .exit)) ⌝ }
+{
+    let mut q = h;
+    while q < top {
+        q += place(&ws[q..top], old);
+        if q == top {
+            return;
+        }
+        rename_at(ws, m, o + (q - h), i, n, old, new);
+        q += 1;
     }
 }

@@ -11,7 +11,7 @@ use Rattle.merge.proofs.merge.merge_all.Statement.{statement}
 use Rattle.merge.proofs.merge.merge_all.Tie as tie
 
 abbrev Inv-loop : tie.InvT-loop
-Inv-loop ws₀ m p area h o now₀ other₀ top₀ ws now other top = (length ws ≡ length ws₀) × Pool m p now other ws × Rounds area m ws₀ ws × Laid m p now top ws
+Inv-loop ws₀ m p area h o now₀ other₀ top₀ ws now other top = (length ws ≡ length ws₀) × Pool m p now other ws × Rounds area m ws₀ ws × Laid m p now other top ws
 
 abbrev μ-loop : tie.MeasureT-loop
 μ-loop ws₀ m p area h o now₀ other₀ top₀ ws now other top = owners m (recsOf ws m)

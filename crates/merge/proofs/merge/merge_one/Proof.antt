@@ -1,4 +1,5 @@
 -- `merge::merge::merge_one` meets its contract. By cases, in the rule's order. The picked neighbour bears its own number (`Reps`), so it is another record, and live.
+use mathlib.Core.Path.{sym}
 use Rattle.merge.proofs.TurnLaws.{one-not, one-own, one-tried, turn-apart, turn-live, turn-live-2}
 use borrow.Author.Needs.{needs}
 use Rattle.merge.proofs.merge.merge_one.Statement.{statement}
@@ -12,12 +13,6 @@ same-length c = search needs
 
 returns : tie.Need-returns
 returns c = (one-not _ _ _ _ _ _ _ (c .before .before .before .before .pre .0) (c .before .before .before .before .pre .1 .1 .0) _ _ (c .before .may-merge .ensures) (c .if1 .left), (c .before .before .before .before .pre .0, (search needs, c .before .before .before .before .pre .1 .1 .1 .1)))
-
-mul-pick : tie.Need-mul-pick
-mul-pick c = search needs
-
-mul-pick-2 : tie.Need-mul-pick-2
-mul-pick-2 c = search needs
 
 pick-requires : tie.Need-pick-requires
 pick-requires c κs = search needs
@@ -38,7 +33,7 @@ cast-try-merge : tie.Need-cast-try-merge
 cast-try-merge c = search needs
 
 try-merge-requires : tie.Need-try-merge-requires
-try-merge-requires c κs = (c .before .before .before .before .before .before .before .before .before .pre .0, (c .before .before .before .before .before .before .before .before .before .pre .1 .1 .0, (c .before .before .before .pick .ensures .1, (turn-apart _ _ _ _ _ _ _ (c .before .before .before .before .before .before .before .before .before .pre .0) (c .before .before .before .before .before .before .before .before .before .pre .1 .1 .0) (c .before .before .before .before .before .before .before .before .before .args .g .merges) _ (c .before .before .before .before .before .before .may-merge .ensures) (c .before .before .before .before .before .if1 .taken) _ _ (c .before .before .before .pick .ensures .0) (c .before .before .before .before .before .before .before .before .before .pre .1 .0) (c .before .if2 .left), (turn-live _ _ _ _ _ _ _ (c .before .before .before .before .before .before .before .before .before .pre .0) (c .before .before .before .before .before .before .before .before .before .pre .1 .1 .0) (c .before .before .before .before .before .before .before .before .before .args .g .merges) _ (c .before .before .before .before .before .before .may-merge .ensures) (c .before .before .before .before .before .if1 .taken) _ _ (c .before .before .before .pick .ensures .0) (c .before .before .before .before .before .before .before .before .before .pre .1 .0) (c .before .if2 .left), (turn-live-2 _ _ _ _ _ _ _ (c .before .before .before .before .before .before .before .before .before .pre .0) (c .before .before .before .before .before .before .before .before .before .pre .1 .1 .0) (c .before .before .before .before .before .before .before .before .before .args .g .merges) _ (c .before .before .before .before .before .before .may-merge .ensures) (c .before .before .before .before .before .if1 .taken) _ _ (c .before .before .before .pick .ensures .0) (c .before .before .before .before .before .before .before .before .before .pre .1 .0) (c .before .if2 .left) (c .before .before .before .pick .ensures .1), (c .before .before .before .before .before .before .before .before .before .pre .1 .1 .1 .0, c .before .before .before .before .before .before .before .before .before .pre .1 .1 .1 .1)))))))
+try-merge-requires c κs = (c .before .before .before .before .before .before .before .before .before .pre .0, (c .before .before .before .before .before .before .before .before .before .pre .1 .1 .0, (c .before .before .before .pick .ensures .1, (turn-apart _ _ _ _ _ _ _ (c .before .before .before .before .before .before .before .before .before .pre .0) (c .before .before .before .before .before .before .before .before .before .pre .1 .1 .0) (c .before .before .before .before .before .before .before .before .before .args .g .merges) _ (c .before .before .before .before .before .before .may-merge .ensures) (c .before .before .before .before .before .if1 .taken) _ _ (c .before .before .before .pick .ensures .0) (c .before .before .before .before .before .before .before .before .before .pre .1 .0) (c .before .if2 .left), (turn-live _ _ _ _ _ _ _ (c .before .before .before .before .before .before .before .before .before .pre .0) (c .before .before .before .before .before .before .before .before .before .pre .1 .1 .0) (c .before .before .before .before .before .before .before .before .before .args .g .merges) _ (c .before .before .before .before .before .before .may-merge .ensures) (c .before .before .before .before .before .if1 .taken) _ _ (c .before .before .before .pick .ensures .0) (c .before .before .before .before .before .before .before .before .before .pre .1 .0) (c .before .if2 .left), (turn-live-2 _ _ _ _ _ _ _ (c .before .before .before .before .before .before .before .before .before .pre .0) (c .before .before .before .before .before .before .before .before .before .pre .1 .1 .0) (c .before .before .before .before .before .before .before .before .before .args .g .merges) _ (c .before .before .before .before .before .before .may-merge .ensures) (c .before .before .before .before .before .if1 .taken) _ _ (c .before .before .before .pick .ensures .0) (c .before .before .before .before .before .before .before .before .before .pre .1 .0) (c .before .if2 .left) (c .before .before .before .pick .ensures .1), ((λ e. c .before .if2 .left (sym e)), (c .before .before .before .before .before .before .before .before .before .pre .1 .1 .1 .0, c .before .before .before .before .before .before .before .before .before .pre .1 .1 .1 .1))))))))
 
 same-length-3 : tie.Need-same-length-3
 same-length-3 c = search needs
@@ -53,8 +48,6 @@ merge-one-spec =
     may-merge-requires
     same-length
     returns
-    mul-pick
-    mul-pick-2
     pick-requires
     mul-if2
     slice-read-if2

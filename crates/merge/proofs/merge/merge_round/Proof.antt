@@ -17,7 +17,7 @@ use Rattle.merge.proofs.merge.merge_round.Tie as tie
 abbrev Inv-loop : tie.InvT-loop
 Inv-loop ws₀ m p area h o top g₀ i₀ ws g i = (i ≤ m) × (length ws ≡ length ws₀) × (g .merges ≤ i) × Pool m p (g .now) (g .other) ws
     × (_≡_ {A = Merge} (record { recs = recsOf ws m; merges = g .merges }) (upto i (mergeOneF area) (record { recs = recsOf ws₀ m; merges = 0 })))
-    × Laid m p (g .now) (g .top) ws
+    × Laid m p (g .now) (g .other) (g .top) ws
 
 abbrev μ-loop : tie.MeasureT-loop
 μ-loop ws₀ m p area h o top g₀ i₀ ws g i = m - i

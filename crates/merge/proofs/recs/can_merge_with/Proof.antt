@@ -31,6 +31,9 @@ shared-slice-read-if1-2 c = search needs
 returns : tie.Need-returns
 returns c = search suits-area
 
+mul-list-of : tie.Need-mul-list-of
+mul-list-of c = search needs
+
 list-of-requires : tie.Need-list-of-requires
 list-of-requires c κs = search needs
 
@@ -80,6 +83,7 @@ can-merge-with-spec =
     mul-if1-4
     shared-slice-read-if1-2
     returns
+    mul-list-of
     list-of-requires
     mul-many
     shared-slice-read-many

@@ -15,7 +15,7 @@ cast-new : tie.Need-cast-new
 cast-new c = search needs
 
 relist-requires : tie.Need-relist-requires
-relist-requires c κs = search needs
+relist-requires c κs = (search needs, (search needs, (search needs, search needs)))
 
 recount-requires : tie.Need-recount-requires
 recount-requires c κs = (search columns-in, (search needs, (search needs, search spans-fit)))

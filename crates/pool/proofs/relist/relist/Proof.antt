@@ -22,7 +22,7 @@ sub-if1 : tie.Need-sub-if1
 sub-if1 c = search needs
 
 relist-here-requires : tie.Need-relist-here-requires
-relist-here-requires c κs = (search needs, (search needs, (search needs, both-fit _ _ _ _ _ _ _ (c .before .before .before .before .len-of .ensures .0) (c .before .before .len-of2 .ensures .0) (c .before .if1 .taken))))
+relist-here-requires c κs = (search needs, (search needs, (search needs, (search needs, both-fit _ _ _ _ _ _ _ (c .before .before .before .before .len-of .ensures .0) (c .before .before .len-of2 .ensures .0) (c .before .if1 .taken)))))
 
 same-length : tie.Need-same-length
 same-length c = search needs

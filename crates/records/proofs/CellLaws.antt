@@ -2,53 +2,57 @@
 -- The loops go by "what is left says what all say"; a list of the first len entries grows by one at its end.
 use Prim.Native.Nat.{ℕ, zero, suc, _+_, _-_, _≤_, _<_}
 use native.Mathlib.Omega.{arith}
+use native.Mathlib.Decide.{ℕ-discrete}
 use native.Mathlib.Numerals.{add-one}
-use mathlib.Core.Path.{_≡_, refl, sym, _∙_}
+use mathlib.Core.Path.{_≡_, refl, sym, ap, _∙_}
 use mathlib.Core.Bool.{Bool, true, false, not, false≢true}
 use mathlib.Core.List.{List, [], _∷_, map}
-use lib.ListN.{length, getD, set, take, length-set, length-take}
-use lib.Seq.{drop-cons, getD-take, take-suc-set}
-use lib.Dec.{eqb}
+use lib.ListN.{length, getD, set, take, drop, length-set, length-take}
+use lib.Seq.{getD-take, take-suc-set}
+use lib.Dec.{eqb, leb·suc-suc}
 use borrow.Author.Tests.{eqb-true, eq-eqb, ne-eqb, lt-ltb, le-ltb}
 use Rattle.rules.specs.Base.{_and_, _or_, if_then_else_, keep, tab, any}
 use Rattle.rules.specs.Growth.{plain}
+use Rattle.rules.specs.Merge.{place}
 use Rattle.rules.specs.Records.{has, once}
-use Rattle.laws.proofs.Basics.{if-ind}
-use Rattle.space.specs.Space.{sec}
+use Rattle.laws.proofs.Basics.{if-ind, or-right, or-no, or-yes, or-swap}
+use Rattle.table.proofs.SearchLaws.{has-cons, place-other, place-first}
 use Rattle.records.specs.Cell.{twin, twins, othersFrom, joinOne, Found, Joined}
 
 -- ---------------------------------------------------------------- the own id
 
-pub twin-same : (ids : List ℕ) (t s own : ℕ) → t ≡ s → false ≡ twin ids t s own
-unfolding twin _and_
-twin-same ids t s own e = rw (eq-eqb t s e)
+module _ (ids : List ℕ) (t s own : ℕ) (b : Bool) where
+  pub met-self : t ≡ s → b ≡ b or twin ids t s own
+  unfolding twin _and_
+  met-self e = rw (eq-eqb t s e) (sym (or-no b))
 
-pub twin-other : (ids : List ℕ) (t s own : ℕ) → (t ≡ s → ⊥) → eqb own (getD ids t 0) ≡ twin ids t s own
-unfolding twin _and_
-twin-other ids t s own e = rw (ne-eqb t s e)
+  pub met-now : (t ≡ s → ⊥) → own ≡ getD ids t 0 → true ≡ b or twin ids t s own
+  unfolding twin _and_
+  met-now e q = rw (ne-eqb t s e) (sym (or-right b _ (eq-eqb own (getD ids t 0) q)))
 
-pub twins-start : (ids : List ℕ) (s own size t : ℕ) → twins ids s own size t ≡ twins ids s own (size - 0) (t + 0)
-twins-start ids s own size t = let a : t + 0 ≡ t = omega arith in let b : size - 0 ≡ size = omega arith in rw (a, b)
+  pub met-not : (t ≡ s → ⊥) → (own ≡ getD ids t 0 → ⊥) → b ≡ b or twin ids t s own
+  unfolding twin _and_
+  met-not e q = rw (ne-eqb t s e) (sym (ap (λ c. b or c) (ne-eqb own (getD ids t 0) q) ∙ or-no b))
 
-module _ (ids : List ℕ) (s own size t j : ℕ) (h : j ≤ size) (e : twins ids s own size t ≡ twins ids s own (size - j) (t + j)) where
-  pub twins-end : size ≤ j → false ≡ twins ids s own size t
+pub twins-start : (ids : List ℕ) (s own size t : ℕ) → false or twins ids s own (size - 0) (t + 0) ≡ twins ids s own size t
+unfolding _or_
+twins-start ids s own size t = let a : t + 0 ≡ t = omega arith in let b : size - 0 ≡ size = omega arith in rw (a, b) refl
+
+module _ (ids : List ℕ) (s own size t j : ℕ) (b : Bool) (e : b or twins ids s own (size - j) (t + j) ≡ twins ids s own size t) where
+  pub twins-end : size ≤ j → b ≡ twins ids s own size t
   unfolding twins
-  twins-end g = let q : size - j ≡ 0 = omega arith in sym (e ∙ rw q)
+  twins-end g =
+      let q : size - j ≡ 0 = omega arith in
+      let z : twins ids s own (size - j) (t + j) ≡ false = rw q refl in
+      sym (or-no b) ∙ sym (ap (λ x. b or x) z) ∙ e
 
-  module _ (g : j < size) (b : Bool) (f : b ≡ twin ids (t + j) s own) where
-    fuel : size - j ≡ suc (size - (j + 1))
-    fuel = omega arith
-
-    pub twins-found : b ≡ true → true ≡ twins ids s own size t
-    unfolding twins _or_
-    twins-found z = let q : twin ids (t + j) s own ≡ true = sym f ∙ z in sym (e ∙ rw (fuel, q))
-
-    pub twins-more : b ≡ false → twins ids s own size t ≡ twins ids s own (size - (j + 1)) (t + (j + 1))
-    unfolding twins _or_
-    twins-more z =
-        let q : twin ids (t + j) s own ≡ false = sym f ∙ z in
-        let a : t + (j + 1) ≡ t + j + 1 = omega arith in
-        e ∙ rw (fuel, q, a)
+  pub twins-go : (c : Bool) → j < size → c ≡ b or twin ids (t + j) s own → c or twins ids s own (size - (j + 1)) (t + (j + 1)) ≡ twins ids s own size t
+  unfolding twins
+  twins-go c g q =
+      let f : size - j ≡ suc (size - (j + 1)) = omega arith in
+      let a : t + (j + 1) ≡ t + j + 1 = omega arith in
+      let z : twins ids s own (size - j) (t + j) ≡ twin ids (t + j) s own or twins ids s own (size - (j + 1)) (t + (j + 1)) = rw (f, a) refl in
+      ap (λ x. x or twins ids s own (size - (j + 1)) (t + (j + 1))) q ∙ or-swap b _ _ ∙ sym (ap (λ x. b or x) z) ∙ e
 
 -- a span alone in its cell
 pub twins-alone : (ids : List ℕ) (s own : ℕ) → twins ids s own 1 s ≡ false
@@ -79,21 +83,11 @@ module _ (ids : List ℕ) (s own : ℕ) (pl : plain own ≡ true) where
 
 -- ---------------------------------------------------------------- where it is listed
 
-sec-cons : (l : List ℕ) (i n : ℕ) → i < n → n ≤ length l → sec i (n - i) l ≡ getD l i 0 ∷ sec (i + 1) (n - (i + 1)) l
-sec-cons l i n h g =
-    let q : n - i ≡ suc (n - (i + 1)) = omega arith in
-    rw (q, drop-cons l i 0 (omega arith), add-one i) refl
-
-pub or-true : (b : Bool) → b or true ≡ true
-unfolding _or_
-or-true true = refl
-or-true false = refl
-
 any-at : (r : ℕ) (l : List ℕ) (i : ℕ) → i < length l → r ≡ getD l i 0 → any (eqb r) l ≡ true
 unfolding any _or_
 any-at r [] i h e = absurd (omega arith)
 any-at r (x ∷ l) zero h e = rw (eq-eqb r x e)
-any-at r (x ∷ l) (suc i) h e = rw (any-at r l i (omega arith) e) (or-true (eqb r x))
+any-at r (x ∷ l) (suc i) h e = rw (any-at r l i (omega arith) e) (or-yes (eqb r x))
 
 -- wherever r stands among the first n
 pub found-here : (l : List ℕ) (n r i : ℕ) → n ≤ length l → i < n → r ≡ getD l i 0 → Found l n r i
@@ -101,19 +95,21 @@ found-here l n r i h g z =
     let long : i < length (take n l) = simp length-take (omega arith) in
     record { low = omega arith; here = λ _. z; there = lt-ltb i n g ∙ sym (any-at r (take n l) i long (z ∙ sym (getD-take n l i 0 g))) }
 
-module _ (l : List ℕ) (n r i : ℕ) (h : n ≤ length l) (k : i ≤ n) (e : any (eqb r) (take n l) ≡ any (eqb r) (sec i (n - i) l)) where
-  pub found-none : n ≤ i → Found l n r n
-  unfolding any
-  found-none g =
-      let q : n - i ≡ 0 = omega arith in
-      record { low = omega arith; here = λ x. absurd (omega arith); there = le-ltb n n (omega arith) ∙ sym (e ∙ rw q) }
+-- the first place is one where r stands, or past all entries
+place-found : (n : ℕ) (l : List ℕ) (r : ℕ) → n ≤ length l → Found l n r (place (take n l) r)
+unfolding place any
+place-found zero l r h = record { low = omega arith; here = λ g. absurd (omega arith); there = le-ltb 0 0 (omega arith) }
+place-found (suc n) [] r h = absurd (omega arith)
+place-found (suc n) (x ∷ l) r h =
+    elim (ℕ-discrete x r) [
+      | yes q ↦ rw (place-first x (take n l) r q) (found-here (x ∷ l) (suc n) r 0 h (omega arith) (sym q))
+      | no q ↦ (let f = place-found n l r (omega arith) in
+          rw (place-other x (take n l) r q) (record { low = omega (arith, f .low); here = λ g. f .here (omega arith); there = leb·suc-suc (suc (place (take n l) r)) n ∙ f .there ∙ sym (has-cons x (take n l) r q) }))
+    ]
 
-  pub has-more : i < n → (r ≡ getD l i 0 → ⊥) → any (eqb r) (take n l) ≡ any (eqb r) (sec (i + 1) (n - (i + 1)) l)
-  unfolding any _or_
-  has-more g z = e ∙ rw (sec-cons l i n g h, ne-eqb r (getD l i 0) z)
-
-pub has-start : (l : List ℕ) (n r : ℕ) → any (eqb r) (take n l) ≡ any (eqb r) (sec 0 (n - 0) l)
-has-start l n r = let q : n - 0 ≡ n = omega arith in rw q
+-- the same of the first n as they are lent
+pub found-place : (l : List ℕ) (n r p : ℕ) → n ≤ length l → p ≡ place (take (n - 0) (drop 0 l)) r → Found l n r p
+found-place l n r p h e = let z : n - 0 ≡ n = omega arith in rw (e, z) (place-found n l r h)
 
 -- ---------------------------------------------------------------- one joins
 

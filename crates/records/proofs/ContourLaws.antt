@@ -2,8 +2,8 @@
 -- And a span's count, overlap and floors, one after the other.
 use Prim.Native.Nat.{ℕ, suc, _+_, _*_, _-_, _≤_, _<_}
 use native.Mathlib.Omega.{arith}
-use mathlib.Core.Path.{_≡_, sym, ap, _∙_}
-use mathlib.Core.Bool.{true, false}
+use mathlib.Core.Path.{_≡_, refl, sym, ap, _∙_}
+use mathlib.Core.Bool.{Bool, true, false}
 use mathlib.Core.List.{List}
 use lib.ListN.{length, getD, set}
 use lib.Seq.{getD-set-same}
@@ -102,32 +102,29 @@ module _ (ids : List ℕ) (m top s : ℕ) (ws : List ℕ) (K : Keeping ids m top
       let f : from ≡ s = omega arith in
       rw (z, f) (step-as plusOne (celled ids s 1 s) ids m r top (s + 1) ws _ (celled-alone ids s (at (recsOf ws m) r)) one)
 
-  module _ (ws₁ ws₂ : List ℕ) (e₁ : ws₁ ≡ set ws (m + r) (getD ws (m + r) 0 + 1))
-      (p : (top k : ℕ) → Keeping ids m top k ws₁ → Step (overlaid (twins ids s (getD ids s 0) size from)) ids m r top k ws₁ ws₂) where
+  module _ (ws₁ : List ℕ) (e₁ : ws₁ ≡ set ws (m + r) (getD ws (m + r) 0 + 1)) where
     one₁ : Step plusOne ids m r top (s + 1) ws ws₁
     one₁ = rw e₁ one
 
-    two : Step (overlaid (twins ids s (getD ids s 0) size from)) ids m r top (s + 1) ws₁ ws₂
-    two = p top (s + 1) (one₁ .keeping)
-
-    both-steps : Step (λ x. overlaid (twins ids s (getD ids s 0) size from) (plusOne x)) ids m r top (s + 1) ws ws₂
-    both-steps = step-then plusOne (overlaid (twins ids s (getD ids s 0) size from)) ids m r top top (s + 1) (s + 1) ws ws₁ ws₂ own-in one₁ two
-
-    pub counted-keeping : Keeping ids m top (s + 1) ws₂
-    counted-keeping = two .keeping
+    pub counted-keeping : Keeping ids m top (s + 1) ws₁
+    counted-keeping = one₁ .keeping
 
     -- one span more is counted than has given its floors
-    pub counted-slack : endOf ws₂ m (11 * m) r + 62 ≤ startOf ws₂ m (11 * m) r + 62 * getD ws₂ (m + r) 0
-    unfolding overlaid plusOne recAt
+    pub counted-slack : endOf ws₁ m (11 * m) r + 62 ≤ startOf ws₁ m (11 * m) r + 62 * getD ws₁ (m + r) 0
+    unfolding plusOne recAt
     counted-slack =
-        let e = step-at _ ids m r top (s + 1) ws ws₂ own-in both-steps in
-        let c : getD ws₂ (m + r) 0 ≡ suc (getD ws (m + r) 0) = ap (λ (x : Rec). x .count) e in
-        let f : listAt ws₂ m (11 * m) r ≡ listAt ws m (11 * m) r = ap (λ (x : Rec). x .floors) e in
+        let e = step-at _ ids m r top (s + 1) ws ws₁ own-in one₁ in
+        let c : getD ws₁ (m + r) 0 ≡ suc (getD ws (m + r) 0) = ap (λ (x : Rec). x .count) e in
+        let f : listAt ws₁ m (11 * m) r ≡ listAt ws m (11 * m) r = ap (λ (x : Rec). x .floors) e in
         let l = list-length ws m (11 * m) r (floor-parts ids m top s ws K) own-in in
-        let l₂ = list-length ws₂ m (11 * m) r (floor-parts ids m top (s + 1) ws₂ counted-keeping) own-in in
+        let l₁ = list-length ws₁ m (11 * m) r (floor-parts ids m top (s + 1) ws₁ counted-keeping) own-in in
         omega (arith, ap length f, K .rows r own-in .order′, K .rows r own-in .till′, counted-keeping .rows r own-in .order′)
 
-    pub cell-step : (ws₃ : List ℕ) → Step (floored (othersFrom ids s size from)) ids m r top (s + 1) ws₂ ws₃ → Step (celled ids s size from) ids m r top (s + 1) ws ws₃
-    unfolding celled
-    cell-step ws₃ q =
-        step-then (λ x. overlaid (twins ids s (getD ids s 0) size from) (plusOne x)) (floored (othersFrom ids s size from)) ids m r top top (s + 1) (s + 1) ws ws₂ ws₃ own-in both-steps q
+    -- floors and overlap do not touch each other, so either may come first
+    pub cell-step : (ws₂ ws₃ : List ℕ) (b : Bool) → Step (floored (othersFrom ids s size from)) ids m r top (s + 1) ws₁ ws₂ → b ≡ twins ids s (getD ids s 0) size from
+        → ((ids′ : List ℕ) (top k : ℕ) → Keeping ids′ m top k ws₂ → Step (overlaid b) ids′ m r top k ws₂ ws₃) → Step (celled ids s size from) ids m r top (s + 1) ws ws₃
+    unfolding celled floored overlaid
+    cell-step ws₂ ws₃ b q e p =
+        let two = step-then plusOne (floored (othersFrom ids s size from)) ids m r top top (s + 1) (s + 1) ws ws₁ ws₂ own-in one₁ q in
+        let three = step-then (λ x. floored (othersFrom ids s size from) (plusOne x)) (overlaid b) ids m r top top (s + 1) (s + 1) ws ws₂ ws₃ own-in two (p ids top (s + 1) (q .keeping)) in
+        step-as _ (celled ids s size from) ids m r top (s + 1) ws ws₃ (rw e refl) three

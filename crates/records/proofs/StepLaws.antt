@@ -14,8 +14,8 @@ use Rattle.rules.specs.Growth.{plain}
 use Rattle.rules.specs.Records.{Rec, at, fresh}
 use Rattle.table.specs.View.{recAt, recsOf}
 use Rattle.table.proofs.ViewLaws.{rec-eq, recs-at}
+use Rattle.laws.proofs.Basics.{or-yes}
 use Rattle.records.specs.Rows.{walked, mine, Row, Keeping, Change, Step, plusOne, overlaid, withArea}
-use Rattle.records.proofs.CellLaws.{or-true}
 use Rattle.records.proofs.CountLaws.{many-same, many-counts, many-passes, mine-yes, mine-other}
 use Rattle.records.proofs.RowLaws.{list-parts, floor-parts, change-recs, change-keeping, store-start, store-end, store-list, store-change, store-walked, store-blank, store-after}
 
@@ -106,7 +106,7 @@ module _ (ids : List ℕ) (m top k : ℕ) (ws : List ℕ) (K : Keeping ids m top
             cnt
             (getD-set-other ws q (2 * m + r) 1 0 (λ z. omega arith))
             (ap (λ (x : ℕ). not (eqb x 0)) (getD-set-other ws q (4 * m + r) 1 0 (λ z. omega arith)))
-            (ap (λ (x : ℕ). not (eqb x 0)) here ∙ sym (or-true (not (eqb (getD ws q 0) 0))))
+            (ap (λ (x : ℕ). not (eqb x 0)) here ∙ sym (or-yes (not (eqb (getD ws q 0) 0))))
             (store-list ids m top k ws K q 1 low (7 * m) r h (list-parts ids m top k ws K))
             (store-list ids m top k ws K q 1 low (11 * m) r h (floor-parts ids m top k ws K)))
             ∙ ap (λ (x : Rec). set (recsOf ws m) r (overlaid true x)) (sym (recs-at ws m r h));
@@ -144,9 +144,9 @@ module _ (ids : List ℕ) (m top k : ℕ) (ws : List ℕ) (K : Keeping ids m top
 
 -- ---------------------------------------------------------------- as the code has it
 
-module _ (ids ws : List ℕ) (m r : ℕ) (h : r < m) (b v : Bool) (e : b ≡ v) where
-  pub overlap-set : b ≡ true → (top k : ℕ) → Keeping ids m top k ws → Step (overlaid v) ids m r top k ws (set ws (3 * m + r) 1)
-  overlap-set t top k K = rw (sym e ∙ t) (step-over ids m top k ws K r h)
+module _ (ws : List ℕ) (m r : ℕ) (h : r < m) (b : Bool) where
+  pub overlap-set : b ≡ true → (ids : List ℕ) (top k : ℕ) → Keeping ids m top k ws → Step (overlaid b) ids m r top k ws (set ws (3 * m + r) 1)
+  overlap-set t ids top k K = rw t (step-over ids m top k ws K r h)
 
-  pub overlap-left : b ≡ false → (top k : ℕ) → Keeping ids m top k ws → Step (overlaid v) ids m r top k ws ws
-  overlap-left f top k K = rw (sym e ∙ f) (step-not-over ids m top k ws K r h)
+  pub overlap-left : b ≡ false → (ids : List ℕ) (top k : ℕ) → Keeping ids m top k ws → Step (overlaid b) ids m r top k ws ws
+  overlap-left f ids top k K = rw f (step-not-over ids m top k ws K r h)

@@ -1,34 +1,24 @@
 // The other spans of a cell.
+use table::place;
 ghost use mathlib.Core.Path.{_≡_};
 ghost use Prim.Native.Nat.{_+_, _≤_, _<_};
-ghost use lib.ListN.{length, take};
+ghost use lib.ListN.{length, getD, take};
+ghost use Rattle.rules.specs.Base.{_or_};
 ghost use Rattle.rules.specs.Records.{once, onceAll};
 ghost use Rattle.records.specs.Cell.{twin, twins, othersFrom, joinOne, Found, Joined, JoinedAll, Roomy};
 
-// Has t, another span than s, the id?
-fn twin(ids: &[u16], t: usize, s: usize, own: u16) -> bool
+// Met before, or t is another span than s and has the id.
+fn met(ids: &[u16], t: usize, s: usize, own: u16, before: bool) -> bool
     requires { ⌜ t < length (now ids) ⌝ }
-    ensures { λ r. ⌜ r ≡ twin (now (ids .entry)) t s own ⌝ }
+    ensures { λ b. ⌜ b ≡ (before or twin (now (ids .entry)) t s own) ⌝ }
 {
     if t == s {
-        return false;
+        return before;
     }
-    own == ids[t]
-}
-
-// Has another of the size spans from `from` on the id of s?
-pub(crate) fn twins(ids: &[u16], s: usize, own: u16, size: usize, from: usize) -> bool
-    requires { ⌜ from + size ≤ length (now ids) ⌝ }
-    ensures { λ r. ⌜ r ≡ twins (now (ids .entry)) s own size from ⌝ }
-{
-    let mut j = 0;
-    while j < size {
-        if twin(ids, from + j, s, own) {
-            return true;
-        }
-        j += 1;
+    if own == ids[t] {
+        return true;
     }
-    false
+    before
 }
 
 // Of a floor list: its length, and the place after that of the id that joined last, where the next one is looked for first.
@@ -37,34 +27,18 @@ pub struct Listed {
     pub next: usize,
 }
 
-// A place of r among the first n, or n where it is none of them.
-fn place_of(part: &[u16], n: usize, r: u16) -> usize
-    requires { ⌜ n ≤ length (now part) ⌝ }
-    ensures { λ p. ⌜ Found (now (part .entry)) n r p ⌝ }
-{
-    let mut i = 0;
-    while i < n {
-        if r == part[i] {
-            return i;
-        }
-        i += 1;
-    }
-    n
-}
-
-// The same, with a guess at the place. It decides only how fast, never whether r is found: the spans of a region mostly have the same
-// regions above and below them, in the same order, so r is nearly always right after the id found before.
+// A place of r among the first n, or n where it is none of them. The guess decides only how fast, never whether r is found: the spans
+// of a region mostly have the same regions above and below them, in the same order, so r is often right after the id found before.
 fn find(part: &[u16], n: usize, r: u16, guess: usize) -> usize
     requires { ⌜ n ≤ length (now part) ⌝ }
     ensures { λ p. ⌜ Found (now (part .entry)) n r p ⌝ }
 {
-    if n <= guess {
-        return place_of(part, n, r);
+    if guess < n {
+        if r == part[guess] {
+            return guess;
+        }
     }
-    if r == part[guess] {
-        return guess;
-    }
-    place_of(part, n, r)
+    place(&part[0..n], r)
 }
 
 // r joins the list once.
@@ -105,7 +79,13 @@ fn join_one(ids: &[u16], part: &mut [u16], s: usize, t: usize, l: Listed) -> Lis
     once(part, l, r)
 }
 
-// The ids of the size spans from `from` on, other than s, join the list of the first len. Gives its length.
+// What a span takes from its cell: the length of its record's floor list, and whether another span has its id.
+pub struct Taken {
+    pub len: usize,
+    pub twin: bool,
+}
+
+// The ids of the size spans from `from` on, other than s, join the list of the first len; on the same walk the id of s is looked for.
 pub(crate) fn join(
     ids: &[u16],
     part: &mut [u16],
@@ -113,15 +93,19 @@ pub(crate) fn join(
     from: usize,
     size: usize,
     len: usize,
-) -> usize
+) -> Taken
     requires { ⌜ Roomy (now ids) (now part) s from size len ⌝ }
-    ensures { λ k. ⌜ JoinedAll (onceAll (take len (now (part .entry))) (othersFrom (now (ids .entry)) s size from)) len (now (part .exit)) k ⌝ }
+    ensures { λ k. ⌜ JoinedAll (onceAll (take len (now (part .entry))) (othersFrom (now (ids .entry)) s size from)) len (now (part .exit)) (k .len) ⌝ }
+    ensures { λ k. ⌜ k .twin ≡ twins (now (ids .entry)) s (getD (now (ids .entry)) s 0) size from ⌝ }
 {
+    let own = ids[s];
     let mut l = Listed { len, next: 0 };
+    let mut twin = false;
     let mut j = 0;
     while j < size {
+        twin = met(ids, from + j, s, own, twin);
         l = join_one(ids, part, s, from + j, l);
         j += 1;
     }
-    l.len
+    Taken { len: l.len, twin }
 }

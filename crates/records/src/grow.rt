@@ -1,6 +1,5 @@
 // A span is added to its record, part by part.
 use crate::cell::join;
-use crate::cell::twins;
 use contour::edge::Edge;
 use contour::edge::first_solid;
 use contour::walk::walk_contour;
@@ -13,6 +12,7 @@ use table::set_part;
 use table::start_of;
 ghost use mathlib.Core.Path.{_≡_};
 ghost use mathlib.Core.Bool.{true};
+ghost use mathlib.Core.List.{List};
 ghost use Prim.Native.Nat.{ℕ, _+_, _*_, _≤_, _<_};
 ghost use lib.ListN.{length, getD};
 ghost use Rattle.rules.specs.Field.{Field};
@@ -23,26 +23,18 @@ ghost use Rattle.records.specs.Cell.{twins, othersFrom};
 ghost use Rattle.records.specs.Rows.{Keeping, Step, Tracing, Traced, traced, overlaid, floored, withList, contoured, celled};
 ghost use Rattle.records.specs.Stock.{Reach, SomeReach};
 
-// Overlap is set where another of the size spans from `from` on has the id of s, which is r.
-pub(crate) fn add_overlap(
-    ids: &[u16],
-    ws: &mut [u16],
-    m: usize,
-    s: usize,
-    r: usize,
-    from: usize,
-    size: usize,
-)
-    requires { ⌜ (r < m) × (s < length (now ids)) × (from + size ≤ length (now ids)) × (5 * m ≤ length (now ws)) ⌝ }
-    ensures { λ _. ⌜ ((top k : ℕ) → Keeping (now (ids .entry)) m top k (now (ws .entry)) → Step (overlaid (twins (now (ids .entry)) s (getD (now (ids .entry)) s 0) size from)) (now (ids .entry)) m r top k (now (ws .entry)) (now (ws .exit))) ⌝ }
+// Overlap is set where another span of a cell has the id r too.
+pub(crate) fn add_overlap(ws: &mut [u16], m: usize, r: usize, twin: bool)
+    requires { ⌜ (r < m) × (5 * m ≤ length (now ws)) ⌝ }
+    ensures { λ _. ⌜ ((ids : List ℕ) (top k : ℕ) → Keeping ids m top k (now (ws .entry)) → Step (overlaid twin) ids m r top k (now (ws .entry)) (now (ws .exit))) ⌝ }
 {
-    if twins(ids, s, ids[s], size, from) {
+    if twin {
         ws[3 * m + r] = 1;
     }
 }
 
 // The ids of the others of the size spans from `from` on join the floors of record r, which has been counted already. The list's end
-// is written only where the list has grown.
+// is written only where the list has grown. Gives whether one of them has the id of s.
 pub(crate) fn add_floors(
     ids: &[u16],
     ws: &mut [u16],
@@ -52,19 +44,22 @@ pub(crate) fn add_floors(
     r: usize,
     from: usize,
     size: usize,
-)
+) -> bool
     requires { ⌜ Keeping (now ids) m top (s + 1) (now ws) × (r < m) × (endOf (now ws) m (11 * m) r + 62 ≤ startOf (now ws) m (11 * m) r + 62 * getD (now ws) (m + r) 0) × (size ≤ 63) × (from + size ≤ length (now ids)) × (from ≤ s) × (s < from + size) ⌝ }
-    ensures { λ _. ⌜ Step (floored (othersFrom (now (ids .entry)) s size from)) (now (ids .entry)) m r top (s + 1) (now (ws .entry)) (now (ws .exit)) ⌝ }
+    ensures { λ b. ⌜ Step (floored (othersFrom (now (ids .entry)) s size from)) (now (ids .entry)) m r top (s + 1) (now (ws .entry)) (now (ws .exit)) ⌝ }
+    ensures { λ b. ⌜ b ≡ twins (now (ids .entry)) s (getD (now (ids .entry)) s 0) size from ⌝ }
 {
     let a = start_of(ws, m, 11 * m, r);
     let e = end_of(ws, m, 11 * m, r);
     let z = a + 62 * at(ws, m + r);
     let len = e - a;
-    let n = join(ids, &mut ws[a..z], s, from, size, len);
+    let t = join(ids, &mut ws[a..z], s, from, size, len);
+    let n = t.len;
     if n == len {
-        return;
+        return t.twin;
     }
     set_part(ws, m, 11 * m, r, a, a + n);
+    t.twin
 }
 
 // The contour from the span at place p is listed in the pool, which begins at base, from top on, if the span has a solid edge. Gives the end.
@@ -134,7 +129,7 @@ pub(crate) fn add_contour(
     add_list(w, index, con, ids, ws, m, p, r, top)
 }
 
-// Span s, of id r, adds one to its record; of its cell, the size spans from `from` on, it takes overlap and floors,
+// Span s, of id r, adds one to its record; of its cell, the size spans from `from` on, it takes floors and overlap,
 // and there are none where it is the only one.
 pub(crate) fn add_cell(
     ids: &[u16],
@@ -153,6 +148,6 @@ pub(crate) fn add_cell(
     if size == 1 {
         return;
     }
-    add_overlap(ids, ws, m, s, r, from, size);
-    add_floors(ids, ws, m, top, s, r, from, size);
+    let twin = add_floors(ids, ws, m, top, s, r, from, size);
+    add_overlap(ws, m, r, twin);
 }

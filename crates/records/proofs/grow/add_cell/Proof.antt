@@ -1,4 +1,4 @@
--- `add_cell` is the rule's `celled`: one more span, then overlap, then floors, each a step on record r.
+-- `add_cell` is the rule's `celled`: one more span, then floors, then overlap, each a step on record r.
 -- Counting first gives the floors of this span their room; a span alone in its cell has no more to give.
 use lib.ListN.{length-set}
 use Prim.Native.Nat.{_<_}
@@ -39,29 +39,28 @@ returns c = let b = c .before in
     let p = S b .pre in
     cell-alone _ _ _ _ _ (p .0) _ _ _ (p .1) (p .2) (here b) (c .if1 .taken) (p .5) (p .6)
 
-add-overlap-requires : tie.Need-add-overlap-requires
-add-overlap-requires c κs = let b = c .before .before in
-    let p = S b .pre in
-    let o = own-in _ _ _ _ _ (p .0) _ 0 0 (p .1) (p .2) (here b) in
-    (o, here b, p .4, simp length-set (omega (arith, p .0 .room)))
-
 add-floors-requires : tie.Need-add-floors-requires
-add-floors-requires c κs = let a = c .before .before .before in
-    let b = a .before .before .before in
+add-floors-requires c κs = let b = c .before .before in
     let p = S b .pre in
-    (counted-keeping _ _ _ _ _ (p .0) _ _ _ (p .1) (p .2) (here b) _ _ refl (a .add-overlap .ensures), own-in _ _ _ _ _ (p .0) _ 0 0 (p .1) (p .2) (here b), counted-slack _ _ _ _ _ (p .0) _ _ _ (p .1) (p .2) (here b) _ _ refl (a .add-overlap .ensures), p .3, p .4, p .5, p .6)
+    (counted-keeping _ _ _ _ _ (p .0) _ 0 0 (p .1) (p .2) (here b) _ refl, own-in _ _ _ _ _ (p .0) _ 0 0 (p .1) (p .2) (here b), counted-slack _ _ _ _ _ (p .0) _ 0 0 (p .1) (p .2) (here b) _ refl, p .3, p .4, p .5, p .6)
+
+add-overlap-requires : tie.Need-add-overlap-requires
+add-overlap-requires c κs = let f = c .before .before .before in
+    let b = f .before .before .before in
+    let p = S b .pre in
+    (own-in _ _ _ _ _ (p .0) _ 0 0 (p .1) (p .2) (here b), omega (arith, f .add-floors .ensures .0 .keeping .room))
 
 same-length-2 : tie.Need-same-length-2
-same-length-2 c = let f = c .before .before in
-    let a = f .before .before .before .before in
-    f .add-floors .kept .1 .0 ∙ a .add-overlap .kept .1 .0 ∙ simp length-set
+same-length-2 c = let o = c .before .before in
+    let f = o .before .before .before .before in
+    o .add-overlap .kept .0 ∙ f .add-floors .kept .1 .0 ∙ simp length-set
 
 returns-2 : tie.Need-returns-2
-returns-2 c = let f = c .before .before in
-    let a = f .before .before .before .before in
-    let b = a .before .before .before in
+returns-2 c = let o = c .before .before in
+    let f = o .before .before .before .before in
+    let b = f .before .before .before in
     let p = S b .pre in
-    cell-step _ _ _ _ _ (p .0) _ _ _ (p .1) (p .2) (here b) _ _ refl (a .add-overlap .ensures) _ (f .add-floors .ensures)
+    cell-step _ _ _ _ _ (p .0) _ _ _ (p .1) (p .2) (here b) _ refl _ _ _ (f .add-floors .ensures .0) (f .add-floors .ensures .1) (o .add-overlap .ensures)
 
 pub add-cell-spec : {M : Type 1} → statement M
 add-cell-spec =
@@ -74,7 +73,7 @@ add-cell-spec =
     slice-write-ws
     same-length
     returns
-    add-overlap-requires
     add-floors-requires
+    add-overlap-requires
     same-length-2
     returns-2)

@@ -77,7 +77,7 @@ returns : tie.Need-returns
 returns c = let j = J (c .before) in
     let t = j .before .before in
     let p = S t .pre in
-    step-stays _ _ _ _ _ (p .0) _ (p .1) _ _ _ (ea t) (ee t) (ez t) _ _ _ _ (j .join .kept .1 .0) (j .join .ensures) refl (c .if1 .taken)
+    (step-stays _ _ _ _ _ (p .0) _ (p .1) _ _ _ (ea t) (ee t) (ez t) _ _ _ _ (j .join .kept .1 .0) (j .join .ensures .0) refl (c .if1 .taken), j .join .ensures .1)
 
 mul-set-part : tie.Need-mul-set-part
 mul-set-part c = search needs
@@ -89,7 +89,7 @@ set-part-requires : tie.Need-set-part-requires
 set-part-requires c κs = let j = J (c .before .before) in
     let t = j .before .before in
     let p = S t .pre in
-    let f = end-fits _ _ _ _ _ (p .0) _ (p .1) _ _ _ (ea t) (ee t) (ez t) _ _ _ (j .join .kept .1 .0) (j .join .ensures) in
+    let f = end-fits _ _ _ _ _ (p .0) _ (p .1) _ _ _ (ea t) (ee t) (ez t) _ _ _ (j .join .kept .1 .0) (j .join .ensures .0) in
     (put-room _ _ _ _ _ (p .0) _ (p .1) _ _ _ (ea t) (ee t) (ez t) (j .join .last .1 .0) (j .join .kept .1 .0), (p .1, f))
 
 same-length-2 : tie.Need-same-length-2
@@ -100,7 +100,7 @@ returns-2 c = let sp = c .before .before in
     let j = J (sp .before .before .before) in
     let t = j .before .before in
     let p = S t .pre in
-    step-floors _ _ _ _ _ (p .0) _ (p .1) _ _ _ (ea t) (ee t) (ez t) _ _ _ _ (j .join .kept .1 .0) (j .join .ensures) refl _ (sp .set-part .ensures) (sp .set-part .kept .0)
+    (step-floors _ _ _ _ _ (p .0) _ (p .1) _ _ _ (ea t) (ee t) (ez t) _ _ _ _ (j .join .kept .1 .0) (j .join .ensures .0) refl _ (sp .set-part .ensures) (sp .set-part .kept .0), j .join .ensures .1)
 
 pub add-floors-spec : {M : Type 1} → statement M
 add-floors-spec =

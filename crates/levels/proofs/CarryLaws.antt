@@ -8,7 +8,7 @@ use mathlib.Core.List.{List, [], _∷_, _++_, append-nil, append-assoc}
 use lib.ListN.{length, getD, set, drop, length-set, length-append}
 use lib.Seq.{set-getD, set-set, getD-set-same}
 use Rattle.rules.specs.Field.{none}
-use Rattle.rules.specs.Growth.{Marks, remains, turn}
+use Rattle.rules.specs.Growth.{Marks, remains}
 use Rattle.laws.proofs.Basics.{All, keep-all, keep-length, append-all, set-cases}
 use Rattle.levels.specs.Levels.{joined, total, Stacked}
 

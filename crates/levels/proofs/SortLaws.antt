@@ -15,11 +15,11 @@ use borrow.Author.Tests.{eq-eqb, ne-eqb}
 use Rattle.rules.specs.Base.{_and_, if_then_else_, tab, keep}
 use Rattle.rules.specs.Field.{Field, spans, areaOf}
 use Rattle.rules.specs.Growth.{Marks, walkable, blank, sorted, loaded}
-use Rattle.laws.proofs.Basics.{if-ind, and-no, tab-at, length-tab, getD-any}
+use Rattle.laws.proofs.Basics.{if-ind, and-no, tab-at, length-tab, getD-any, zeros-at}
 use Rattle.laws.proofs.Grows.{loaded-inside}
 use Rattle.space.proofs.Laws.{cases}
-use Rattle.levels.specs.Levels.{levelsAt, Fills, joined, total, Stacked, sortedTo, Moved}
-use Rattle.levels.proofs.LevelLaws.{fill-is, moved-none}
+use Rattle.levels.specs.Levels.{levelsAt, Fills, joined, total, Stacked, sortedTo, Kept, Moved}
+use Rattle.levels.proofs.LevelLaws.{fill-is, moved-none, moved-then}
 use Rattle.levels.proofs.CarryLaws.{total-joined, one-of-total}
 
 -- ---------------------------------------------------------------- lists made and kept
@@ -201,17 +201,21 @@ module _ (area dist ids : List ℕ) (level : ℕ) (ws₀ : List ℕ) (base : ℕ
   pub sort-start : Moved (length area) base ws₀ (replicate 8 0) ws₀ (replicate 8 0) (sortedTo area dist ids level 0)
   unfolding levelsAt sortedTo tab keep
   sort-start = moved-none ws₀ (length area) base (replicate 8 0) _ (record { eight = refl; most = λ k. omega (arith, zeros-at 8 k) }) refl
-    where
-      zeros-at : (m k : ℕ) → _≡_ {A = ℕ} (getD (replicate m 0) k 0) 0
-      zeros-at zero k = refl
-      zeros-at (suc m) zero = refl
-      zeros-at (suc m) (suc k) = zeros-at m k
 
-  module _ (i : ℕ) (fs₀ ws fs : List ℕ) (m : Moved (length area) base ws₀ fs₀ ws fs (sortedTo area dist ids level i)) (a : i ≤ length area) (b : length area ≤ i) where
-    pub sort-done : (F : Field) (mk : Marks) → F .area ≡ area → mk .ids ≡ ids → levelsAt ws base (length area) fs ≡ sorted F dist mk level
-    sort-done F mk e g = let q : i ≡ length area = omega arith in m .same ∙ rw q (sorted-is area dist ids level F mk e g)
+  -- where the loop ends
+  pub moved-to : (e k : ℕ) (fs₀ ws fs : List ℕ) → Moved (length area) base ws₀ fs₀ ws fs (sortedTo area dist ids level k) → k ≤ e → e ≤ k
+      → Moved (length area) base ws₀ fs₀ ws fs (sortedTo area dist ids level e)
+  moved-to e k fs₀ ws fs m a b = let q : e ≡ k = omega arith in rw q m
 
-    pub sort-stacked : Stacked (length area) (levelsAt ws base (length area) fs) 0
+  -- the blocks, then the rest
+  module _ (i : ℕ) (fs₀ ws fs ws′ fs′ : List ℕ) (m : Moved (length area) base ws₀ fs₀ ws fs (sortedTo area dist ids level i)) (r : Moved (length area) base ws fs ws′ fs′ (sortedTo area dist ids level (length area))) where
+    pub sort-kept : Kept (length area) base ws₀ fs₀ ws′ fs′
+    sort-kept = moved-then m r .kept
+
+    pub sort-done : (F : Field) (mk : Marks) → F .area ≡ area → mk .ids ≡ ids → levelsAt ws′ base (length area) fs′ ≡ sorted F dist mk level
+    sort-done F mk e g = r .same ∙ sorted-is area dist ids level F mk e g
+
+    pub sort-stacked : Stacked (length area) (levelsAt ws′ base (length area) fs′) 0
     sort-stacked =
         let F : Field = record { w = 0; h = 0; index = []; count = []; area = area; con = [] } in
         let mk : Marks = record { ids = ids; src = [] } in

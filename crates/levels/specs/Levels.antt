@@ -1,11 +1,11 @@
 -- The eight level stacks: where they lie in the workspace, and what is kept of them from turn to turn.
 use mathlib.Core.Path.{_≡_}
-use mathlib.Core.Bool.{not}
+use mathlib.Core.Bool.{Bool, false, not}
 use mathlib.Core.List.{List, [], _∷_, _++_}
-use Prim.Native.Nat.{ℕ, _+_, _-_, _*_, _/_, _≤_, _<_}
+use Prim.Native.Nat.{ℕ, zero, suc, _+_, _-_, _*_, _/_, _≤_, _<_}
 use lib.ListN.{length, getD, set, drop}
-use lib.Dec.{eqb}
-use Rattle.rules.specs.Base.{_and_, tab, keep}
+use lib.Dec.{eqb, leb}
+use Rattle.rules.specs.Base.{_and_, _or_, tab, keep}
 use Rattle.rules.specs.Field.{none}
 use Rattle.laws.proofs.Basics.{All}
 use Rattle.space.specs.Space.{sec, Frame}
@@ -41,6 +41,11 @@ unfoldable pub sortedTo : List ℕ → List ℕ → List ℕ → ℕ → ℕ →
 sortedTo area dist ids level i =
     tab 8 0 (λ j. keep (λ s. eqb (level / 2 - getD dist s 0 / 2) j)
     (keep (λ s. not (eqb (getD area s 256) 0) and eqb (getD ids s 0) 0) (tab i 0 (λ s. s))))
+
+-- one of the first n spans has id 0 and a distance of at least `from`
+unfoldable pub anyOpen : List ℕ → List ℕ → ℕ → ℕ → Bool
+anyOpen dist ids from zero = false
+anyOpen dist ids from (suc n) = (eqb (getD ids n 0) 0 and leb from (getD dist n 0)) or anyOpen dist ids from n
 
 -- the rule's `remains` over what it reads
 unfoldable pub left : List ℕ → List ℕ → List ℕ

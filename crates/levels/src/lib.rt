@@ -3,9 +3,11 @@ ghost use mathlib.Core.Path.{_≡_};
 ghost use mathlib.Core.List.{[], _∷_};
 ghost use Prim.Native.Nat.{_+_, _-_, _*_, _/_, _<_, _≤_};
 ghost use lib.ListN.{length, getD, replicate};
+ghost use lib.Dec.{eqb, leb};
+ghost use Rattle.rules.specs.Base.{_and_, _or_};
 ghost use Rattle.rules.specs.Field.{Field};
 ghost use Rattle.rules.specs.Growth.{Marks, sorted, remains};
-ghost use Rattle.levels.specs.Levels.{levelsAt, Fills, joined, sortedTo, left, Kept, Moved, Stacked};
+ghost use Rattle.levels.specs.Levels.{levelsAt, Fills, joined, sortedTo, anyOpen, left, Kept, Moved, Stacked};
 
 // The fill of each stack, beside the turn's number. Stack k lies at base + k * n .. base + (k + 1) * n of the workspace.
 pub struct LevelStacks {
@@ -60,6 +62,9 @@ fn sort_one(
     ensures { λ r. ⌜ Moved (length (now (area .entry))) base (now (ws .entry)) (l .fills) (now (ws .exit)) (r .fills) (sortedTo (now (area .entry)) (now (dist .entry)) (now (ids .entry)) level (i + 1)) ⌝ }
     ensures { λ r. ⌜ r .turn ≡ l .turn ⌝ }
 {
+    if ids[i] != 0 {
+        return l;
+    }
     let k = stack_of(level, dist[i]);
     if 8 <= k {
         return l;
@@ -67,10 +72,86 @@ fn sort_one(
     if area[i] == 0 {
         return l;
     }
-    if ids[i] != 0 {
-        return l;
-    }
     push_level(ws, base, area.len(), l, k, i as u16)
+}
+
+// The spans from i up to e go to their stacks.
+fn sort_some(
+    area: &[u8],
+    dist: &[u16],
+    ids: &[u16],
+    ws: &mut [u16],
+    base: usize,
+    level: u16,
+    l: LevelStacks,
+    i: usize,
+    e: usize,
+) -> LevelStacks
+    requires { ⌜ (length (now area) ≤ 65535) × (length (now dist) ≡ length (now area)) × (length (now ids) ≡ length (now area)) × (base + 8 * length (now area) ≤ length (now ws)) × (i ≤ e) × (e ≤ length (now area)) × Fills (length (now area)) (l .fills) × (levelsAt (now ws) base (length (now area)) (l .fills) ≡ sortedTo (now area) (now dist) (now ids) level i) ⌝ }
+    ensures { λ r. ⌜ Moved (length (now (area .entry))) base (now (ws .entry)) (l .fills) (now (ws .exit)) (r .fills) (sortedTo (now (area .entry)) (now (dist .entry)) (now (ids .entry)) level e) ⌝ }
+    ensures { λ r. ⌜ r .turn ≡ l .turn ⌝ }
+{
+    let mut out = l;
+    let mut k = i;
+    while k < e {
+        out = sort_one(area, dist, ids, ws, base, level, out, k);
+        k += 1;
+    }
+    out
+}
+
+// The least distance whose stack is below 8.
+fn least(level: u16) -> u16
+    ensures { λ r. ⌜ r ≡ 2 * (level / 2 - 7) ⌝ }
+{
+    let a = level / 2;
+    if a < 8 {
+        return 0;
+    }
+    2 * (a - 7)
+}
+
+// Found before, or a span of that id and distance may go to a stack. No branch, so that the compiler can take many at once.
+fn or_open(found: bool, id: u16, d: u16, from: u16) -> bool
+    ensures { λ b. ⌜ b ≡ ((eqb id 0 and leb from d) or found) ⌝ }
+{
+    ((id == 0) & (from <= d)) | found
+}
+
+// Has one of these spans id 0, and a distance of at least `from`? The loop goes on past the first, for the same reason.
+fn any_open(dist: &[u16], ids: &[u16], from: u16) -> bool
+    requires { ⌜ length (now ids) ≡ length (now dist) ⌝ }
+    ensures { λ b. ⌜ b ≡ anyOpen (now (dist .entry)) (now (ids .entry)) from (length (now (dist .entry))) ⌝ }
+{
+    let mut found = false;
+    let mut i = 0;
+    while i < dist.len() {
+        found = or_open(found, ids[i], dist[i], from);
+        i += 1;
+    }
+    found
+}
+
+// The sixteen spans from i on go to their stacks. Most blocks have none to sort, and are passed over.
+fn sort_block(
+    area: &[u8],
+    dist: &[u16],
+    ids: &[u16],
+    ws: &mut [u16],
+    base: usize,
+    level: u16,
+    from: u16,
+    l: LevelStacks,
+    i: usize,
+) -> LevelStacks
+    requires { ⌜ (length (now area) ≤ 65535) × (length (now dist) ≡ length (now area)) × (length (now ids) ≡ length (now area)) × (base + 8 * length (now area) ≤ length (now ws)) × (i + 16 ≤ length (now area)) × (from ≡ 2 * (level / 2 - 7)) × Fills (length (now area)) (l .fills) × (levelsAt (now ws) base (length (now area)) (l .fills) ≡ sortedTo (now area) (now dist) (now ids) level i) ⌝ }
+    ensures { λ r. ⌜ Moved (length (now (area .entry))) base (now (ws .entry)) (l .fills) (now (ws .exit)) (r .fills) (sortedTo (now (area .entry)) (now (dist .entry)) (now (ids .entry)) level (i + 16)) ⌝ }
+    ensures { λ r. ⌜ r .turn ≡ l .turn ⌝ }
+{
+    if any_open(&dist[i..i + 16], &ids[i..i + 16], from) {
+        return sort_some(area, dist, ids, ws, base, level, l, i, i + 16);
+    }
+    l
 }
 
 // "At turn 0 all stacks are emptied and every walkable span of id 0 goes, in scan order, to the stack .. if below 8."
@@ -93,12 +174,14 @@ pub fn sort_cells_by_level(
         fills: [0u16; 8],
         turn: 0,
     };
+    let from = least(level);
+    let n = area.len();
     let mut i = 0;
-    while i < area.len() {
-        l = sort_one(area, dist, ids, ws, base, level, l, i);
-        i += 1;
+    while 16 <= n - i {
+        l = sort_block(area, dist, ids, ws, base, level, from, l, i);
+        i += 16;
     }
-    l
+    sort_some(area, dist, ids, ws, base, level, l, i, n)
 }
 
 // Entry i of the stack before goes on stack j, if it remains.

@@ -5,6 +5,15 @@ use borrow.Author.Needs.{needs}
 use Rattle.levels.proofs.sort_one.Statement.{statement}
 use Rattle.levels.proofs.sort_one.Tie as tie
 
+mul-if1 : tie.Need-mul-if1
+mul-if1 c = search needs
+
+shared-slice-read-if1 : tie.Need-shared-slice-read-if1
+shared-slice-read-if1 c = search needs
+
+returns : tie.Need-returns
+returns c = (search moved-skip-id, search needs)
+
 mul-stack-of : tie.Need-mul-stack-of
 mul-stack-of c = search needs
 
@@ -14,23 +23,14 @@ shared-slice-read-stack-of c = search needs
 stack-of-requires : tie.Need-stack-of-requires
 stack-of-requires c κs = search needs
 
-returns : tie.Need-returns
-returns c = (search moved-skip-high, search needs)
-
-shared-slice-read-if2 : tie.Need-shared-slice-read-if2
-shared-slice-read-if2 c = search needs
-
 returns-2 : tie.Need-returns-2
-returns-2 c = (search moved-skip-area, search needs)
-
-mul-if3 : tie.Need-mul-if3
-mul-if3 c = search needs
+returns-2 c = (search moved-skip-high, search needs)
 
 shared-slice-read-if3 : tie.Need-shared-slice-read-if3
 shared-slice-read-if3 c = search needs
 
 returns-3 : tie.Need-returns-3
-returns-3 c = (search moved-skip-id, search needs)
+returns-3 c = (search moved-skip-area, search needs)
 
 cast-push-level : tie.Need-cast-push-level
 cast-push-level c = search needs
@@ -48,13 +48,13 @@ pub sort-one-spec : {M : Type 1} → statement M
 sort-one-spec =
     tie.close
     (tie.spec
+    mul-if1
+    shared-slice-read-if1
+    returns
     mul-stack-of
     shared-slice-read-stack-of
     stack-of-requires
-    returns
-    shared-slice-read-if2
     returns-2
-    mul-if3
     shared-slice-read-if3
     returns-3
     cast-push-level

@@ -18,8 +18,8 @@ use Rattle.rules.specs.Field.{Field, spans, cellOf, cellTo, leaves, conOf, near
 use Rattle.rules.specs.Refusals.{goodCon, goodBack}
 use Rattle.laws.proofs.Basics.{both, in-list, getD-any}
 use Rattle.laws.proofs.Cells.{near-none, near-is}
-use Rattle.field.specs.Lent.{Stands, Celled, Inner, Column, innerAt, consAt, reachAt, backAt, goodLink, linkAt, inCell, inRow, lent}
-use Rattle.field.proofs.Loops.{every-ext, every-and, every-rows, every-halt, every-end}
+use Rattle.field.specs.Lent.{Stands, Celled, Inner, Column, innerAt, consAt, goodLink, halfAt, inCell, inRow, lent}
+use Rattle.field.proofs.Loops.{every-rows, every-halt, every-end}
 use Rattle.field.proofs.Places.{room-left, room-up, layer-stands, cell-is, con-at, turned, across-in}
 use Rattle.field.proofs.Checks.{flip, every-cells}
 
@@ -29,7 +29,7 @@ pub side-in : (w h c d : ℕ) (r : Bool) → r ≡ not (leaves w h c d) → r �
 side-in w h c d r e z = flip r (leaves w h c d) true e z
 
 -- the way back leads to the cell that it comes from
-there-back : (w h c d : ℕ) → leaves w h c d ≡ false → d < 4 → cellTo w (cellTo w c d) ((d + 2) % 4) ≡ c
+pub there-back : (w h c d : ℕ) → leaves w h c d ≡ false → d < 4 → cellTo w (cellTo w c d) ((d + 2) % 4) ≡ c
 unfolding cellTo
 there-back w h c zero i l = omega (arith, room-left w c 0 h i refl)
 there-back w h c (suc zero) i l = omega arith
@@ -119,7 +119,7 @@ module _ (w h : ℕ) (is ks ar cs : List ℕ) (ok : Celled (lent w h is ks ar cs
           rw (← e, ne-eqb k 255 n, here .cell, i, ← p, lt-ltb k (getD ks a 0) m, leads-to)
           (answer (getD cs (4 * t + (d + 2) % 4) 0) read-con)
 
--- ---------------------------------------------------------------- the four connections of a span
+-- ---------------------------------------------------------------- the connections of a span
 
 module _ (w h : ℕ) (is ks ar cs : List ℕ) (ok : Celled (lent w h is ks ar cs)) (c j : ℕ) (g : j < getD ks c 0) where
   pub span-room : (s : ℕ) → s ≡ getD is c 0 + j → 4 * s + 3 < length cs
@@ -133,17 +133,16 @@ module _ (s t : ℕ) (e : s ≡ t) where
   pub span-cons : (cons cs : List ℕ) → cons ≡ consAt cs s → cons ≡ consAt cs t
   span-cons cons cs f = rw (← e) f
 
-  pub span-link : (F : Field) (r : Bool) → r ≡ linkAt F t → r ≡ linkAt F s
+  pub span-link : (F : Field) (r : Bool) → r ≡ halfAt F t → r ≡ halfAt F s
   span-link F r f = rw e f
 
-pub span-halt : (F : Field) (s d : ℕ) (r : Bool) → r ≡ goodLink F s d → r ≡ false → d < 4 → false ≡ linkAt F s
-unfolding linkAt
-span-halt F s d r e z l = every-halt (goodLink F s) 4 d r l e z
+pub span-halt : (F : Field) (s : ℕ) (r : Bool) → r ≡ goodLink F s 0 → r ≡ false → false ≡ halfAt F s
+unfolding halfAt _and_
+span-halt F s r e z = rw (← e, z)
 
-pub span-end : (F : Field) (s : ℕ) (r₀ r₁ r₂ r₃ : Bool) → r₀ ≡ goodLink F s 0 → r₀ ≡ true → r₁ ≡ goodLink F s 1 → r₁ ≡ true
-    → r₂ ≡ goodLink F s 2 → r₂ ≡ true → r₃ ≡ goodLink F s 3 → r₃ ≡ linkAt F s
-unfolding linkAt every _and_
-span-end F s r₀ r₁ r₂ r₃ e₀ z₀ e₁ z₁ e₂ z₂ e₃ = rw (← e₀, z₀, ← e₁, z₁, ← e₂, z₂, ← e₃)
+pub span-end : (F : Field) (s : ℕ) (r₀ r₁ : Bool) → r₀ ≡ goodLink F s 0 → r₀ ≡ true → r₁ ≡ goodLink F s 1 → r₁ ≡ halfAt F s
+unfolding halfAt _and_
+span-end F s r₀ r₁ e₀ z₀ e₁ = rw (← e₀, z₀, ← e₁)
 
 -- ---------------------------------------------------------------- a cell by its column and row
 
@@ -174,26 +173,11 @@ module _ (w h c x z : ℕ) (v : Column w h c x z) where
   unfolding leaves
   side-down = rw row-is (less-is (z + 1) h)
 
-  pub side-right : ltb (x + 1) w ≡ not (leaves w h c 2)
-  unfolding leaves
-  side-right = rw column-is (less-is (x + 1) w)
-
-  pub side-up : ltb 0 z ≡ not (leaves w h c 3)
-  unfolding leaves
-  side-up = rw row-is (pos-is z)
-
   pub inner-is : (r : Bool) → r ≡ innerAt w h x z → r ≡ true → Inner w h c
   unfolding innerAt
   inner-is r e t =
       let p = both _ _ (sym e ∙ t) in
-      let q = both _ _ (p .0) in
-      let u = both _ _ (q .0) in
-      record {
-        side-0 = flip _ _ true side-left (u .0);
-        side-1 = flip _ _ true side-down (p .1);
-        side-2 = flip _ _ true side-right (u .1);
-        side-3 = flip _ _ true side-up (q .1);
-      }
+      record { side-0 = flip _ _ true side-left (p .0); side-1 = flip _ _ true side-down (p .1) }
 
 module _ (w h x z : ℕ) (a : x < w) (b : z < h) where
   pub column-in : w * z + x < w * h
@@ -220,17 +204,14 @@ module _ (F : Field) (p : ℕ → Bool) (x z : ℕ) where
   unfolding inRow
   columns-end a h g = every-end (λ y. inCell F p (F .w * z + y)) (F .w) x a h g
 
--- every row is every span, and both refusals of it
+-- every row is every span
 module _ (F : Field) (ok : Celled F) where
-  all-links : every (F .h) (inRow F (linkAt F)) ≡ every (spans F) (reachAt F) and every (spans F) (backAt F)
-  unfolding inRow linkAt goodLink reachAt backAt
-  all-links =
-      sym (every-rows (F .w) (F .h) (inCell F (linkAt F))) ∙ rw (← ok .counted) (every-cells F ok (linkAt F))
-      ∙ every-ext (spans F) (linkAt F) (λ s. reachAt F s and backAt F s) (λ s _. every-and 4 (goodCon F s) (goodBack F s))
-      ∙ every-and (spans F) (reachAt F) (backAt F)
+  all-rows : every (F .h) (inRow F (halfAt F)) ≡ every (spans F) (halfAt F)
+  unfolding inRow
+  all-rows = sym (every-rows (F .w) (F .h) (inCell F (halfAt F))) ∙ rw (← ok .counted) (every-cells F ok (halfAt F))
 
-  pub rows-halt : (z : ℕ) (r : Bool) → z < F .h → r ≡ inRow F (linkAt F) z → r ≡ false → false ≡ every (spans F) (reachAt F) and every (spans F) (backAt F)
-  rows-halt z r h e t = every-halt (inRow F (linkAt F)) (F .h) z r h e t ∙ all-links
+  pub rows-halt : (z : ℕ) (r : Bool) → z < F .h → r ≡ inRow F (halfAt F) z → r ≡ false → false ≡ every (spans F) (halfAt F)
+  rows-halt z r h e t = every-halt (inRow F (halfAt F)) (F .h) z r h e t ∙ all-rows
 
-  pub rows-end : (z : ℕ) → every z (inRow F (linkAt F)) ≡ true → z ≤ F .h → F .h ≤ z → true ≡ every (spans F) (reachAt F) and every (spans F) (backAt F)
-  rows-end z a h g = every-end (inRow F (linkAt F)) (F .h) z a h g ∙ all-links
+  pub rows-end : (z : ℕ) → every z (inRow F (halfAt F)) ≡ true → z ≤ F .h → F .h ≤ z → true ≡ every (spans F) (halfAt F)
+  rows-end z a h g = every-end (inRow F (halfAt F)) (F .h) z a h g ∙ all-rows

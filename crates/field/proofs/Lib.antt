@@ -3,3 +3,5 @@ pub mod Places
 pub mod Checks
 pub mod Answered
 pub mod Refused
+pub mod Counted
+pub mod Halves

@@ -16,11 +16,21 @@ unfolding _and_
 and-and true b c = refl
 and-and false b c = refl
 
+pub and-yes : (b : Bool) → b and true ≡ b
+unfolding _and_
+and-yes true = refl
+and-yes false = refl
+
 pub every-stop : (n : ℕ) (p : ℕ → Bool) (i : ℕ) → i < n → p i ≡ false → every n p ≡ false
 unfolding every _and_
 every-stop zero p i h e = absurd (omega arith)
 every-stop (suc n) p i h e =
     elim (decLt i n) [ yes g ↦ rw (every-stop n p i g e) | no g ↦ let q : i ≡ n = omega arith in let z : p n ≡ false = rw q at e in rw z (and-no (every n p)) ]
+
+pub every-all : (n : ℕ) (p : ℕ → Bool) → ((i : ℕ) → i < n → p i ≡ true) → every n p ≡ true
+unfolding every _and_
+every-all zero p h = refl
+every-all (suc n) p h = rw (every-all n p (λ i g. h i (omega arith)), h n (omega arith))
 
 pub every-ext : (n : ℕ) (p q : ℕ → Bool) → ((i : ℕ) → i < n → p i ≡ q i) → every n p ≡ every n q
 unfolding every
@@ -30,11 +40,7 @@ every-ext (suc n) p q h = rw (every-ext n p q (λ i g. h i (omega arith)), h n (
 -- a test of a + k numbers is a test of a, and one of the k that follow
 pub every-join : (a k : ℕ) (p : ℕ → Bool) → every (a + k) p ≡ every a p and every k (λ j. p (a + j))
 unfolding every _and_
-every-join a zero p = let e : a + 0 ≡ a = omega arith in rw e (and-yes (every a p))
-  where
-    and-yes : (b : Bool) → b ≡ b and true
-    and-yes true = refl
-    and-yes false = refl
+every-join a zero p = let e : a + 0 ≡ a = omega arith in rw e (sym (and-yes (every a p)))
 every-join a (suc k) p =
     let e : a + suc k ≡ suc (a + k) = omega arith in rw (e, every-join a k p) (and-and (every a p) (every k (λ j. p (a + j))) (p (a + k)))
 

@@ -5,3 +5,4 @@ mod links;
 pub mod place;
 mod reach;
 pub mod read;
+mod tally;

@@ -1,4 +1,5 @@
-// Refusals 5 and 6 in one walk: a connection leads into the grid, to a span that leads back. Row by row, so that no division tells where a cell stands.
+// Refusals 5 and 6: a connection leads into the grid, to a span that leads back. A walk asks it of half of the directions, and two numbers tell of the others.
+// Row by row, so that no division tells where a cell stands.
 use crate::place::Layer;
 use crate::place::NO_LAYER;
 use crate::place::SpanIx;
@@ -7,13 +8,14 @@ use crate::place::connections;
 use crate::place::span_at;
 use crate::read::at8;
 use crate::read::at32;
+use crate::tally::links_in;
 ghost use mathlib.Core.Path.{_≡_};
 ghost use mathlib.Core.Bool.{false, not};
 ghost use Prim.Native.Nat.{_+_, _*_, _<_};
 ghost use lib.ListN.{getD};
 ghost use Rattle.rules.specs.Base.{_and_, every};
 ghost use Rattle.rules.specs.Field.{spans, leaves, conOf};
-ghost use Rattle.field.specs.Lent.{lent, Celled, Inner, Column, innerAt, consAt, goodLink, linkAt, reachAt, backAt, inCell, inRow};
+ghost use Rattle.field.specs.Lent.{lent, Celled, Inner, Column, innerAt, consAt, goodLink, halfAt, reachAt, backAt, inCell, inRow};
 
 // The connection k of the span in layer j of cell c, in a direction d that does not leave the grid, is none, or leads to a span that leads back.
 fn link_ok(
@@ -66,7 +68,7 @@ fn side_ok(
     k.0 == NO_LAYER
 }
 
-// The connections cons of the span in layer j of cell c, which has a cell on every side. Most cells do: written out, so that no side is tested.
+// Of the connections cons those in directions 0 and 1, of the span in layer j of cell c, which has a cell on both sides. Most cells do: written out, so that no side is tested.
 fn inner_ok(
     w: usize,
     h: usize,
@@ -79,18 +81,12 @@ fn inner_ok(
     cons: [u8; 4],
 ) -> bool
     requires { ⌜ Celled (lent w h (now index) (now count) (now area) (now con)) × (j .0 < getD (now count) c 0) × (cons ≡ consAt (now con) (getD (now index) c 0 + j .0)) × Inner w h c ⌝ }
-    ensures { λ r. ⌜ r ≡ linkAt (lent w h (now (index .entry)) (now (count .entry)) (now (area .entry)) (now (con .entry))) (getD (now (index .entry)) c 0 + j .0) ⌝ }
+    ensures { λ r. ⌜ r ≡ halfAt (lent w h (now (index .entry)) (now (count .entry)) (now (area .entry)) (now (con .entry))) (getD (now (index .entry)) c 0 + j .0) ⌝ }
 {
     if link_ok(w, h, index, count, area, con, c, j, Layer(cons[0]), 0) {} else {
         return false;
     }
-    if link_ok(w, h, index, count, area, con, c, j, Layer(cons[1]), 1) {} else {
-        return false;
-    }
-    if link_ok(w, h, index, count, area, con, c, j, Layer(cons[2]), 2) {} else {
-        return false;
-    }
-    link_ok(w, h, index, count, area, con, c, j, Layer(cons[3]), 3)
+    link_ok(w, h, index, count, area, con, c, j, Layer(cons[1]), 1)
 }
 
 // The same of cell c in column x of row z, wherever that is.
@@ -108,7 +104,7 @@ fn edge_ok(
     z: usize,
 ) -> bool
     requires { ⌜ Celled (lent w h (now index) (now count) (now area) (now con)) × (j .0 < getD (now count) c 0) × (cons ≡ consAt (now con) (getD (now index) c 0 + j .0)) × Column w h c x z ⌝ }
-    ensures { λ r. ⌜ r ≡ linkAt (lent w h (now (index .entry)) (now (count .entry)) (now (area .entry)) (now (con .entry))) (getD (now (index .entry)) c 0 + j .0) ⌝ }
+    ensures { λ r. ⌜ r ≡ halfAt (lent w h (now (index .entry)) (now (count .entry)) (now (area .entry)) (now (con .entry))) (getD (now (index .entry)) c 0 + j .0) ⌝ }
 {
     if side_ok(
         w,
@@ -125,7 +121,7 @@ fn edge_ok(
     ) {} else {
         return false;
     }
-    if side_ok(
+    side_ok(
         w,
         h,
         index,
@@ -137,40 +133,10 @@ fn edge_ok(
         Layer(cons[1]),
         1,
         z + 1 < h,
-    ) {} else {
-        return false;
-    }
-    if side_ok(
-        w,
-        h,
-        index,
-        count,
-        area,
-        con,
-        c,
-        j,
-        Layer(cons[2]),
-        2,
-        x + 1 < w,
-    ) {} else {
-        return false;
-    }
-    side_ok(
-        w,
-        h,
-        index,
-        count,
-        area,
-        con,
-        c,
-        j,
-        Layer(cons[3]),
-        3,
-        0 < z,
     )
 }
 
-// The four connections of span s, in layer j of cell c, in column x of row z; inner: it has a cell on every side.
+// The same of span s, in layer j of cell c, in column x of row z; inner: it has a cell on both sides.
 fn span_ok(
     w: usize,
     h: usize,
@@ -186,7 +152,7 @@ fn span_ok(
     inner: bool,
 ) -> bool
     requires { ⌜ Celled (lent w h (now index) (now count) (now area) (now con)) × (s .0 ≡ getD (now index) c 0 + j .0) × (j .0 < getD (now count) c 0) × Column w h c x z × (inner ≡ innerAt w h x z) ⌝ }
-    ensures { λ r. ⌜ r ≡ linkAt (lent w h (now (index .entry)) (now (count .entry)) (now (area .entry)) (now (con .entry))) (s .0) ⌝ }
+    ensures { λ r. ⌜ r ≡ halfAt (lent w h (now (index .entry)) (now (count .entry)) (now (area .entry)) (now (con .entry))) (s .0) ⌝ }
 {
     let cons = connections(con, s);
     if inner {
@@ -209,7 +175,7 @@ fn cell_ok(
     inner: bool,
 ) -> bool
     requires { ⌜ Celled (lent w h (now index) (now count) (now area) (now con)) × Column w h c x z × (inner ≡ innerAt w h x z) × (c < w * h) ⌝ }
-    ensures { λ r. ⌜ r ≡ inCell (lent w h (now (index .entry)) (now (count .entry)) (now (area .entry)) (now (con .entry))) (linkAt (lent w h (now (index .entry)) (now (count .entry)) (now (area .entry)) (now (con .entry)))) c ⌝ }
+    ensures { λ r. ⌜ r ≡ inCell (lent w h (now (index .entry)) (now (count .entry)) (now (area .entry)) (now (con .entry))) (halfAt (lent w h (now (index .entry)) (now (count .entry)) (now (area .entry)) (now (con .entry)))) c ⌝ }
 {
     let i = at32(index, c);
     let k = at8(count, c);
@@ -234,18 +200,12 @@ fn cell_ok(
     true
 }
 
-// The cell in column x of row z has a cell on every side.
+// The cell in column x of row z has a cell across in directions 0 and 1.
 fn is_inner(w: usize, h: usize, x: usize, z: usize) -> bool
     requires { ⌜ (x < w) × (z < h) ⌝ }
     ensures { λ r. ⌜ r ≡ innerAt w h x z ⌝ }
 {
     if x == 0 {
-        return false;
-    }
-    if w <= x + 1 {
-        return false;
-    }
-    if z == 0 {
         return false;
     }
     z + 1 < h
@@ -263,7 +223,7 @@ fn column_ok(
     z: usize,
 ) -> bool
     requires { ⌜ Celled (lent w h (now index) (now count) (now area) (now con)) × (x < w) × (z < h) ⌝ }
-    ensures { λ r. ⌜ r ≡ inCell (lent w h (now (index .entry)) (now (count .entry)) (now (area .entry)) (now (con .entry))) (linkAt (lent w h (now (index .entry)) (now (count .entry)) (now (area .entry)) (now (con .entry)))) (w * z + x) ⌝ }
+    ensures { λ r. ⌜ r ≡ inCell (lent w h (now (index .entry)) (now (count .entry)) (now (area .entry)) (now (con .entry))) (halfAt (lent w h (now (index .entry)) (now (count .entry)) (now (area .entry)) (now (con .entry)))) (w * z + x) ⌝ }
 {
     let inner = is_inner(w, h, x, z);
     cell_ok(w, h, index, count, area, con, w * z + x, x, z, inner)
@@ -280,7 +240,7 @@ fn row_ok(
     z: usize,
 ) -> bool
     requires { ⌜ Celled (lent w h (now index) (now count) (now area) (now con)) × (z < h) ⌝ }
-    ensures { λ r. ⌜ r ≡ inRow (lent w h (now (index .entry)) (now (count .entry)) (now (area .entry)) (now (con .entry))) (linkAt (lent w h (now (index .entry)) (now (count .entry)) (now (area .entry)) (now (con .entry)))) z ⌝ }
+    ensures { λ r. ⌜ r ≡ inRow (lent w h (now (index .entry)) (now (count .entry)) (now (area .entry)) (now (con .entry))) (halfAt (lent w h (now (index .entry)) (now (count .entry)) (now (area .entry)) (now (con .entry)))) z ⌝ }
 {
     for x in 0..w {
         if column_ok(w, h, index, count, area, con, x, z) {} else {
@@ -291,6 +251,19 @@ fn row_ok(
 }
 
 // Every row.
+fn rows_ok(w: usize, h: usize, index: &[u32], count: &[u8], area: &[u8], con: &[u8]) -> bool
+    requires { ⌜ Celled (lent w h (now index) (now count) (now area) (now con)) ⌝ }
+    ensures { λ r. ⌜ r ≡ every (spans (lent w h (now (index .entry)) (now (count .entry)) (now (area .entry)) (now (con .entry)))) (halfAt (lent w h (now (index .entry)) (now (count .entry)) (now (area .entry)) (now (con .entry)))) ⌝ }
+{
+    for z in 0..h {
+        if row_ok(w, h, index, count, area, con, z) {} else {
+            return false;
+        }
+    }
+    true
+}
+
+// Every connection. Each in directions 0 and 1 is asked. One that is good has an answer of its own in 2 or 3: where there are no others, all of these are answers, and good.
 pub(crate) fn links_ok(
     w: usize,
     h: usize,
@@ -302,10 +275,8 @@ pub(crate) fn links_ok(
     requires { ⌜ Celled (lent w h (now index) (now count) (now area) (now con)) ⌝ }
     ensures { λ r. ⌜ r ≡ (every (spans (lent w h (now (index .entry)) (now (count .entry)) (now (area .entry)) (now (con .entry)))) (reachAt (lent w h (now (index .entry)) (now (count .entry)) (now (area .entry)) (now (con .entry)))) and every (spans (lent w h (now (index .entry)) (now (count .entry)) (now (area .entry)) (now (con .entry)))) (backAt (lent w h (now (index .entry)) (now (count .entry)) (now (area .entry)) (now (con .entry))))) ⌝ }
 {
-    for z in 0..h {
-        if row_ok(w, h, index, count, area, con, z) {} else {
-            return false;
-        }
+    if rows_ok(w, h, index, count, area, con) {} else {
+        return false;
     }
-    true
+    links_in(con, 2) == links_in(con, 0)
 }

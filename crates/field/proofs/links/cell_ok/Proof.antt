@@ -4,7 +4,7 @@ use Prim.Native.Nat.{_≤_, _-_, _+_}
 use mathlib.Core.Path.{_≡_}
 use mathlib.Core.Bool.{true}
 use Rattle.rules.specs.Base.{every}
-use Rattle.field.specs.Lent.{lent, linkAt}
+use Rattle.field.specs.Lent.{lent, halfAt}
 use Rattle.field.proofs.Loops.{every-go}
 use Rattle.field.proofs.Checks.{layers-halt, layers-end}
 use borrow.Author.Needs.{needs}
@@ -12,7 +12,7 @@ use Rattle.field.proofs.links.cell_ok.Statement.{statement}
 use Rattle.field.proofs.links.cell_ok.Tie as tie
 
 abbrev Inv-loop : tie.InvT-loop
-Inv-loop w h index count area con c x z inner i k j₀ j = (j ≤ k) × (every j (λ l. linkAt (lent w h index count area con) (i + l)) ≡ true)
+Inv-loop w h index count area con c x z inner i k j₀ j = (j ≤ k) × (every j (λ l. halfAt (lent w h index count area con) (i + l)) ≡ true)
 
 abbrev μ-loop : tie.MeasureT-loop
 μ-loop w h index count area con c x z inner i k j₀ j = k - j

@@ -1,6 +1,6 @@
--- `edge_ok` tests the four connections, direction by direction; the column and the row tell which of them leave the grid.
+-- `edge_ok` tests two connections; the column and the row tell which of them leave the grid.
 -- Assumes nothing.
-use Rattle.field.proofs.Answered.{span-con, span-halt, span-end, side-left, side-down, side-right, side-up}
+use Rattle.field.proofs.Answered.{span-con, span-halt, span-end, side-left, side-down}
 use borrow.Author.Needs.{needs}
 use Rattle.field.proofs.links.edge_ok.Statement.{statement}
 use Rattle.field.proofs.links.edge_ok.Tie as tie
@@ -24,44 +24,7 @@ side-ok-requires-2 : tie.Need-side-ok-requires-2
 side-ok-requires-2 c κs = (search needs, search needs, search (needs, span-con), search needs, search (needs, side-down))
 
 returns-2 : tie.Need-returns-2
-returns-2 c = search (needs, span-halt)
-
-array-read-t16-3 : tie.Need-array-read-t16-3
-array-read-t16-3 c = search needs
-
-add-side-ok-2 : tie.Need-add-side-ok-2
-add-side-ok-2 c = search needs
-
-side-ok-requires-3 : tie.Need-side-ok-requires-3
-side-ok-requires-3 c κs = (search needs, search needs, search (needs, span-con), search needs, search (needs, side-right))
-
-returns-3 : tie.Need-returns-3
-returns-3 c = search (needs, span-halt)
-
-array-read-t16-4 : tie.Need-array-read-t16-4
-array-read-t16-4 c = search needs
-
-side-ok-requires-4 : tie.Need-side-ok-requires-4
-side-ok-requires-4 c κs = (search needs, search needs, search (needs, span-con), search needs, search (needs, side-up))
-
-returns-4 : tie.Need-returns-4
-returns-4 c = search (needs, span-end)
+returns-2 c = search (needs, span-end)
 
 pub edge-ok-spec : {M : Type 1} → statement M
-edge-ok-spec =
-    tie.close
-    (tie.spec
-    array-read-t16
-    side-ok-requires
-    returns
-    array-read-t16-2
-    add-side-ok
-    side-ok-requires-2
-    returns-2
-    array-read-t16-3
-    add-side-ok-2
-    side-ok-requires-3
-    returns-3
-    array-read-t16-4
-    side-ok-requires-4
-    returns-4)
+edge-ok-spec = tie.close (tie.spec array-read-t16 side-ok-requires returns array-read-t16-2 add-side-ok side-ok-requires-2 returns-2)

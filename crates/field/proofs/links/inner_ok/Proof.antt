@@ -1,4 +1,4 @@
--- `inner_ok` tests the four connections, direction by direction. The first that fails decides the whole.
+-- `inner_ok` tests two connections. If the first fails it decides the whole, else the second does.
 -- Assumes nothing.
 use Rattle.field.proofs.Answered.{span-con, span-halt, span-end}
 use borrow.Author.Needs.{needs}
@@ -21,39 +21,7 @@ link-ok-requires-2 : tie.Need-link-ok-requires-2
 link-ok-requires-2 c κs = (search needs, search needs, search (needs, span-con), search needs, search needs)
 
 returns-2 : tie.Need-returns-2
-returns-2 c = search (needs, span-halt)
-
-array-read-t14-3 : tie.Need-array-read-t14-3
-array-read-t14-3 c = search needs
-
-link-ok-requires-3 : tie.Need-link-ok-requires-3
-link-ok-requires-3 c κs = (search needs, search needs, search (needs, span-con), search needs, search needs)
-
-returns-3 : tie.Need-returns-3
-returns-3 c = search (needs, span-halt)
-
-array-read-t14-4 : tie.Need-array-read-t14-4
-array-read-t14-4 c = search needs
-
-link-ok-requires-4 : tie.Need-link-ok-requires-4
-link-ok-requires-4 c κs = (search needs, search needs, search (needs, span-con), search needs, search needs)
-
-returns-4 : tie.Need-returns-4
-returns-4 c = search (needs, span-end)
+returns-2 c = search (needs, span-end)
 
 pub inner-ok-spec : {M : Type 1} → statement M
-inner-ok-spec =
-    tie.close
-    (tie.spec
-    array-read-t14
-    link-ok-requires
-    returns
-    array-read-t14-2
-    link-ok-requires-2
-    returns-2
-    array-read-t14-3
-    link-ok-requires-3
-    returns-3
-    array-read-t14-4
-    link-ok-requires-4
-    returns-4)
+inner-ok-spec = tie.close (tie.spec array-read-t14 link-ok-requires returns array-read-t14-2 link-ok-requires-2 returns-2)

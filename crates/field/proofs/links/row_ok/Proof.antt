@@ -4,7 +4,7 @@ use Prim.Native.Nat.{_≤_, _-_, _+_, _*_}
 use mathlib.Core.Path.{_≡_}
 use mathlib.Core.Bool.{true}
 use Rattle.rules.specs.Base.{every}
-use Rattle.field.specs.Lent.{lent, linkAt, inCell}
+use Rattle.field.specs.Lent.{lent, halfAt, inCell}
 use Rattle.field.proofs.Loops.{every-go}
 use Rattle.field.proofs.Answered.{columns-halt, columns-end}
 use borrow.Author.Needs.{needs}
@@ -12,7 +12,7 @@ use Rattle.field.proofs.links.row_ok.Statement.{statement}
 use Rattle.field.proofs.links.row_ok.Tie as tie
 
 abbrev Inv-loop : tie.InvT-loop
-Inv-loop w h index count area con z x₀ x = (x ≤ w) × (every x (λ y. inCell (lent w h index count area con) (linkAt (lent w h index count area con)) (w * z + y)) ≡ true)
+Inv-loop w h index count area con z x₀ x = (x ≤ w) × (every x (λ y. inCell (lent w h index count area con) (halfAt (lent w h index count area con)) (w * z + y)) ≡ true)
 
 abbrev μ-loop : tie.MeasureT-loop
 μ-loop w h index count area con z x₀ x = w - x

@@ -19,12 +19,13 @@ use Rattle.rules.specs.Growth.{Marks, idOf, walkable, Spread, expand, blank}
 use Rattle.laws.proofs.Basics.{and-no}
 use Rattle.space.specs.Space.{sec, Frame}
 use Rattle.space.proofs.Laws.{cases, frame-put, getD-after, length-sec, zeroed}
-use Rattle.flood.specs.Site.{Lent, SomeLent}
+use Rattle.flood.specs.Site.{Lent}
 use Rattle.flood.specs.Stack.{marksAt}
 use Rattle.flood.proofs.Sight.{area-is}
 use Rattle.expand.specs.Layout.{listAt, pushAt, fillAt, Low, Kept, Given, Filling, Filled, Last}
-use Rattle.expand.proofs.Lists.{listAt-cong, listAt-snoc, length-listAt, listAt-sec, seam, marks-same, lent-past, some-past}
-use Rattle.expand.proofs.Wholes.{sizes-kept}
+use Rattle.expand.specs.Front.{SomeMutual}
+use Rattle.expand.proofs.Lists.{listAt-cong, listAt-snoc, length-listAt, listAt-sec, seam, marks-same, lent-past}
+use Rattle.expand.proofs.Ends.{sizes-kept}
 
 -- ---------------------------------------------------------------- one span
 
@@ -175,13 +176,13 @@ module _ (ar ids ws₀ : List ℕ) where
 
 module _ (w : ℕ) (is ar cs : List ℕ) (e b : ℕ) (ids ws ws₁ : List ℕ) (fill : ℕ) (v : Filled ar ids ws ws₁ (length ar) fill) where
   module _ (g : Last (length ar) e b ids ws) where
-    filled-past : SomeLent w is ar cs b ws → (x : ℕ) → b ≤ x → getD ws₁ x 0 ≡ getD ws x 0
+    filled-past : SomeMutual w is ar cs b ws → (x : ℕ) → b ≤ x → getD ws₁ x 0 ≡ getD ws x 0
     filled-past s x l = let f = v .each (s .F) (s .lent .areas) in f .unseen x (omega (arith, f .few, g .sizes .apart, g .sizes .past))
 
-    pub filled-lent : SomeLent w is ar cs b ws → SomeLent w is ar cs b ws₁
-    filled-lent s = some-past w is ar cs b ws ws₁ (v .each (s .F) (s .lent .areas) .size) (filled-past s) s
+    pub filled-lent : SomeMutual w is ar cs b ws → SomeMutual w is ar cs b ws₁
+    filled-lent s = record { F = s .F; lent = lent-past w is ar cs b ws ws₁ (v .each (s .F) (s .lent .areas) .size) (filled-past s) (s .F) (s .lent); back = s .back }
 
-    pub filled-given : SomeLent w is ar cs b ws → Given (length ar) (length ar) e b fill ids ws₁
+    pub filled-given : SomeMutual w is ar cs b ws → Given (length ar) (length ar) e b fill ids ws₁
     filled-given s =
         let f = v .each (s .F) (s .lent .areas) in
         record {
@@ -198,13 +199,13 @@ module _ (w : ℕ) (is ar cs : List ℕ) (e b : ℕ) (ids ws ws₁ : List ℕ) (
         let n : length (F .area) ≡ length ar = ap length f in
         sym (append-nil _) ∙ sym (rw z at (v .each F f .stack)) ∙ rw n
 
-    filled-room : SomeLent w is ar cs b ws → length ar + fill ≤ length ws₁
+    filled-room : SomeMutual w is ar cs b ws → length ar + fill ≤ length ws₁
     filled-room s = let f = v .each (s .F) (s .lent .areas) in omega (arith, f .few, f .size, g .sizes .apart, g .sizes .past, g .sizes .room)
 
-    pub last-count : SomeLent w is ar cs b ws → (F : Field) → Lent F w is ar cs b ws → fill ≡ length (blank F (marksAt (length ar) ids ws))
+    pub last-count : SomeMutual w is ar cs b ws → (F : Field) → Lent F w is ar cs b ws → fill ≡ length (blank F (marksAt (length ar) ids ws))
     last-count s F l = sym (length-listAt ws₁ (length ar) fill) ∙ ap length (filled-list F (l .areas))
 
-    module _ (s : SomeLent w is ar cs b ws) (ids₂ ws₂ ys : List ℕ) (k : Kept (length ar) (length ar) fill ws₁ ws₂)
+    module _ (s : SomeMutual w is ar cs b ws) (ids₂ ws₂ ys : List ℕ) (k : Kept (length ar) (length ar) fill ws₁ ws₂)
         (q : ys ≡ replicate (length (midOf (length ar) (length ar + fill - length ar) ws₂)) 0) where
       abbrev ws₃ : List ℕ
       ws₃ = putMid (length ar) (length ar + fill - length ar) ws₂ ys

@@ -2,7 +2,13 @@
 pub mod Lists
 pub mod Looks
 pub mod Halves
+pub mod Trying
 pub mod Sources
+pub mod Waves
+pub mod Fronts
+pub mod Writes
 pub mod Wholes
+pub mod Flagged
 pub mod Stacks
+pub mod Ends
 pub mod Blanks

@@ -12,7 +12,7 @@ use Rattle.rules.specs.Field.{Field}
 use Rattle.rules.specs.Growth.{Marks, put}
 use Rattle.space.specs.Space.{sec}
 use Rattle.space.proofs.Laws.{length-sec, getD-sec}
-use Rattle.flood.specs.Site.{Lent, SomeLent}
+use Rattle.flood.specs.Site.{Lent}
 use Rattle.flood.specs.Stack.{marksAt}
 use Rattle.laws.proofs.Basics.{All}
 use Rattle.expand.specs.Layout.{Change, listAt, changesAt, applied}
@@ -145,6 +145,3 @@ module _ (w : ℕ) (is ar cs : List ℕ) (b : ℕ) (ws ws′ : List ℕ) (l : le
     room = omega (arith, v .room);
     near = v .near;
   }
-
-  pub some-past : SomeLent w is ar cs b ws → SomeLent w is ar cs b ws′
-  some-past x = record { F = x .F; lent = lent-past (x .F) (x .lent) }

@@ -52,12 +52,12 @@ module _ (F : Field) (m : Marks) (b : ℕ) (low : (x : ℕ) → getD (m .src) x 
 -- ---------------------------------------------------------------- what a round writes
 
 module _ (F : Field) (m : Marks) where
-  finds-id : (s : ℕ) → finds F m s ≡ true → takes F m s .id ≡ 0 → ⊥
+  pub finds-id : (s : ℕ) → finds F m s ≡ true → takes F m s .id ≡ 0 → ⊥
   unfolding finds
   finds-id s z = eqb-false _ _ (not-true _ (both _ _ z .1))
 
   -- a span that finds nothing is not written
-  written-keeps : (x : ℕ) → finds F m x ≡ false → (es : List ℕ) (out : Marks) → getD (written F m es out .ids) x 0 ≡ getD (out .ids) x 0
+  pub written-keeps : (x : ℕ) → finds F m x ≡ false → (es : List ℕ) (out : Marks) → getD (written F m es out .ids) x 0 ≡ getD (out .ids) x 0
   unfolding written wrote put
   written-keeps x z [] out = refl
   written-keeps x z (s ∷ es) out =

@@ -1,26 +1,16 @@
--- An expansion as a whole: entries that have an id are marked used (`Using`: those still to be looked at, marked, give the whole stack marked),
--- and the rounds start from there. An entry that is then unused is a span with no id, which is what a round needs. Assumes nothing.
+-- Entries that have an id are marked used (`Using`: those still to be looked at, marked, give the whole stack marked). Assumes nothing.
 use mathlib.Core.Path.{_≡_, refl, sym, ap, _∙_}
 use mathlib.Core.Logic.{⊎-elim, inl, inr}
 use mathlib.Core.List.{List, [], _∷_, _++_, map, append-nil}
 use Prim.Native.Nat.{ℕ, _+_, _-_, _≤_, _<_}
 use native.Mathlib.Omega.{arith}
 use native.Mathlib.Nat.{add-zero}
-use native.Mathlib.Numerals.{add-one}
 use lib.ListN.{length, getD, set, length-set, List·getD-eq-default}
 use lib.Seq.{getD-set-same, getD-set-other, set-getD, take-set-le}
 use borrow.Author.Tests.{eq-eqb, ne-eqb}
 use Rattle.rules.specs.Base.{if_then_else_}
-use Rattle.rules.specs.Field.{Field}
-use Rattle.rules.specs.Growth.{rounds, expand}
-use Rattle.laws.proofs.Basics.{map-all}
-use Rattle.space.specs.Space.{sec}
-use Rattle.flood.specs.Site.{Lent, SomeLent}
-use Rattle.flood.specs.Stack.{marksAt}
-use Rattle.expand.specs.Layout.{fresh, mostAt, listAt, viewOf, Past, Entries, Kept, Given, Unheld, Ready, Using}
-use Rattle.expand.proofs.Lists.{listAt-cong, listAt-snoc, listAt-next, length-listAt, listAt-sec, all-of, seam, marks-same, lent-past, some-past}
-use Rattle.expand.proofs.Sources.{fresh-unheld}
-use Rattle.expand.proofs.Wholes.{ready-entries, kept-clear, kept-past, kept-then, sizes-kept}
+use Rattle.expand.specs.Layout.{fresh, listAt, Past, Entries, Using}
+use Rattle.expand.proofs.Lists.{listAt-cong, listAt-snoc, listAt-next, seam}
 
 -- ---------------------------------------------------------------- one entry
 
@@ -83,89 +73,7 @@ module _ (a fill : ℕ) (ids ws₀ : List ℕ) where
     pub using-end : fill ≤ j → Using (length ids) a fill ids ws₀ ws fill
     using-end h = let q : j ≡ fill = omega (arith, v .within) in rw q at v
 
--- ---------------------------------------------------------------- ready for rounds
-
--- the stack's section
-pub given-part : (n a e b fill : ℕ) (ids ws : List ℕ) → Given n a e b fill ids ws → Past (length ids) a (a + length ids) ws
-given-part n a e b fill ids ws g =
-    let z = g .sizes in
-    rw (z .idents) (record { few = z .few; low = z .low; room = omega (arith, z .apart, z .past, z .room); close = omega (arith, z .apart, z .past, z .close) })
-
-pub given-entries : (n a e b fill : ℕ) (ids ws : List ℕ) → Given n a e b fill ids ws → Entries (length ids) a fill ws
-given-entries n a e b fill ids ws g = rw (g .sizes .idents) (g .entries)
-
-module _ (n a e b fill : ℕ) (ids ws ws₁ : List ℕ) (y : Using (length ids) a fill ids ws ws₁ fill) (g : Given n a e b fill ids ws) where
-  -- for n source distances
-  used : Using n a fill ids ws ws₁ fill
-  used = rw (g .sizes .idents) at y
-
-  used-view : viewOf n a fill ids ws₁ ≡ record { marks = marksAt n ids ws; stack = map (fresh ids) (listAt ws a fill) }
-  unfolding viewOf listAt
-  used-view =
-      let p : fill - fill ≡ 0 = omega arith in
-      rw (marks-same n ids ws ws₁ (used .marks), rw p at (used .stack), append-nil (listAt ws₁ a fill))
-
-  pub used-kept : Kept n a fill ws ws₁
-  used-kept = record { size = used .size; same = λ x l y. used .unseen x y }
-
-  pub used-ready : Ready n a e b fill ids ws₁
-  unfolding marksAt
-  used-ready = record {
-    sizes = sizes-kept ids ws₁ (g .sizes) refl (used .size);
-    filled = g .entries .filled;
-    clear = kept-clear n a e fill ws ws₁ (g .entries .filled) (g .sizes .apart) (g .sizes .low) (g .clear) used-kept;
-    ok = rw used-view (record {
-      idents = g .sizes .idents;
-      entries = map-all (λ s. (s ≡ 65535 → ⊥) → s < n) (Unheld n ids) (fresh ids) (listAt ws a fill) (fresh-unheld n ids)
-          (all-of (λ s. (s ≡ 65535 → ⊥) → s < n) ws a fill (g .entries .spans));
-      low = g .low;
-    });
-  }
-
-  used-past : (x : ℕ) → b ≤ x → getD ws₁ x 0 ≡ getD ws x 0
-  used-past = kept-past n a e b fill ids ws ws₁ (g .entries .filled) (g .sizes) used-kept
-
-pub used-lent : (w : ℕ) (is ar cs : List ℕ) (a e b fill : ℕ) (ids ws ws₁ : List ℕ) → Using (length ids) a fill ids ws ws₁ fill → Given (length ar) a e b fill ids ws
-    → SomeLent w is ar cs b ws → SomeLent w is ar cs b ws₁
-used-lent w is ar cs a e b fill ids ws ws₁ v g x = some-past w is ar cs b ws ws₁ (v .size) (used-past (length ar) a e b fill ids ws ws₁ v g) x
-
--- ---------------------------------------------------------------- done
-
-pub most-free : (level fill : ℕ) → level ≡ 0 → fill + 1 ≡ mostAt level fill
-unfolding mostAt if_then_else_
-most-free level fill z = rw (eq-eqb level 0 z) (add-one fill)
-
-pub most-eight : (level fill : ℕ) → (level ≡ 0 → ⊥) → 8 ≡ mostAt level fill
-unfolding mostAt if_then_else_
-most-eight level fill z = rw (ne-eqb level 0 z)
-
-expand-is : (F : Field) (n a fill level : ℕ) (ids ws : List ℕ) → expand F level (marksAt n ids ws) (listAt ws a fill)
-    ≡ rounds F (mostAt level fill) (record { marks = marksAt n ids ws; stack = map (fresh ids) (listAt ws a fill) })
-unfolding expand mostAt marksAt fresh
-expand-is F n a fill level ids ws = rw (length-listAt ws a fill)
-
--- the stack as a section
-view-sec : (n a fill : ℕ) (ids ws : List ℕ) → a + fill ≤ length ws → viewOf n a fill ids ws ≡ record { marks = marksAt n ids ws; stack = sec a fill ws }
-unfolding viewOf
-view-sec n a fill ids ws h = rw (listAt-sec ws a fill h)
-
-module _ (w : ℕ) (is ar cs : List ℕ) (a e b fill level : ℕ) (ids ws ws₁ ids₂ ws₂ : List ℕ) (most : ℕ) (v : Using (length ids) a fill ids ws ws₁ fill)
-    (g : Given (length ar) a e b fill ids ws) (q : most ≡ mostAt level fill) where
-  pub expanded : Kept (length ar) a fill ws₁ ws₂
-      → ((F : Field) → Lent F w is ar cs b ws₁ → viewOf (length ar) a fill ids₂ ws₂ ≡ rounds F most (viewOf (length ar) a fill ids ws₁))
-      → (F : Field) → Lent F w is ar cs b ws → record { marks = marksAt (length ar) ids₂ ws₂; stack = sec a fill ws₂ } ≡ expand F level (marksAt (length ar) ids ws) (sec a fill ws)
-  expanded k r F l =
-      let i : a + fill ≤ length ws = omega (arith, g .entries .filled, g .sizes .apart, g .sizes .past, g .sizes .room) in
-      let j : a + fill ≤ length ws₂ = omega (arith, k .size, v .size) in
-      let l₁ = lent-past w is ar cs b ws ws₁ (v .size) (used-past (length ar) a e b fill ids ws ws₁ v g) F l in
-      sym (view-sec (length ar) a fill ids₂ ws₂ j) ∙ r F l₁
-      ∙ rw (used-view (length ar) a e b fill ids ws ws₁ v g, q, ← listAt-sec ws a fill i) (sym (expand-is F (length ar) a fill level ids ws))
-
-  pub expanded-kept : Kept (length ar) a fill ws₁ ws₂ → Kept (length ar) a fill ws ws₂
-  expanded-kept k = kept-then (used-kept (length ar) a e b fill ids ws ws₁ v g) k
-
-pub ready-given : (n a e b fill : ℕ) (ids ws : List ℕ) → Ready n a e b fill ids ws → Given n a e b fill ids ws
-unfolding viewOf
-ready-given n a e b fill ids ws r = record { sizes = r .sizes; entries = ready-entries n a e b fill ids ws r; low = r .ok .low; clear = r .clear }
-
--- ---------------------------------------------------------------- for the loop over turns
+-- all are marked
+pub used-stack : (n a fill : ℕ) (ids ws ws₁ : List ℕ) → Using n a fill ids ws ws₁ fill → listAt ws₁ a fill ≡ map (fresh ids) (listAt ws a fill)
+unfolding listAt
+used-stack n a fill ids ws ws₁ v = let p : fill - fill ≡ 0 = omega arith in sym (rw (rw p at (v .stack)) (append-nil (listAt ws₁ a fill)))

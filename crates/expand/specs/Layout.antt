@@ -1,17 +1,16 @@
--- Expansion over sections of one workspace: source distances at 0 .. n, the stack at a .. a + fill, the changes of a round at e .. e + 3n, three
--- numbers each and zero when not in use, and the cell of each span from b on.
+-- Expansion over sections of one workspace: source distances at 0 .. n, the stack at a .. a + fill, the changes of all rounds at e .. e + 3n, three
+-- numbers each, a flag for each span at e + 3n .. e + 4n, changes and flags zero when not in use, and the cell of each span from b on.
 use mathlib.Core.Path.{_≡_}
 use mathlib.Core.Logic.{_⊎_}
 use mathlib.Core.List.{List, [], _∷_, _++_, map}
 use Prim.Native.Nat.{ℕ, zero, suc, _+_, _-_, _*_, _≤_, _<_}
 use lib.ListN.{length, getD, set, take}
 use lib.Dec.{eqb}
-use Rattle.rules.specs.Base.{_and_, if_then_else_, tab, keep, many}
+use Rattle.rules.specs.Base.{_and_, if_then_else_, tab, keep}
 use Rattle.rules.specs.Field.{Field, spans, none}
-use Rattle.rules.specs.Growth.{Marks, idOf, put, walkable, finds, takes, written, Spread, rounds}
+use Rattle.rules.specs.Growth.{Marks, idOf, put, walkable, finds, Spread}
 use Rattle.laws.proofs.Basics.{All}
 use Rattle.laws.proofs.NextId.{zeros}
-use Rattle.flood.specs.Site.{Lent}
 use Rattle.flood.specs.Stack.{marksAt}
 
 -- ---------------------------------------------------------------- what the rules write inside of a round, by name
@@ -35,9 +34,6 @@ unfoldable pub listAt : List ℕ → ℕ → ℕ → List ℕ
 listAt ws a zero = []
 listAt ws a (suc k) = getD ws a 0 ∷ listAt ws (a + 1) k
 
-unfoldable pub viewOf : ℕ → ℕ → ℕ → List ℕ → List ℕ → Spread
-viewOf n a fill ids ws = record { marks = marksAt n ids ws; stack = listAt ws a fill }
-
 pub record Change : Type 0 where
   pub span : ℕ
   pub id : ℕ
@@ -52,24 +48,13 @@ unfoldable pub applied : List Change → Marks → Marks
 applied [] out = out
 applied (c ∷ cs) out = applied cs (put out (c .span) (c .id) (c .far))
 
--- the entry at i is marked used, and the change of span s noted at c
+-- the flag at i falls, and the change of span s is noted at c
 unfoldable pub noted : ℕ → ℕ → ℕ → ℕ → ℕ → List ℕ → List ℕ
-noted i c s id far ws = set (set (set (set ws i 65535) c s) (c + 1) id) (c + 2) far
+noted i c s id far ws = set (set (set (set ws i 0) c s) (c + 1) id) (c + 2) far
 
--- the entry at i has looked, in marks m, with the next change at c: the workspace
-unfoldable pub stepAt : Field → Marks → ℕ → ℕ → List ℕ → List ℕ
-stepAt F m i c ws =
-    let s = getD ws i 0 in
-    let t = takes F m s in
-    if finds F m s then noted i c s (t .id) (t .far) ws else ws
-
--- and the number of changes, k before
-unfoldable pub countAt : Field → Marks → ℕ → ℕ → List ℕ → ℕ
-countAt F m i k ws = if finds F m (getD ws i 0) then k + 1 else k
-
--- the change at c is made, and its three numbers zeroed
-unfoldable pub spent : ℕ → List ℕ → List ℕ
-spent c ws = set (set (set (set ws (getD ws c 0) (getD ws (c + 2) 0)) c 0) (c + 1) 0) (c + 2) 0
+-- the flag of span s is v, unless s is a used entry
+unfoldable pub flagged : ℕ → ℕ → ℕ → ℕ → List ℕ → List ℕ
+flagged n e s v ws = if eqb s none then ws else set ws (e + 3 * n + s) v
 
 -- ---------------------------------------------------------------- what holds of the workspace
 
@@ -79,7 +64,7 @@ pub record Sizes (n a e b : ℕ) (ids ws : List ℕ) : Type 0 where
   pub idents : length ids ≡ n
   pub low : n ≤ a
   pub apart : a + n ≤ e
-  pub past : e + 3 * n ≤ b
+  pub past : e + 4 * n ≤ b
   pub room : b + n ≤ length ws
   pub close : b ≤ 8388608
 
@@ -118,42 +103,7 @@ pub record Given (n a e b fill : ℕ) (ids ws : List ℕ) : Type 0 where
   pub sizes : Sizes n a e b ids ws
   pub entries : Entries n a fill ws
   pub low : Low n (marksAt n ids ws)
-  pub clear : Clear e (e + 3 * n) ws
-
--- ---------------------------------------------------------------- a round, half done
-
--- j entries of a round are looked at, and k changes noted
-pub record Marking (F : Field) (n a e fill : ℕ) (ids ws₀ ws : List ℕ) (j k : ℕ) : Type 0 where
-  pub within : j ≤ fill
-  pub few : k ≤ j
-  pub size : length ws ≡ length ws₀
-  pub marks : take n ws ≡ take n ws₀
-  pub stack : map (left F (marksAt n ids ws₀)) (listAt ws₀ a fill) ≡ listAt ws a j ++ map (left F (marksAt n ids ws₀)) (listAt ws (a + j) (fill - j))
-  pub wrote : written F (marksAt n ids ws₀) (listAt ws₀ a fill) (marksAt n ids ws₀)
-      ≡ written F (marksAt n ids ws₀) (listAt ws (a + j) (fill - j)) (applied (changesAt ws e k) (marksAt n ids ws₀))
-  pub count : many (finds F (marksAt n ids ws₀)) (listAt ws₀ a fill) ≡ k + many (finds F (marksAt n ids ws₀)) (listAt ws (a + j) (fill - j))
-  pub spans : (i : ℕ) → i < k → getD ws (e + 3 * i) 0 < n
-  pub unseen : (x : ℕ) → n ≤ x → x < e → (x < a) ⊎ (a + j ≤ x) → getD ws x 0 ≡ getD ws₀ x 0
-  pub rest : (x : ℕ) → e + 3 * k ≤ x → getD ws x 0 ≡ getD ws₀ x 0
-
--- the same for every field that is lent
-pub record Marked (w : ℕ) (index area con : List ℕ) (a e b fill : ℕ) (ids ws₀ ws : List ℕ) (j k : ℕ) : Type 0 where
-  pub each : (F : Field) → Lent F w index area con b ws₀ → Marking F (length area) a e fill ids ws₀ ws j k
-
--- i of the k changes are made
-pub record Writing (n e k : ℕ) (ids₀ ws₀ ids ws : List ℕ) (i : ℕ) : Type 0 where
-  pub within : i ≤ k
-  pub size₁ : length ids ≡ length ids₀
-  pub size₂ : length ws ≡ length ws₀
-  pub same : applied (changesAt ws (e + 3 * i) (k - i)) (marksAt n ids ws) ≡ applied (changesAt ws₀ e k) (marksAt n ids₀ ws₀)
-  pub stack : (x : ℕ) → n ≤ x → x < e → getD ws x 0 ≡ getD ws₀ x 0
-  pub done : (x : ℕ) → e ≤ x → x < e + 3 * i → getD ws x 0 ≡ 0
-  pub rest : (x : ℕ) → e + 3 * i ≤ x → getD ws x 0 ≡ getD ws₀ x 0
-
--- each of the k changes is of a span
-pub record Spans (n e k : ℕ) (ws : List ℕ) : Type 0 where
-  pub few : k ≤ n
-  pub span : (i : ℕ) → i < k → getD ws (e + 3 * i) 0 < n
+  pub clear : Clear e (e + 4 * n) ws
 
 -- ---------------------------------------------------------------- what holds between rounds
 
@@ -165,21 +115,6 @@ pub record Ok (n : ℕ) (p : Spread) : Type 0 where
   pub idents : length (p .marks .ids) ≡ n
   pub entries : All (Unheld n (p .marks .ids)) (p .stack)
   pub low : Low n (p .marks)
-
--- what a round is lent besides the field
-pub record Ready (n a e b fill : ℕ) (ids ws : List ℕ) : Type 0 where
-  pub sizes : Sizes n a e b ids ws
-  pub filled : fill ≤ n
-  pub clear : Clear e (e + 3 * n) ws
-  pub ok : Ok n (viewOf n a fill ids ws)
-
--- the rounds that are still to come give what all of them give
-pub record Going (w : ℕ) (index area con : List ℕ) (a e b fill most : ℕ) (ids₀ ws₀ ids ws : List ℕ) (more : ℕ) : Type 0 where
-  pub ready : Ready (length area) a e b fill ids ws
-  pub size₁ : length ids ≡ length ids₀
-  pub kept : Kept (length area) a fill ws₀ ws
-  pub same : (F : Field) → Lent F w index area con b ws₀
-      → rounds F more (viewOf (length area) a fill ids ws) ≡ rounds F most (viewOf (length area) a fill ids₀ ws₀)
 
 -- ---------------------------------------------------------------- the whole
 
@@ -220,4 +155,4 @@ pub record Last (n e b : ℕ) (ids ws : List ℕ) : Type 0 where
   pub sizes : Sizes n n e b ids ws
   pub low : Low n (marksAt n ids ws)
   pub stack : Clear n (n + n) ws
-  pub clear : Clear e (e + 3 * n) ws
+  pub clear : Clear e (e + 4 * n) ws

@@ -1,4 +1,5 @@
 // The expansion of a stack at a level, and of all that is left at the end.
+use crate::flags::flag_all;
 use crate::round::rounds;
 use field::place::NO_SPAN;
 use field::read::at8;
@@ -10,9 +11,10 @@ ghost use lib.ListN.{length, getD, set, drop};
 ghost use Rattle.rules.specs.Field.{Field};
 ghost use Rattle.rules.specs.Growth.{Marks, expand, blank};
 ghost use Rattle.space.specs.Space.{sec};
-ghost use Rattle.flood.specs.Site.{Lent, SomeLent};
+ghost use Rattle.flood.specs.Site.{Lent};
 ghost use Rattle.flood.specs.Stack.{marksAt};
 ghost use Rattle.expand.specs.Layout.{fresh, mostAt, pushAt, fillAt, Past, Entries, Low, Kept, Given, Using, Filled, Last};
+ghost use Rattle.expand.specs.Front.{SomeMutual, Settled};
 
 // The entry at i is marked used if it has an id.
 fn use_one(ids: &[u16], ws: &mut [u16], i: usize)
@@ -53,6 +55,16 @@ fn most_rounds(level: u16, fill: usize) -> usize
     8
 }
 
+// After the rounds, with k changes noted: flags and changes are zeroed, and entries that have an id now are marked used.
+fn settle(ids: &[u16], ws: &mut [u16], n: usize, cb: usize, a: usize, fill: usize, k: usize)
+    requires { ⌜ (length (now ids) ≡ n) × Past n a cb (now ws) × Past n cb (cb + 4 * n) (now ws) × (a + n ≤ cb) × Entries n a fill (now ws) × (k ≤ n) ⌝ }
+    ensures { λ _. ⌜ Settled n a cb fill k (now (ids .entry)) (now (ws .entry)) (now (ws .exit)) ⌝ }
+{
+    flag_all(ws, n, cb, a, fill, 0);
+    use_up(ids, ws, a, fill);
+    clear(&mut ws[cb..cb + 3 * k]);
+}
+
 // Expands the stack of ws[a .. a + fill] at a level.
 pub fn expand_regions(
     w: usize,
@@ -67,14 +79,17 @@ pub fn expand_regions(
     fill: usize,
     level: u16,
 )
-    requires { ⌜ SomeLent w (now index) (now area) (now con) b (now ws) × Given (length (now area)) a cb b fill (now ids) (now ws) ⌝ }
+    requires { ⌜ SomeMutual w (now index) (now area) (now con) b (now ws) × Given (length (now area)) a cb b fill (now ids) (now ws) ⌝ }
     ensures { λ _. ⌜ ((F : Field) → Lent F w (now (index .entry)) (now (area .entry)) (now (con .entry)) b (now (ws .entry)) → record { marks = marksAt (length (now (area .entry))) (now (ids .exit)) (now (ws .exit)); stack = sec a fill (now (ws .exit)) } ≡ expand F level (marksAt (length (now (area .entry))) (now (ids .entry)) (now (ws .entry))) (sec a fill (now (ws .entry)))) ⌝ }
     ensures { λ _. ⌜ Kept (length (now (area .entry))) a fill (now (ws .entry)) (now (ws .exit)) ⌝ }
     ensures { λ _. ⌜ Given (length (now (area .entry))) a cb b fill (now (ids .exit)) (now (ws .exit)) ⌝ }
 {
+    let n = area.len();
     use_up(ids, ws, a, fill);
+    flag_all(ws, n, cb, a, fill, 1);
     let most = most_rounds(level, fill);
-    rounds(w, index, area, con, ids, ws, b, cb, a, fill, most);
+    let k = rounds(w, index, area, con, ids, ws, b, cb, a, fill, most);
+    settle(ids, ws, n, cb, a, fill, k);
 }
 
 // Span s is stacked, with fill spans on the stack at n, if it is walkable and has id 0. Gives the stack's new fill.
@@ -118,7 +133,7 @@ pub fn expand_last(
     b: usize,
     cb: usize,
 ) -> usize
-    requires { ⌜ SomeLent w (now index) (now area) (now con) b (now ws) × Last (length (now area)) cb b (now ids) (now ws) ⌝ }
+    requires { ⌜ SomeMutual w (now index) (now area) (now con) b (now ws) × Last (length (now area)) cb b (now ids) (now ws) ⌝ }
     ensures { λ _. ⌜ ((F : Field) → Lent F w (now (index .entry)) (now (area .entry)) (now (con .entry)) b (now (ws .entry)) → marksAt (length (now (area .entry))) (now (ids .exit)) (now (ws .exit)) ≡ expand F 0 (marksAt (length (now (area .entry))) (now (ids .entry)) (now (ws .entry))) (blank F (marksAt (length (now (area .entry))) (now (ids .entry)) (now (ws .entry)))) .marks) ⌝ }
     ensures { λ r. ⌜ ((F : Field) → Lent F w (now (index .entry)) (now (area .entry)) (now (con .entry)) b (now (ws .entry)) → r ≡ length (blank F (marksAt (length (now (area .entry))) (now (ids .entry)) (now (ws .entry))))) ⌝ }
     ensures { λ _. ⌜ drop (length (now (area .entry))) (now (ws .exit)) ≡ drop (length (now (area .entry))) (now (ws .entry)) ⌝ }

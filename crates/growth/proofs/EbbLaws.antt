@@ -25,6 +25,7 @@ ebb-start w is ar cs dist b count next ids ws fs v = record {
   between = record {
     F = v .F;
     lent = v .lent;
+    back = v .back;
     few = v .few;
     past = v .past;
     turn = v .turn;

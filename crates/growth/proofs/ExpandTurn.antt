@@ -22,7 +22,7 @@ use Rattle.levels.proofs.TurnLaws.{expand-stack}
 use Rattle.growth.specs.Seas.{Seas}
 use Rattle.growth.specs.Turns.{Ready, stackOf, Expanded}
 use Rattle.growth.proofs.SpreadLaws.{expand-seas}
-use Rattle.growth.proofs.StackLaws.{levels-changed}
+use Rattle.growth.proofs.StackLaws.{levels-changed, flags-clear}
 
 module _ (w : ℕ) (is ar cs : List ℕ) (b next : ℕ) (fs : List ℕ) (j : ℕ) (ids ws : List ℕ) (v : Ready w is ar cs b next fs j ids ws) where
   n-of : length (v .F .area) ≡ length ar
@@ -57,7 +57,7 @@ module _ (w : ℕ) (is ar cs : List ℕ) (b next : ℕ) (fs : List ℕ) (j : ℕ
       spans = all-at (λ e. (e ≡ none → ⊥) → e < length ar) ws (length ar + j * length ar) (getD fs j 0) (rw (listAt-sec ws (length ar + j * length ar) (getD fs j 0) (omega (arith, section .0, section .1, v .past, v .fits .most j))) stack-inside);
     };
     low = v .low;
-    clear = v .changes;
+    clear = flags-clear (length ar) ws (v .changes) (v .stack);
   }
 
   module _ (level : ℕ) (ids′ ws′ : List ℕ)
@@ -107,12 +107,13 @@ module _ (w : ℕ) (is ar cs : List ℕ) (b next : ℕ) (fs : List ℕ) (j : ℕ
       ready = record {
         F = v .F;
         lent = lent′ (v .F) (v .lent);
+        back = v .back;
         few = v .few;
         past = v .past;
         turn = v .turn;
         seas = seas′;
         low = g .low;
-        changes = g .clear;
+        changes = record { blank = λ x l u. g .clear .blank x l (omega arith) };
         stack = record { zeros = λ i a l. past-section i (omega arith) ∙ v .stack .zeros i a l };
         fits = v .fits;
         stacked = rw stacks′ (stacked-used (length ar) j (stackOf (length ar) fs j ws′) (levelsAt ws (length ar) (length ar) fs) (v .stacked) (v .turn) (rw stack-is (rw rule-stack (expand-stack (v .F) level _ _))) inside′);

@@ -13,6 +13,8 @@ use Rattle.rules.specs.Growth.{Marks, Turn, turn, blank, painted, firstId, grow
 use Rattle.laws.proofs.Basics.{tab-at, length-tab}
 use Rattle.laws.proofs.NextId.{zeros, zeros-le}
 use Rattle.laws.proofs.Lengths.{painted-length}
+use Rattle.laws.proofs.Cells.{passed, near-none}
+use Rattle.laws.proofs.Strides.{back}
 use Rattle.laws.proofs.Grows.{first-few}
 use Rattle.rooms.proofs.Growing.{painted-grow}
 use Rattle.space.specs.Space.{Frame}
@@ -23,6 +25,7 @@ use Rattle.paint.specs.Paint.{Plot}
 use Rattle.flood.specs.Site.{Lent}
 use Rattle.flood.specs.Stack.{marksAt}
 use Rattle.expand.specs.Layout.{Clear}
+use Rattle.expand.specs.Front.{Back}
 use Rattle.expand.proofs.Sources.{painted-low}
 use Rattle.growth.specs.Seas.{Seas}
 use Rattle.growth.specs.Turns.{Between, turnsOf}
@@ -73,6 +76,10 @@ module _ (w h : ℕ) (is ks ar cs dist : List ℕ) (b most border : ℕ) (ids ws
     near = p .near;
   }
 
+  -- connections are mutual, since refusal 6 does not meet the field
+  back-first : Back G
+  back-first s d l g y = back G [] (passed G [] (p .sound)) ar refl s d l g (λ k. y (near-none G s d k))
+
   few : length ar ≤ 32000
   few = sound-reached G (p .sound) .celled .few
 
@@ -103,6 +110,7 @@ module _ (w h : ℕ) (is ks ar cs dist : List ℕ) (b most border : ℕ) (ids ws
   between-first = record {
     F = G;
     lent = lent-first;
+    back = back-first;
     few = few;
     past = p .past;
     turn = omega arith;

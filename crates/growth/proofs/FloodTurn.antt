@@ -72,6 +72,7 @@ module _ (w : ℕ) (is ar cs dist : List ℕ) (b next : ℕ) (fs : List ℕ) (j 
         ready = record {
           F = v .F;
           lent = lent-kept (v .F) w is ar cs b ws ws′ (omega (arith, v .past)) size d (v .lent);
+          back = v .back;
           few = v .few;
           past = v .past;
           turn = v .turn;

@@ -9,13 +9,15 @@ use Rattle.rules.specs.Field.{Field}
 use Rattle.rules.specs.Growth.{expand, blank}
 use Rattle.space.specs.Space.{Frame}
 use Rattle.space.proofs.Laws.{frame-put, getD-after, length-sec, zeroed}
-use Rattle.flood.specs.Site.{Lent, SomeLent}
+use Rattle.flood.specs.Site.{Lent}
 use Rattle.flood.specs.Stack.{marksAt}
 use Rattle.expand.specs.Layout.{Clear, Last}
-use Rattle.expand.proofs.Lists.{marks-same, lent-past, some-past}
+use Rattle.expand.specs.Front.{SomeMutual}
+use Rattle.expand.proofs.Lists.{marks-same, lent-past}
 use Rattle.growth.specs.Turns.{Between, Ebbed}
 use Rattle.growth.specs.Grow.{turnsFor, Grew}
 use Rattle.growth.proofs.SeaLaws.{past-same}
+use Rattle.growth.proofs.StackLaws.{flags-clear}
 
 -- a part that was cleared
 module _ (a e : ℕ) (ws ys : List ℕ) (o : a ≤ e) (h : e ≤ length ws) (q : ys ≡ replicate (length (midOf a (e - a) ws)) 0) where
@@ -40,8 +42,8 @@ module _ (w : ℕ) (is ar cs dist : List ℕ) (b most next : ℕ) (ids ws : List
   marks₂ : marksAt (length ar) ids₁ ws₂ ≡ marksAt (length ar) ids₁ ws₁
   marks₂ = marks-same (length ar) ids₁ ws₁ ws₂ (f .before)
 
-  pub some-last : SomeLent w is ar cs b ws₂
-  some-last = some-past w is ar cs b ws ws₂ (size₂ ∙ size₁) cells₂ (record { F = v .F; lent = v .lent })
+  pub some-last : SomeMutual w is ar cs b ws₂
+  some-last = record { F = v .F; lent = lent-past w is ar cs b ws ws₂ (size₂ ∙ size₁) cells₂ (v .F) (v .lent); back = v .back }
 
   pub last-ready : Last (length ar) (9 * length ar) b ids₁ ws₂
   last-ready = record {
@@ -56,7 +58,7 @@ module _ (w : ℕ) (is ar cs dist : List ℕ) (b most next : ℕ) (ids ws : List
     };
     low = rw marks₂ (e .low);
     stack = record { blank = λ x l u. z .blank x l (omega arith) };
-    clear = record { blank = λ x l u. past₂ x l ∙ v .changes .blank x l u };
+    clear = record { blank = λ x l u. past₂ x l ∙ flags-clear (length ar) ws (v .changes) (v .stack) .blank x l u };
   }
 
   pub grew : (ids₃ ws₃ : List ℕ)

@@ -2,6 +2,7 @@
 use Prim.Native.Nat.{ℕ, zero, suc, _+_, _*_, _≤_, _<_}
 use native.Mathlib.Omega.{arith}
 use native.Mathlib.Nat.{suc-mul}
+use native.Mathlib.Decide.{decLt}
 use mathlib.Core.Path.{_≡_, refl}
 use mathlib.Core.Logic.{_⊎_, inl, inr, ⊎-elim}
 use mathlib.Core.List.{List, [], _∷_}
@@ -9,6 +10,8 @@ use lib.ListN.{length, getD, set}
 use Rattle.space.specs.Space.{sec}
 use Rattle.space.proofs.Laws.{sec-same}
 use Rattle.levels.specs.Levels.{levelsAt}
+use Rattle.flood.specs.Stack.{Blank}
+use Rattle.expand.specs.Layout.{Clear}
 
 -- stacks that do not change
 levels-same : (ws ws′ : List ℕ) (b n : ℕ) (fs : List ℕ) → b + length fs * n ≤ length ws → length ws′ ≡ length ws → ((j : ℕ) → getD fs j 0 ≤ n)
@@ -41,3 +44,12 @@ levels-changed ws ws′ b n (suc k) (g ∷ fs) i h l f e =
 pub levels-past : (ws ws′ : List ℕ) (n : ℕ) (fs : List ℕ) → n + length fs * n ≤ length ws → length ws′ ≡ length ws → ((j : ℕ) → getD fs j 0 ≤ n)
     → ((x : ℕ) → n ≤ x → getD ws′ x 0 ≡ getD ws x 0) → levelsAt ws′ n n fs ≡ levelsAt ws n n fs
 levels-past ws ws′ n fs h l f e = levels-same ws ws′ n n fs h l f (λ x p q. e x p)
+
+-- the flood's stack is empty at the expansion, which has its flags there
+pub flags-clear : (n : ℕ) (ws : List ℕ) → Clear (9 * n) (9 * n + 3 * n) ws → Blank n (12 * n) 0 ws → Clear (9 * n) (9 * n + 4 * n) ws
+flags-clear n ws c z = record {
+  blank = λ x l u. elim (decLt x (9 * n + 3 * n)) [
+    | yes h ↦ c .blank x l h
+    | no h ↦ z .zeros x (omega arith) (omega arith)
+  ];
+}

@@ -48,6 +48,7 @@ module _ (w : ℕ) (is ar cs dist : List ℕ) (b next : ℕ) (fs : List ℕ) (j 
   ready-turn = record {
     F = v .F;
     lent = lent₁ (v .F) (v .lent);
+    back = v .back;
     few = v .few;
     past = v .past;
     turn = number;
@@ -92,6 +93,7 @@ module _ (w : ℕ) (is ar cs dist : List ℕ) (b next : ℕ) (fs : List ℕ) (j 
     between-turn = record {
       F = f .ready .F;
       lent = f .ready .lent;
+      back = f .ready .back;
       few = f .ready .few;
       past = f .ready .past;
       turn = f .ready .turn;

@@ -11,6 +11,7 @@ use Rattle.levels.specs.Levels.{levelsAt, Fills, Stacked}
 use Rattle.flood.specs.Site.{Lent}
 use Rattle.flood.specs.Stack.{marksAt, Blank}
 use Rattle.expand.specs.Layout.{Low, Clear}
+use Rattle.expand.specs.Front.{Back}
 use Rattle.growth.specs.Seas.{Seas}
 
 -- the turn's number after turn number j
@@ -40,10 +41,11 @@ turnAt F dist level j t =
     record { marks = r .marks; stacks = set stacks j (e .stack); next = r .next }
 
 -- the stacks of turn number j are loaded, and all else that the turn needs is there: source distances at 0 .. n, the stacks at n .. 9n, changes at 9n .. 12n,
--- the flood's stack at 12n .. 13n, the cells past that
+-- the flood's stack at 12n .. 13n, where the expansion has its flags, the cells past that
 pub record Ready (w : ℕ) (index area con : List ℕ) (b next : ℕ) (fills : List ℕ) (j : ℕ) (ids ws : List ℕ) : Type 0 where
   pub F : Field
   pub lent : Lent F w index area con b ws
+  pub back : Back F
   pub few : length area ≤ 32000
   pub past : 13 * length area ≤ b
   pub turn : j < 8
@@ -85,6 +87,7 @@ pub record Bytes (area : List ℕ) : Type 0 where
 pub record Between (w : ℕ) (index area con : List ℕ) (b next : ℕ) (fills : List ℕ) (j : ℕ) (ids ws : List ℕ) : Type 0 where
   pub F : Field
   pub lent : Lent F w index area con b ws
+  pub back : Back F
   pub few : length area ≤ 32000
   pub past : 13 * length area ≤ b
   pub turn : j < 8

@@ -1,7 +1,7 @@
 -- The rule's number of rounds: at level 0 one for each entry and one more, which is no limit.
 -- Assumes nothing.
 use borrow.Author.Needs.{needs}
-use Rattle.expand.proofs.Stacks.{most-free, most-eight}
+use Rattle.expand.proofs.Ends.{most-free, most-eight}
 use Rattle.expand.proofs.expand.most_rounds.Statement.{statement}
 use Rattle.expand.proofs.expand.most_rounds.Tie as tie
 

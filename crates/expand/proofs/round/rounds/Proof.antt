@@ -1,22 +1,31 @@
--- The loop's invariant: the rounds still to come give what all of them give (`Going`). A round in which nothing changed leaves all as it was,
--- and so would every later one. The measure is the rounds left. Assumes nothing.
+-- The loop's invariant: the rounds still to come give what all of them give, and what the next one changes is noted (`Going`). The measure is the rounds left.
+-- Assumes nothing.
 use borrow.Author.Needs.{needs}
-use Rattle.expand.specs.Layout.{Going}
-use Rattle.expand.proofs.Wholes.{going-start, going-lent, kept-then, going-stop, going-next, going-done}
+use Rattle.expand.specs.Front.{Going}
+use Rattle.expand.proofs.Wholes.{mutual-some, lit-board, tried-mutual, tried-begun, going-start, gone-from, going-part, going-spans, going-few, going-end, written-some, written-board, written-spans, going-last, going-next}
 use Rattle.expand.proofs.round.rounds.Statement.{statement}
 use Rattle.expand.proofs.round.rounds.Tie as tie
 
 abbrev Inv-loop : tie.InvT-loop
-Inv-loop w index area con ids₀ ws₀ b cb a fill most left₀ ids ws left = Going w index area con a cb b fill most ids₀ ws₀ ids ws left
+Inv-loop w index area con ids₀ ws₀ b cb a fill most lo₀ hi₀ left₀ ids ws lo hi left = Going w index area con a cb b fill most ids₀ ws₀ ids ws lo hi left
 
 abbrev μ-loop : tie.MeasureT-loop
-μ-loop w index area con ids₀ ws₀ b cb a fill most left₀ ids ws left = left
+μ-loop w index area con ids₀ ws₀ b cb a fill most lo₀ hi₀ left₀ ids ws lo hi left = left
+
+try-all-requires : tie.Need-try-all-requires Inv-loop μ-loop
+try-all-requires c κs = (search (needs, mutual-some), search (needs, lit-board), search needs, search needs)
 
 loop-holds : tie.Need-loop-holds Inv-loop μ-loop
 loop-holds c = search (needs, going-start)
 
-round-requires : tie.Need-round-requires Inv-loop μ-loop
-round-requires c κs = (search (needs, going-lent), search needs)
+write-all-requires : tie.Need-write-all-requires Inv-loop μ-loop
+write-all-requires c κs = let l = c .before .before .before in
+    let t = l .before .before .before in
+    let s = t .before .before .before .before .before .before .before .before in
+    let m = t .try-all .ensures .0 in
+    let x = tried-mutual _ _ _ _ _ _ _ _ (s .args .most) _ _ (s .pre .0) (s .pre .1) _ _ m in
+    let z = tried-begun _ _ _ _ _ _ _ _ (s .args .most) _ _ (s .pre .0) (s .pre .1) _ _ m in
+    (going-part _ _ _ _ _ _ _ _ (s .args .most) _ _ x z _ _ _ _ _ (l .loop .inv), going-spans _ _ _ _ _ _ _ _ (s .args .most) _ _ x z _ _ _ _ _ (l .loop .inv), going-few _ _ _ _ _ _ _ _ (s .args .most) _ _ x z _ _ _ _ _ (l .loop .inv))
 
 same-length : tie.Need-same-length Inv-loop μ-loop
 same-length c = search needs
@@ -25,9 +34,26 @@ same-length-2 : tie.Need-same-length-2 Inv-loop μ-loop
 same-length-2 c = search needs
 
 returns : tie.Need-returns Inv-loop μ-loop
-returns c = let r = c .before .before .before .before .before in
-    let l = r .before .before .before .before in
-    (search (needs, going-stop), (search needs, kept-then (l .loop .inv .kept) (r .round .ensures .1 .1 .1)))
+returns c = let y = c .before .before .before .before .before in
+    let i = y .before .before .before in
+    let l = i .before in
+    let t = l .before .before .before in
+    let s = t .before .before .before .before .before .before .before .before in
+    let m = t .try-all .ensures .0 in
+    let x = tried-mutual _ _ _ _ _ _ _ _ (s .args .most) _ _ (s .pre .0) (s .pre .1) _ _ m in
+    let z = tried-begun _ _ _ _ _ _ _ _ (s .args .most) _ _ (s .pre .0) (s .pre .1) _ _ m in
+    gone-from _ _ _ _ _ _ _ _ _ _ _ (s .pre .0) (s .pre .1) _ _ m _ _ _ (going-last _ _ _ _ _ _ _ _ (s .args .most) _ _ x z _ _ _ _ _ (l .loop .inv) _ _ (y .write-all .ensures) (i .loop-test .taken) (c .if1 .taken))
+
+try-beside-requires : tie.Need-try-beside-requires Inv-loop μ-loop
+try-beside-requires c κs = let y = c .before .before .before .before .before .before .before in
+    let i = y .before .before .before in
+    let l = i .before in
+    let t = l .before .before .before in
+    let s = t .before .before .before .before .before .before .before .before in
+    let m = t .try-all .ensures .0 in
+    let x = tried-mutual _ _ _ _ _ _ _ _ (s .args .most) _ _ (s .pre .0) (s .pre .1) _ _ m in
+    let z = tried-begun _ _ _ _ _ _ _ _ (s .args .most) _ _ (s .pre .0) (s .pre .1) _ _ m in
+    (written-some _ _ _ _ _ _ _ _ (s .args .most) _ _ x z _ _ _ _ _ (l .loop .inv) _ _ (y .write-all .ensures) (i .loop-test .taken), written-board _ _ _ _ _ _ _ _ (s .args .most) _ _ x z _ _ _ _ _ (l .loop .inv) _ _ (y .write-all .ensures) (i .loop-test .taken), written-spans _ _ _ _ _ _ _ _ (s .args .most) _ _ x z _ _ _ _ _ (l .loop .inv) _ _ (y .write-all .ensures) (i .loop-test .taken))
 
 sub-left : tie.Need-sub-left Inv-loop μ-loop
 sub-left c = search needs
@@ -36,12 +62,17 @@ loop-less : tie.Need-loop-less Inv-loop μ-loop
 loop-less c = search needs
 
 loop-again : tie.Need-loop-again Inv-loop μ-loop
-loop-again c = let r = c .before .before .before .before .before in
-    let i = r .before .before .before in
+loop-again c = let b = c .before .before in
+    let f = b .before .before .before in
+    let y = f .before .before .before .before .before in
+    let i = y .before .before .before in
     let l = i .before in
-    let s = l .before .before .before .before .before .before in
-    let q = r .round .ensures in
-    going-next _ _ _ _ _ _ _ _ _ _ _ _ _ _ (l .loop .inv) (s .pre .1) _ _ _ (i .loop-test .taken) (q .0) (q .1 .0) (c .if1 .left) (q .1 .1 .0) (r .round .kept .1 .1 .1 .1 .0) (q .1 .1 .1)
+    let t = l .before .before .before in
+    let s = t .before .before .before .before .before .before .before .before in
+    let m = t .try-all .ensures .0 in
+    let x = tried-mutual _ _ _ _ _ _ _ _ (s .args .most) _ _ (s .pre .0) (s .pre .1) _ _ m in
+    let z = tried-begun _ _ _ _ _ _ _ _ (s .args .most) _ _ (s .pre .0) (s .pre .1) _ _ m in
+    going-next _ _ _ _ _ _ _ _ (s .args .most) _ _ x z _ _ _ _ _ (l .loop .inv) _ _ (y .write-all .ensures) (i .loop-test .taken) (f .if1 .left) _ _ (b .try-beside .ensures .0) (b .try-beside .ensures .1)
 
 same-length-3 : tie.Need-same-length-3 Inv-loop μ-loop
 same-length-3 c = search needs
@@ -50,7 +81,13 @@ same-length-4 : tie.Need-same-length-4 Inv-loop μ-loop
 same-length-4 c = search needs
 
 returns-2 : tie.Need-returns-2 Inv-loop μ-loop
-returns-2 c = (search (needs, going-done), (search needs, search needs))
+returns-2 c = let l = c .before in
+    let t = l .before .before .before in
+    let s = t .before .before .before .before .before .before .before .before in
+    let m = t .try-all .ensures .0 in
+    let x = tried-mutual _ _ _ _ _ _ _ _ (s .args .most) _ _ (s .pre .0) (s .pre .1) _ _ m in
+    let z = tried-begun _ _ _ _ _ _ _ _ (s .args .most) _ _ (s .pre .0) (s .pre .1) _ _ m in
+    gone-from _ _ _ _ _ _ _ _ _ _ _ (s .pre .0) (s .pre .1) _ _ m _ _ _ (going-end _ _ _ _ _ _ _ _ (s .args .most) _ _ x z _ _ _ _ _ (l .loop .inv) (c .loop-test .left))
 
 pub rounds-spec : {M : Type 1} → statement M
 rounds-spec =
@@ -58,11 +95,13 @@ rounds-spec =
     (tie.spec
     Inv-loop
     μ-loop
+    try-all-requires
     loop-holds
-    round-requires
+    write-all-requires
     same-length
     same-length-2
     returns
+    try-beside-requires
     sub-left
     loop-less
     loop-again

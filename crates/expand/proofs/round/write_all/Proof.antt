@@ -1,18 +1,18 @@
--- The loop's invariant: the changes from i on give what all of them give, and those before are zeroed (`Writing`). The measure is the changes left.
+-- The loop's invariant: the marks are those that the changes before i give (`Writing`). The measure is the changes left.
 -- Assumes nothing.
+use borrow.Author.Needs.{needs}
 use Prim.Native.Nat.{_-_}
 use lib.ListN.{length}
-use borrow.Author.Needs.{needs}
-use Rattle.expand.specs.Layout.{Writing}
-use Rattle.expand.proofs.Halves.{writing-start, writing-span, writing-at, writing-small, writing-wide, writing-next, writing-end}
+use Rattle.expand.specs.Front.{Writing}
+use Rattle.expand.proofs.Writes.{writing-start, writing-span, writing-at, writing-small, writing-wide, writing-next, writing-end}
 use Rattle.expand.proofs.round.write_all.Statement.{statement}
 use Rattle.expand.proofs.round.write_all.Tie as tie
 
 abbrev Inv-loop : tie.InvT-loop
-Inv-loop ids₀ ws₀ cb k i₀ ids ws i = Writing (length ids₀) cb k ids₀ ws₀ ids ws i
+Inv-loop ids₀ ws₀ cb lo hi i₀ ids ws i = Writing (length ids₀) cb lo hi ids₀ ws₀ ids ws i
 
 abbrev μ-loop : tie.MeasureT-loop
-μ-loop ids₀ ws₀ cb k i₀ ids ws i = k - i
+μ-loop ids₀ ws₀ cb lo hi i₀ ids ws i = hi - i
 
 loop-holds : tie.Need-loop-holds Inv-loop μ-loop
 loop-holds c = search (needs, writing-start)

@@ -1,9 +1,7 @@
--- The change is read before its place is zeroed, and its span lies below it; the stores are `spent` as it stands.
+-- The change is read before its span is written, which lies below it.
 -- Assumes nothing.
-use native.Mathlib.Omega.{arith}
 use borrow.Author.Needs.{needs}
-use lib.ListN.{length-set}
-use Rattle.expand.proofs.Halves.{set-is, spent-is}
+use Rattle.expand.proofs.Writes.{set-is}
 use Rattle.expand.proofs.round.write_one.Statement.{statement}
 use Rattle.expand.proofs.round.write_one.Tie as tie
 
@@ -40,30 +38,6 @@ mul-ws-2 c = search needs
 slice-write-ws : tie.Need-slice-write-ws
 slice-write-ws c = search needs
 
-mul-ws-3 : tie.Need-mul-ws-3
-mul-ws-3 c = search needs
-
-slice-write-ws-2 : tie.Need-slice-write-ws-2
-slice-write-ws-2 c = simp length-set (omega arith)
-
-add-ws-2 : tie.Need-add-ws-2
-add-ws-2 c = search needs
-
-mul-ws-4 : tie.Need-mul-ws-4
-mul-ws-4 c = search needs
-
-slice-write-ws-3 : tie.Need-slice-write-ws-3
-slice-write-ws-3 c = simp length-set (omega arith)
-
-add-ws-3 : tie.Need-add-ws-3
-add-ws-3 c = search needs
-
-mul-ws-5 : tie.Need-mul-ws-5
-mul-ws-5 c = search needs
-
-slice-write-ws-4 : tie.Need-slice-write-ws-4
-slice-write-ws-4 c = simp length-set (omega arith)
-
 same-length : tie.Need-same-length
 same-length c = search needs
 
@@ -71,7 +45,7 @@ same-length-2 : tie.Need-same-length-2
 same-length-2 c = search needs
 
 returns : tie.Need-returns
-returns c = (search (needs, set-is), search (needs, spent-is))
+returns c = (search (needs, set-is), search (needs, set-is))
 
 pub write-one-spec : {M : Type 1} → statement M
 write-one-spec =
@@ -88,14 +62,6 @@ write-one-spec =
     slice-read-ws
     mul-ws-2
     slice-write-ws
-    mul-ws-3
-    slice-write-ws-2
-    add-ws-2
-    mul-ws-4
-    slice-write-ws-3
-    add-ws-3
-    mul-ws-5
-    slice-write-ws-4
     same-length
     same-length-2
     returns)

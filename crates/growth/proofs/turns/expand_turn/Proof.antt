@@ -22,7 +22,7 @@ expand-regions-requires : tie.Need-expand-regions-requires
 expand-regions-requires c κs =
     let f = c .before .before in
     let s = S (f .before) in
-    (record { F = s .pre .F; lent = s .pre .lent }, given-as _ _ _ _ _ _ _ _ _ _ (s .pre) _ _ (f .before .start-of .ensures) (f .fill-of .ensures))
+    (record { F = s .pre .F; lent = s .pre .lent; back = s .pre .back }, given-as _ _ _ _ _ _ _ _ _ _ (s .pre) _ _ (f .before .start-of .ensures) (f .fill-of .ensures))
 
 same-length : tie.Need-same-length
 same-length c = search needs

@@ -4,8 +4,8 @@ use native.Mathlib.Omega.{arith}
 use borrow.Author.Needs.{needs}
 use lib.ListN.{length-set}
 use Rattle.expand.specs.Layout.{noted}
-use Rattle.expand.proofs.round.note.Statement.{statement}
-use Rattle.expand.proofs.round.note.Tie as tie
+use Rattle.expand.proofs.tries.note.Statement.{statement}
+use Rattle.expand.proofs.tries.note.Tie as tie
 
 mul-ws : tie.Need-mul-ws
 mul-ws c = search needs

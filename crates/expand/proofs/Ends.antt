@@ -1,0 +1,307 @@
+-- An expansion as a whole. Before the rounds an unused entry is a span with no id, and its flag is up (`Lit`); after them, flags and changes are zeroed where
+-- zeros stood before, and the stack is marked by the ids, which is what the rule's rounds leave of it. Assumes nothing.
+use mathlib.Core.Path.{_≡_, refl, sym, ap, _∙_}
+use mathlib.Core.Logic.{⊎-elim, _⊎_, inl, inr}
+use mathlib.Core.List.{List, map}
+use Prim.Native.Nat.{ℕ, _+_, _-_, _*_, _≤_, _<_}
+use native.Mathlib.Omega.{arith}
+use native.Mathlib.Numerals.{add-one}
+use native.Mathlib.Decide.{ℕ-discrete, decLt}
+use lib.ListN.{length, getD, take, replicate, length-replicate}
+use lib.Seq.{ext-getD, getD-take, length-take-le}
+use borrow.Author.Tests.{eq-eqb, ne-eqb}
+use borrow.Rule.Slice.PartMut.{putMid, midOf, same-len-mid}
+use Rattle.rules.specs.Base.{if_then_else_}
+use Rattle.rules.specs.Field.{Field}
+use Rattle.rules.specs.Growth.{rounds, expand}
+use Rattle.laws.proofs.Basics.{All, map-all}
+use Rattle.space.specs.Space.{sec, Frame}
+use Rattle.space.proofs.Laws.{frame-put, getD-after, length-sec, zeroed}
+use Rattle.flood.specs.Site.{Lent}
+use Rattle.flood.specs.Stack.{marksAt}
+use Rattle.expand.specs.Layout.{fresh, mostAt, listAt, Sizes, Past, Entries, Low, Clear, Kept, Given, Unheld, Ok, Using}
+use Rattle.expand.specs.Front.{SomeMutual, Up, Entry, Flagging, frontOf, Lit, Gone, Settled}
+use Rattle.expand.proofs.Lists.{listAt-cong, length-listAt, listAt-sec, all-at, all-of, marks-same, lent-past}
+use Rattle.expand.proofs.Sources.{fresh-unheld}
+use Rattle.expand.proofs.Waves.{fresh-twice, map-twice}
+use Rattle.expand.proofs.Fronts.{front-same, entry-on}
+use Rattle.expand.proofs.Stacks.{used-stack}
+
+-- ---------------------------------------------------------------- sections
+
+take-same : (n : ℕ) (ws ws′ : List ℕ) → n ≤ length ws → length ws′ ≡ length ws → ((x : ℕ) → x < n → getD ws′ x 0 ≡ getD ws x 0) → take n ws′ ≡ take n ws
+take-same n ws ws′ h l s =
+    let p = length-take-le n ws h in
+    let q = length-take-le n ws′ (omega arith) in
+    ext-getD 0 (take n ws′) (take n ws) (q ∙ sym p) (λ i g. let r : i < n = omega arith in getD-take n ws′ i 0 r ∙ s i r ∙ sym (getD-take n ws i 0 r))
+
+pub sizes-kept : {n a e b : ℕ} {ids ws : List ℕ} (ids′ ws′ : List ℕ) → Sizes n a e b ids ws → length ids′ ≡ length ids → length ws′ ≡ length ws → Sizes n a e b ids′ ws′
+sizes-kept ids′ ws′ z p q = record { few = z .few; idents = p ∙ z .idents; low = z .low; apart = z .apart; past = z .past; room = omega (arith, z .room); close = z .close }
+
+-- the stack's section, and that of changes and flags
+module _ (n a e b fill : ℕ) (ids ws : List ℕ) (z : Sizes n a e b ids ws) where
+  sizes-part : Past (length ids) a (a + length ids) ws
+  sizes-part = rw (z .idents) (record { few = z .few; low = z .low; room = omega (arith, z .apart, z .past, z .room); close = omega (arith, z .apart, z .past, z .close) })
+
+  sizes-stack : Past n a e ws
+  sizes-stack = record { few = z .few; low = z .low; room = omega (arith, z .past, z .room); close = omega (arith, z .past, z .close) }
+
+  sizes-flags : Past n e (e + 4 * n) ws
+  sizes-flags = record { few = z .few; low = omega (arith, z .low, z .apart); room = omega (arith, z .past, z .room); close = omega (arith, z .past, z .close) }
+
+pub given-part : (n a e b fill : ℕ) (ids ws : List ℕ) → Given n a e b fill ids ws → Past (length ids) a (a + length ids) ws
+given-part n a e b fill ids ws g = sizes-part n a e b fill ids ws (g .sizes)
+
+pub given-entries : (n a e b fill : ℕ) (ids ws : List ℕ) → Given n a e b fill ids ws → Entries (length ids) a fill ws
+given-entries n a e b fill ids ws g = rw (g .sizes .idents) (g .entries)
+
+-- ---------------------------------------------------------------- before the rounds
+
+module _ (n a e b fill : ℕ) (ids ws ws₁ : List ℕ) (y : Using (length ids) a fill ids ws ws₁ fill) (g : Given n a e b fill ids ws) where
+  -- for n source distances
+  used : Using n a fill ids ws ws₁ fill
+  used = rw (g .sizes .idents) at y
+
+  used-list : listAt ws₁ a fill ≡ map (fresh ids) (listAt ws a fill)
+  used-list = used-stack n a fill ids ws ws₁ used
+
+  unheld : All (Unheld n ids) (map (fresh ids) (listAt ws a fill))
+  unheld = map-all (λ s. (s ≡ 65535 → ⊥) → s < n) (Unheld n ids) (fresh ids) (listAt ws a fill) (fresh-unheld n ids) (all-of (λ s. (s ≡ 65535 → ⊥) → s < n) ws a fill (g .entries .spans))
+
+  held-at : (j : ℕ) → j < fill → Unheld n ids (getD ws₁ (a + j) 0)
+  held-at = all-at (Unheld n ids) ws₁ a fill (rw used-list unheld)
+
+  pub used-sizes : Sizes n a e b ids ws₁
+  used-sizes = sizes-kept ids ws₁ (g .sizes) refl (used .size)
+
+  pub used-below : Past n a e ws₁
+  used-below = sizes-stack n a e b fill ids ws₁ used-sizes
+
+  pub used-above : Past n e (e + 4 * n) ws₁
+  used-above = sizes-flags n a e b fill ids ws₁ used-sizes
+
+  pub used-apart : a + n ≤ e
+  used-apart = g .sizes .apart
+
+  pub used-entries : Entries n a fill ws₁
+  used-entries = record { filled = g .entries .filled; spans = λ j h z. held-at j h z .0 }
+
+  used-front : frontOf n a fill ids ws₁ ≡ frontOf n a fill ids ws
+  unfolding frontOf
+  used-front = rw (marks-same n ids ws ws₁ (used .marks), used-list, map-twice (fresh ids) (fresh ids) (fresh ids) (listAt ws a fill) (fresh-twice ids ids (λ x h. h)))
+
+  given-ok : Ok n (frontOf n a fill ids ws)
+  unfolding frontOf marksAt
+  given-ok = record { idents = g .sizes .idents; entries = unheld; low = g .low }
+
+  -- past the stack all is as it was
+  used-past : (x : ℕ) → a + fill ≤ x → getD ws₁ x 0 ≡ getD ws x 0
+  used-past x h = used .unseen x (inr h)
+
+  module _ (ws₂ : List ℕ) (f : Flagging n a e fill 1 ws₁ ws₂ fill) where
+    in-stack : (x : ℕ) → a ≤ x → x < a + fill → getD ws₂ x 0 ≡ getD ws₁ x 0
+    in-stack x l u = f .same x (inl (omega (arith, g .entries .filled, g .sizes .apart)))
+
+    lit-front : frontOf n a fill ids ws₂ ≡ frontOf n a fill ids ws
+    lit-front =
+        front-same n a fill ids ws₁ ws₂ (take-same n ws₁ ws₂ (omega (arith, g .sizes .room, used .size)) (f .size) (λ x h. f .same x (inl (omega (arith, g .sizes .low, g .sizes .apart))))) in-stack
+        ∙ used-front
+
+    lit-past : (x : ℕ) → b ≤ x → getD ws₂ x 0 ≡ getD ws x 0
+    lit-past x h = f .same x (inr (omega (arith, g .sizes .past))) ∙ used-past x (omega (arith, g .sizes .past, g .sizes .apart, g .entries .filled))
+
+    pub lit : Lit n a e b fill ids ws₂
+    lit = record {
+      sizes = sizes-kept ids ws₂ used-sizes refl (f .size);
+      entries = record { filled = g .entries .filled; spans = λ j h z. let q = in-stack (a + j) (omega arith) (omega arith) in rw q (used-entries .spans j h (λ p. z (q ∙ p))) };
+      clear = record { blank = λ x l u. f .same x (inl u) ∙ used-past x (omega (arith, g .sizes .apart, g .entries .filled)) ∙ g .clear .blank x l (omega arith) };
+      ok = rw lit-front given-ok;
+      bare = λ x h t. bare-at x h (entry-on ws₂ ws₁ a fill x (λ y l u. sym (in-stack y l u)) t);
+      only = λ x h u. ⊎-elim
+          (λ (q : getD ws₂ (e + 3 * n + x) 0 ≡ getD ws₁ (e + 3 * n + x) 0). absurd (u (q ∙ used-past (e + 3 * n + x) (omega (arith, g .sizes .apart, g .entries .filled)) ∙ g .clear .blank (e + 3 * n + x) (omega arith) (omega arith))))
+          (λ (t : Entry ws₁ a fill x). entry-on ws₁ ws₂ a fill x in-stack t) (f .else x h);
+      up = λ x h t. lit-at x h (entry-on ws₂ ws₁ a fill x (λ y l u. sym (in-stack y l u)) t);
+    }
+      where
+        bare-at : (x : ℕ) → x < n → Entry ws₁ a fill x → getD ids x 0 ≡ 0
+        bare-at x h t = rw (t .is) at (held-at (t .at) (t .below) (λ q. omega (arith, t .is, g .sizes .few)) .1)
+
+        lit-at : (x : ℕ) → x < n → Entry ws₁ a fill x → Up n e ws₂ x
+        lit-at x h t z = let q : getD ws₂ (e + 3 * n + x) 0 ≡ 1 = rw (t .is) at (f .done (t .at) (t .below) (λ q. omega (arith, t .is, g .sizes .few))) in omega arith
+
+module _ (w : ℕ) (is ar cs : List ℕ) (a e b fill : ℕ) (ids ws ws₁ : List ℕ) (y : Using (length ids) a fill ids ws ws₁ fill) (g : Given (length ar) a e b fill ids ws)
+    (ws₂ : List ℕ) (f : Flagging (length ar) a e fill 1 ws₁ ws₂ fill) where
+  lit-lent : (F : Field) → Lent F w is ar cs b ws → Lent F w is ar cs b ws₂
+  lit-lent = lent-past w is ar cs b ws ws₂ (f .size ∙ y .size) (lit-past (length ar) a e b fill ids ws ws₁ y g ws₂ f)
+
+  pub lit-mutual : SomeMutual w is ar cs b ws → SomeMutual w is ar cs b ws₂
+  lit-mutual x = record { F = x .F; lent = lit-lent (x .F) (x .lent); back = x .back }
+
+-- ---------------------------------------------------------------- the number of rounds
+
+pub most-free : (level fill : ℕ) → level ≡ 0 → fill + 1 ≡ mostAt level fill
+unfolding mostAt if_then_else_
+most-free level fill z = rw (eq-eqb level 0 z) (add-one fill)
+
+pub most-eight : (level fill : ℕ) → (level ≡ 0 → ⊥) → 8 ≡ mostAt level fill
+unfolding mostAt if_then_else_
+most-eight level fill z = rw (ne-eqb level 0 z)
+
+pub most-some : (level fill most : ℕ) → most ≡ mostAt level fill → 0 < most
+most-some level fill most q = elim (ℕ-discrete level 0) [
+  | yes z ↦ omega (arith, most-free level fill z)
+  | no z ↦ omega (arith, most-eight level fill z)
+]
+
+-- ---------------------------------------------------------------- the end
+
+module _ (n a e fill k : ℕ) (ids ws ws₁ : List ℕ) (i : length ids ≡ n) (p : Past n a e ws) (o : Past n e (e + 4 * n) ws) (z : a + n ≤ e) (es : Entries n a fill ws) (h : k ≤ n)
+    (f : Flagging n a e fill 0 ws ws₁ fill) where
+  dim-stack : (x : ℕ) → a ≤ x → x < a + fill → getD ws₁ x 0 ≡ getD ws x 0
+  dim-stack x l u = f .same x (inl (omega (arith, es .filled)))
+
+  pub dim-part : Past (length ids) a (a + length ids) ws₁
+  dim-part = rw i (record { few = p .few; low = p .low; room = omega (arith, o .room, f .size); close = omega (arith, o .close) })
+
+  pub dim-entries : Entries (length ids) a fill ws₁
+  dim-entries = rw i (record { filled = es .filled; spans = λ j g y. let q = dim-stack (a + j) (omega arith) (omega arith) in rw q (es .spans j g (λ r. y (q ∙ r))) })
+
+  module _ (ws₂ : List ℕ) (y : Using (length ids) a fill ids ws₁ ws₂ fill) where
+    pub dim-end : e + 3 * k ≤ length ws₂
+    dim-end = omega (arith, o .room, f .size, y .size)
+
+    module _ (ys : List ℕ) (q : ys ≡ replicate (length (midOf e (e + 3 * k - e) ws₂)) 0) where
+      abbrev ws₃ : List ℕ
+      ws₃ = putMid e (e + 3 * k - e) ws₂ ys
+
+      wiped : ys ≡ replicate (e + 3 * k - e) 0
+      wiped = q ∙ ap (λ (x : ℕ). replicate x 0) (length-sec e (e + 3 * k - e) ws₂ (omega (arith, dim-end)))
+
+      wiped-length : length ys ≡ e + 3 * k - e
+      wiped-length = ap length wiped ∙ length-replicate (e + 3 * k - e) (let z : ℕ = 0 in z)
+
+      wiped-frame : Frame e (e + 3 * k) ws₂ ws₃
+      wiped-frame = frame-put e (e + 3 * k) ws₂ ys (omega arith) dim-end wiped-length
+
+      before : (x : ℕ) → x < e → getD ws₃ x 0 ≡ getD ws₂ x 0
+      before x l = sym (getD-take e ws₃ x 0 l) ∙ ap (λ (t : List ℕ). getD t x 0) (wiped-frame .before) ∙ getD-take e ws₂ x 0 l
+
+      after : (x : ℕ) → e + 3 * k ≤ x → getD ws₃ x 0 ≡ getD ws₂ x 0
+      after x l = getD-after x wiped-frame l
+
+      flag-is : (x : ℕ) → getD ws₃ (e + 3 * n + x) 0 ≡ getD ws₁ (e + 3 * n + x) 0
+      flag-is x = after (e + 3 * n + x) (omega arith) ∙ y .unseen (e + 3 * n + x) (inr (omega (arith, es .filled)))
+
+      size₃ : length ws₃ ≡ length ws
+      size₃ = same-len-mid e (e + 3 * k - e) ws₂ ys (wiped-length ∙ sym (length-sec e (e + 3 * k - e) ws₂ (omega (arith, dim-end)))) ∙ y .size ∙ f .size
+
+      pub settled : Settled n a e fill k ids ws ws₃
+      settled = record {
+        size = size₃;
+        marks = take-same n ws ws₃ (omega (arith, p .low, p .room)) size₃
+            (λ x l. before x (omega (arith, o .low)) ∙ y .unseen x (inl (omega (arith, p .low))) ∙ f .same x (inl (omega (arith, o .low))));
+        stack = listAt-cong ws₂ ws₃ a fill (λ x l u. before x (omega (arith, es .filled))) ∙ used-stack (length ids) a fill ids ws₁ ws₂ y
+            ∙ ap (λ (t : List ℕ). map (fresh ids) t) (listAt-cong ws ws₁ a fill dim-stack);
+        queue = λ x l u. rw wiped (zeroed e (e + 3 * k - e) x ws₂ (omega (arith, dim-end)) l (omega arith));
+        rest = λ x s t u. ⊎-elim (λ (l : x < e). before x l) (λ (l : e + 3 * k ≤ x). after x l) t ∙ y .unseen x s ∙ f .same x u;
+        down = λ j l u. flag-is (getD ws (a + j) 0) ∙ f .done j l u;
+        else = λ x l. ⊎-elim (λ (t : getD ws₁ (e + 3 * n + x) 0 ≡ getD ws (e + 3 * n + x) 0). inl (flag-is x ∙ t)) (λ (t : Entry ws a fill x). inr t) (f .else x l);
+      }
+
+-- ---------------------------------------------------------------- done
+
+expand-is : (F : Field) (n a fill level : ℕ) (ids ws : List ℕ) → expand F level (marksAt n ids ws) (listAt ws a fill) ≡ rounds F (mostAt level fill) (frontOf n a fill ids ws)
+unfolding expand mostAt marksAt fresh frontOf
+expand-is F n a fill level ids ws = rw (length-listAt ws a fill)
+
+front-view : (n a fill : ℕ) (ids ws ws′ : List ℕ) → take n ws′ ≡ take n ws → listAt ws′ a fill ≡ map (fresh ids) (listAt ws a fill) → a + fill ≤ length ws′
+    → record { marks = marksAt n ids ws′; stack = sec a fill ws′ } ≡ frontOf n a fill ids ws
+unfolding frontOf
+front-view n a fill ids ws ws′ t s h = rw (← listAt-sec ws′ a fill h, s, marks-same n ids ws ws′ t)
+
+front-low : (n a fill : ℕ) (ids ws ws′ : List ℕ) → take n ws′ ≡ take n ws → Ok n (frontOf n a fill ids ws) → Low n (marksAt n ids ws′)
+unfolding frontOf
+front-low n a fill ids ws ws′ t o = rw (marks-same n ids ws ws′ t) (o .low)
+
+front-entries : (n a fill : ℕ) (ids ws ws′ : List ℕ) → listAt ws′ a fill ≡ map (fresh ids) (listAt ws a fill) → fill ≤ n → Ok n (frontOf n a fill ids ws) → Entries n a fill ws′
+unfolding frontOf marksAt
+front-entries n a fill ids ws ws′ s h o = record { filled = h; spans = λ j l z. all-at (Unheld n ids) ws′ a fill (rw s (o .entries)) j l z .0 }
+
+pub kept-clear : (n a e fill : ℕ) (ws ws₂ : List ℕ) → fill ≤ n → a + n ≤ e → n ≤ a → Clear e (e + 4 * n) ws → Kept n a fill ws ws₂ → Clear e (e + 4 * n) ws₂
+kept-clear n a e fill ws ws₂ h l o c k = record { blank = λ x g u. k .same x (omega arith) (inr (omega arith)) ∙ c .blank x g u }
+
+module _ (w : ℕ) (is ar cs : List ℕ) (a e b fill level : ℕ) (ids ws ws₁ : List ℕ) (y : Using (length ids) a fill ids ws ws₁ fill) (g : Given (length ar) a e b fill ids ws)
+    (ws₂ : List ℕ) (f : Flagging (length ar) a e fill 1 ws₁ ws₂ fill) (most : ℕ) (q : most ≡ mostAt level fill)
+    (ids₃ ws₃ : List ℕ) (k : ℕ) (r : Gone w is ar cs a e b fill most ids ws₂ ids₃ ws₃ k) where
+  gone-sizes : Sizes (length ar) a e b ids₃ ws₃
+  gone-sizes = sizes-kept ids₃ ws₃ (g .sizes) (r .size₁) (r .size₂ ∙ f .size ∙ y .size)
+
+  pub gone-idents : length ids₃ ≡ length ar
+  gone-idents = gone-sizes .idents
+
+  pub gone-below : Past (length ar) a e ws₃
+  gone-below = sizes-stack (length ar) a e b fill ids₃ ws₃ gone-sizes
+
+  pub gone-above : Past (length ar) e (e + 4 * length ar) ws₃
+  gone-above = sizes-flags (length ar) a e b fill ids₃ ws₃ gone-sizes
+
+  gone-stack : (x : ℕ) → a ≤ x → x < a + fill → getD ws₃ x 0 ≡ getD ws₂ x 0
+  gone-stack x l u = r .kept x (omega (arith, g .sizes .low)) (omega (arith, g .sizes .apart, g .entries .filled))
+
+  pub gone-entries : Entries (length ar) a fill ws₃
+  gone-entries =
+      let t = lit (length ar) a e b fill ids ws ws₁ y g ws₂ f .entries in
+      record { filled = g .entries .filled; spans = λ j h z. let p = gone-stack (a + j) (omega arith) (omega arith) in rw p (t .spans j h (λ v. z (p ∙ v))) }
+
+  module _ (ws₄ : List ℕ) (s : Settled (length ar) a e fill k ids₃ ws₃ ws₄) where
+    room₄ : a + fill ≤ length ws₄
+    room₄ = omega (arith, s .size, r .size₂, f .size, y .size, g .entries .filled, g .sizes .apart, g .sizes .past, g .sizes .room)
+
+    pub expanded : (F : Field) → Lent F w is ar cs b ws → record { marks = marksAt (length ar) ids₃ ws₄; stack = sec a fill ws₄ } ≡ expand F level (marksAt (length ar) ids ws) (sec a fill ws)
+    expanded F l =
+        let i : a + fill ≤ length ws = omega (arith, g .entries .filled, g .sizes .apart, g .sizes .past, g .sizes .room) in
+        front-view (length ar) a fill ids₃ ws₃ ws₄ (s .marks) (s .stack) room₄ ∙ r .same F (lit-lent w is ar cs a e b fill ids ws ws₁ y g ws₂ f F l)
+        ∙ ap (rounds F most) (lit-front (length ar) a e b fill ids ws ws₁ y g ws₂ f) ∙ ap (λ (m : ℕ). rounds F m (frontOf (length ar) a fill ids ws)) q
+        ∙ sym (expand-is F (length ar) a fill level ids ws) ∙ ap (λ (t : List ℕ). expand F level (marksAt (length ar) ids ws) t) (listAt-sec ws a fill i)
+
+    flag-zero : (x : ℕ) → x < length ar → getD ws₄ (e + 3 * length ar + x) 0 ≡ 0
+    flag-zero x h = elim (ℕ-discrete (getD ws₄ (e + 3 * length ar + x) 0) 0) [
+      | yes z ↦ z
+      | no z ↦ ⊎-elim
+          (λ (t : getD ws₄ (e + 3 * length ar + x) 0 ≡ getD ws₃ (e + 3 * length ar + x) 0). dark (r .only x h (λ v. z (t ∙ v))))
+          (λ (t : Entry ws₃ a fill x). dark t) (s .else x h)
+    ]
+      where
+        dark : Entry ws₃ a fill x → getD ws₄ (e + 3 * length ar + x) 0 ≡ 0
+        dark t = rw (t .is) at (s .down (t .at) (t .below) (λ v. omega (arith, t .is, g .sizes .few)))
+
+    pub expanded-kept : Kept (length ar) a fill ws ws₄
+    expanded-kept = record {
+      size = s .size ∙ r .size₂ ∙ f .size ∙ y .size;
+      same = λ x l u.
+          elim (decLt x e) [
+            | yes p ↦ s .rest x u (inl p) (inl (omega arith)) ∙ r .kept x l p ∙ f .same x (inl (omega arith)) ∙ y .unseen x u
+            | no p ↦ elim (decLt x (e + 4 * length ar)) [
+              | no v ↦ s .rest x u (inr (omega (arith, r .few))) (inr (omega arith)) ∙ r .beyond x (omega arith) ∙ f .same x (inr (omega arith)) ∙ y .unseen x u
+              | yes v ↦ zero x (omega arith) v u ∙ sym (g .clear .blank x (omega arith) v)
+            ]
+          ];
+    }
+      where
+        zero : (x : ℕ) → e ≤ x → x < e + 4 * length ar → (x < a) ⊎ (a + fill ≤ x) → getD ws₄ x 0 ≡ 0
+        zero x l v u =
+            elim (decLt x (e + 3 * k)) [
+              | yes p ↦ s .queue x l p
+              | no p ↦ elim (decLt x (e + 3 * length ar)) [
+                | yes o ↦ s .rest x u (inr (omega arith)) (inl o) ∙ r .rest x (omega arith) o
+                | no o ↦ (let t : x ≡ e + 3 * length ar + (x - (e + 3 * length ar)) = omega arith in rw t (flag-zero (x - (e + 3 * length ar)) (omega arith)))
+              ]
+            ]
+
+    pub expanded-given : Given (length ar) a e b fill ids₃ ws₄
+    expanded-given = record {
+      sizes = sizes-kept ids₃ ws₄ gone-sizes refl (s .size);
+      entries = front-entries (length ar) a fill ids₃ ws₃ ws₄ (s .stack) (g .entries .filled) (r .ok);
+      low = front-low (length ar) a fill ids₃ ws₃ ws₄ (s .marks) (r .ok);
+      clear = kept-clear (length ar) a e fill ws ws₄ (g .entries .filled) (g .sizes .apart) (g .sizes .low) (g .clear) expanded-kept;
+    }

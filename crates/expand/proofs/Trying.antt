@@ -1,0 +1,326 @@
+-- Tries, one after another (`Moved`): a flag falls only as its span is noted. The flags that are down are at least as many as the changes, so there is
+-- room to note a span whose flag is up. Assumes nothing.
+use mathlib.Core.Path.{_≡_, refl, sym, ap, _∙_}
+use mathlib.Core.Logic.{⊎-elim, _⊎_, inl, inr}
+use mathlib.Core.List.{List}
+use Prim.Native.Nat.{ℕ, _+_, _*_, _≤_, _<_}
+use native.Mathlib.Omega.{arith}
+use native.Mathlib.Decide.{ℕ-discrete, decLt}
+use lib.ListN.{length, getD, set, take, length-set}
+use lib.Seq.{getD-take, getD-set-same, getD-set-other, take-set-le}
+use Rattle.rules.specs.Field.{Field, near}
+use Rattle.rules.specs.Growth.{takes}
+use Rattle.laws.proofs.NextId.{zeros, zeros-le, zeros-lower}
+use Rattle.field.specs.Lent.{Leaf, consAt}
+use Rattle.flood.specs.Site.{Lent, SomeLent}
+use Rattle.flood.specs.Stack.{marksAt}
+use Rattle.expand.specs.Layout.{listAt, noted, Sizes, Entries}
+use Rattle.expand.specs.Front.{Up, Queued, Found, Board, Moved, Cold, Tried, Sides, Side, Around, Beside, Spans, Entered}
+use Rattle.expand.proofs.Lists.{length-listAt, getD-listAt, four-else, four-first, four-second, four-third, four-last, marks-same, lent-past}
+use Rattle.expand.proofs.Halves.{zero-no, taken-yes}
+use Rattle.expand.proofs.Looks.{lent-site}
+
+-- ---------------------------------------------------------------- room
+
+-- one flag falls, the others stay
+zeros-fall : (ws ws′ : List ℕ) (f n x : ℕ) → x < n → ((t : ℕ) → t < n → (t ≡ x → ⊥) → getD ws′ (f + t) 0 ≡ getD ws (f + t) 0) → getD ws′ (f + x) 0 ≡ 0 → (getD ws (f + x) 0 ≡ 0 → ⊥)
+    → zeros (listAt ws f n) < zeros (listAt ws′ f n)
+zeros-fall ws ws′ f n x h s z u =
+    let l = length-listAt ws f n in
+    let l′ = length-listAt ws′ f n in
+    zeros-lower (listAt ws′ f n) (listAt ws f n) x (l ∙ sym l′)
+    (λ t y g.
+    let t< : t < n = omega arith in
+    getD-listAt ws′ f n t t<
+    ∙ elim (ℕ-discrete t x) [
+      | yes e ↦ rw e z
+      | no e ↦ s t t< e ∙ sym (getD-listAt ws f n t t<) ∙ y
+    ])
+    (omega arith) (getD-listAt ws′ f n x h ∙ z) (λ y. u (sym (getD-listAt ws f n x h) ∙ y))
+
+-- ---------------------------------------------------------------- a change noted
+
+-- the flag at i lies past the change at c, and both past the source distances
+module _ (n i c s id far : ℕ) (ws : List ℕ) (hn : n ≤ c) (hi : c + 3 ≤ i) (room : i < length ws) where
+  noted-length : length (noted i c s id far ws) ≡ length ws
+  unfolding noted
+  noted-length = simp length-set
+
+  noted-else : (x : ℕ) → (x ≡ i → ⊥) → (x < c) ⊎ (c + 3 ≤ x) → getD (noted i c s id far ws) x 0 ≡ getD ws x 0
+  unfolding noted
+  noted-else x a u =
+      four-else ws i c (c + 1) (c + 2) 0 s id far x a
+      (λ g. ⊎-elim (λ (h : x < c). omega arith) (λ (h : c + 3 ≤ x). omega arith) u)
+      (λ g. ⊎-elim (λ (h : x < c). omega arith) (λ (h : c + 3 ≤ x). omega arith) u)
+      (λ g. ⊎-elim (λ (h : x < c). omega arith) (λ (h : c + 3 ≤ x). omega arith) u)
+
+  noted-flag : getD (noted i c s id far ws) i 0 ≡ 0
+  unfolding noted
+  noted-flag = four-first ws i c (c + 1) (c + 2) 0 s id far i refl room (λ q. omega arith) (λ q. omega arith) (λ q. omega arith)
+
+  noted-span : getD (noted i c s id far ws) c 0 ≡ s
+  unfolding noted
+  noted-span = four-second ws i c (c + 1) (c + 2) 0 s id far c refl (omega arith) (λ q. omega arith) (λ q. omega arith)
+
+  noted-id : getD (noted i c s id far ws) (c + 1) 0 ≡ id
+  unfolding noted
+  noted-id = four-third ws i c (c + 1) (c + 2) 0 s id far (c + 1) refl (omega arith) (λ q. omega arith)
+
+  noted-far : getD (noted i c s id far ws) (c + 2) 0 ≡ far
+  unfolding noted
+  noted-far = four-last ws i c (c + 1) (c + 2) 0 s id far (c + 2) refl (omega arith)
+
+  noted-src : take n (noted i c s id far ws) ≡ take n ws
+  unfolding noted
+  noted-src =
+      let w₁ = set ws i 0 in
+      let w₂ = set w₁ c s in
+      let w₃ = set w₂ (c + 1) id in
+      take-set-le n w₃ (c + 2) far (omega arith) ∙ take-set-le n w₂ (c + 1) id (omega arith) ∙ take-set-le n w₁ c s (omega arith) ∙ take-set-le n ws i 0 (omega arith)
+
+-- ---------------------------------------------------------------- one try
+
+module _ (w : ℕ) (is ar cs : List ℕ) (e b : ℕ) (ids ws : List ℕ) (k : ℕ) (o : Board (length ar) e b k ids ws) where
+  pub moved-none : Moved w is ar cs e b ids ws k ws k
+  moved-none = record {
+    size = refl;
+    marks = refl;
+    more = omega arith;
+    free = o .free;
+    kept = λ x l u. refl;
+    past = λ x l u. refl;
+    beyond = λ x l. refl;
+    down = λ x h u. u;
+    fall = λ x h u. inl u;
+    inside = λ i l u. absurd (omega arith);
+    lit = λ i l u. absurd (omega arith);
+    right = λ F v i l u. absurd (omega arith);
+  }
+
+  module _ (x : ℕ) (h : x < length ar) (y : Up (length ar) e ws x) where
+    pub spare : k < length ar
+    spare =
+        let r : e + 3 * length ar + x < length ws = omega (arith, o .past, o .room) in
+        let z = zeros-fall ws (set ws (e + 3 * length ar + x) 0) (e + 3 * length ar) (length ar) x h (λ t g q. getD-set-other ws (e + 3 * length ar + x) (e + 3 * length ar + t) 0 0 (λ p. q (omega arith))) (getD-set-same ws (e + 3 * length ar + x) 0 0 r) y in
+        omega (arith, o .free, z, zeros-le (listAt (set ws (e + 3 * length ar + x) 0) (e + 3 * length ar) (length ar)), length-listAt (set ws (e + 3 * length ar + x) 0) (e + 3 * length ar) (length ar))
+
+    pub moved-one : (id far : ℕ) → ((F : Field) → Lent F w is ar cs b ws → Found F (marksAt (length ar) ids ws) (length ar) x id far)
+        → (ws′ : List ℕ) → ws′ ≡ noted (e + 3 * length ar + x) (e + 3 * k) x id far ws → Moved w is ar cs e b ids ws k ws′ (k + 1)
+    moved-one id far g ws′ q = rw q (go spare (omega (arith, o .low)) (omega (arith, spare)) (omega (arith, o .past, o .room)))
+      where
+        go : k < length ar → length ar ≤ e + 3 * k → e + 3 * k + 3 ≤ e + 3 * length ar + x → e + 3 * length ar + x < length ws
+            → Moved w is ar cs e b ids ws k (noted (e + 3 * length ar + x) (e + 3 * k) x id far ws) (k + 1)
+        go hk hn hi room =
+            let W = noted (e + 3 * length ar + x) (e + 3 * k) x id far ws in
+            let else′ = noted-else (length ar) (e + 3 * length ar + x) (e + 3 * k) x id far ws hn hi room in
+            let span′ = noted-span (length ar) (e + 3 * length ar + x) (e + 3 * k) x id far ws hn hi room in
+            record {
+              size = noted-length (length ar) (e + 3 * length ar + x) (e + 3 * k) x id far ws hn hi room;
+              marks = noted-src (length ar) (e + 3 * length ar + x) (e + 3 * k) x id far ws hn hi room;
+              more = omega arith;
+              free =
+                  let z = zeros-fall ws W (e + 3 * length ar) (length ar) x h (λ t g q. else′ (e + 3 * length ar + t) (λ p. q (omega arith)) (inr (omega arith))) (noted-flag (length ar) (e + 3 * length ar + x) (e + 3 * k) x id far ws hn hi room) y in
+                  omega (arith, o .free, z);
+              kept = λ z l u. else′ z (λ p. omega arith) (inl u);
+              past = λ z l u. else′ z (λ p. omega arith) (inr (omega arith));
+              beyond = λ z l. else′ z (λ p. omega arith) (inr (omega arith));
+              down = λ z l u. elim (ℕ-discrete z x) [
+                | yes p ↦ rw p y
+                | no p ↦ λ v. u (else′ (e + 3 * length ar + z) (λ r. p (omega arith)) (inr (omega arith)) ∙ v)
+              ];
+              fall = λ z l u. elim (ℕ-discrete z x) [
+                | yes p ↦ inr (record { at = k; from = omega arith; to = omega arith; is = span′ ∙ sym p })
+                | no p ↦ inl (λ v. u (sym (else′ (e + 3 * length ar + z) (λ r. p (omega arith)) (inr (omega arith))) ∙ v))
+              ];
+              inside = λ i l u. let p : i ≡ k = omega arith in rw (p, span′) h;
+              lit = λ i l u. let p : i ≡ k = omega arith in rw (p, span′) y;
+              right = λ F v i l u.
+                  let p : i ≡ k = omega arith in
+                  rw (p, span′, noted-id (length ar) (e + 3 * length ar + x) (e + 3 * k) x id far ws hn hi room, noted-far (length ar) (e + 3 * length ar + x) (e + 3 * k) x id far ws hn hi room) (g F v);
+            }
+
+    pub tried-one : (id far : ℕ) (ws′ : List ℕ) → ws′ ≡ noted (e + 3 * length ar + x) (e + 3 * k) x id far ws → Tried w is ar cs e b ids ws ws′ x
+    tried-one id far ws′ q = record { cold = λ F v l u. absurd (u (rw q (noted-flag (length ar) (e + 3 * length ar + x) (e + 3 * k) x id far ws (omega (arith, o .low)) (omega (arith, spare)) (omega (arith, o .past, o .room))))) }
+
+    pub note-room : e + 3 * k + 2 < length ws
+    note-room = omega (arith, spare, o .past, o .room)
+
+-- as the code has it
+module _ (w : ℕ) (is ar cs : List ℕ) (e b : ℕ) (ids ws : List ℕ) (x : ℕ) where
+  pub tried-down : (v : ℕ) → v ≡ getD ws (e + 3 * length ar + x) 0 → v ≡ 0 → Tried w is ar cs e b ids ws ws x
+  tried-down v q z = record { cold = λ F l h u. absurd (u (sym q ∙ z)) }
+
+  pub tried-used : (i s : ℕ) → s ≡ getD ws i 0 → s ≡ 65535 → length ar ≤ 32000 → Tried w is ar cs e b ids ws ws (getD ws i 0)
+  tried-used i s q z f = record { cold = λ F l h u. absurd (omega arith) }
+
+  pub tried-as : (i s : ℕ) → s ≡ getD ws i 0 → (ws′ : List ℕ) → Tried w is ar cs e b ids ws ws′ s → Tried w is ar cs e b ids ws ws′ (getD ws i 0)
+  tried-as i s q ws′ t = rw (← q) t
+
+  module _ (id far : ℕ) (g : (F : Field) → Lent F w is ar cs b ws → record { id = id; far = far } ≡ takes F (marksAt (length ar) ids ws) x) where
+    pub tried-nothing : id ≡ 0 → Tried w is ar cs e b ids ws ws x
+    tried-nothing z = record { cold = λ F l h u. zero-no F (marksAt (length ar) ids ws) x id far (g F l) z }
+
+    pub tried-found : x < length ar → length ar ≤ 32000 → (id ≡ 0 → ⊥) → (F : Field) → Lent F w is ar cs b ws → Found F (marksAt (length ar) ids ws) (length ar) x id far
+    tried-found h f z F l = record {
+      span = h;
+      found = taken-yes F (marksAt (length ar) ids ws) x id far (g F l) (λ q. omega arith) z;
+      id-is = ap (λ (t : _). t .id) (g F l);
+      far-is = ap (λ (t : _). t .far) (g F l);
+    }
+
+-- ---------------------------------------------------------------- one after another
+
+module _ (w : ℕ) (is ar cs : List ℕ) (e b : ℕ) (ids ws : List ℕ) (k : ℕ) (ws₁ : List ℕ) (k₁ : ℕ) (o : Board (length ar) e b k ids ws) (v : Moved w is ar cs e b ids ws k ws₁ k₁) where
+  moved-past : (x : ℕ) → b ≤ x → getD ws₁ x 0 ≡ getD ws x 0
+  moved-past x l = v .beyond x (omega (arith, o .past))
+
+  moved-lent : (F : Field) → Lent F w is ar cs b ws → Lent F w is ar cs b ws₁
+  moved-lent = lent-past w is ar cs b ws ws₁ (v .size) moved-past
+
+  pub moved-some : SomeLent w is ar cs b ws → SomeLent w is ar cs b ws₁
+  moved-some x = record { F = x .F; lent = moved-lent (x .F) (x .lent) }
+
+  pub moved-board : Board (length ar) e b k₁ ids ws₁
+  moved-board = record {
+    few = o .few;
+    idents = o .idents;
+    low = o .low;
+    past = o .past;
+    room = omega (arith, o .room, v .size);
+    close = o .close;
+    calm = record {
+      fits = omega (arith, o .calm .fits, v .size);
+      most = λ y h. rw (sym (getD-take (length ar) ws₁ y 0 h) ∙ ap (λ (l : List ℕ). getD l y 0) (v .marks) ∙ getD-take (length ar) ws y 0 h) (o .calm .most y h);
+    };
+    most = omega (arith, v .free, zeros-le (listAt ws₁ (e + 3 * length ar) (length ar)), length-listAt ws₁ (e + 3 * length ar) (length ar));
+    free = v .free;
+  }
+
+  moved-marks : marksAt (length ar) ids ws₁ ≡ marksAt (length ar) ids ws
+  moved-marks = marks-same (length ar) ids ws ws₁ (v .marks)
+
+  module _ (ws₂ : List ℕ) (k₂ : ℕ) (u : Moved w is ar cs e b ids ws₁ k₁ ws₂ k₂) where
+    queued-on : (x : ℕ) → Queued ws₁ e k k₁ x → Queued ws₂ e k k₂ x
+    queued-on x q = record {
+      at = q .at;
+      from = q .from;
+      to = omega (arith, q .to, u .more);
+      is = u .kept (e + 3 * q .at) (omega (arith, o .low)) (omega (arith, q .to)) ∙ q .is;
+    }
+
+    pub moved-then : Moved w is ar cs e b ids ws k ws₂ k₂
+    moved-then = record {
+      size = u .size ∙ v .size;
+      marks = u .marks ∙ v .marks;
+      more = omega (arith, v .more, u .more);
+      free = u .free;
+      kept = λ x l h. u .kept x l (omega (arith, v .more)) ∙ v .kept x l h;
+      past = λ x l h. u .past x l h ∙ v .past x (omega (arith, u .more)) h;
+      beyond = λ x l. u .beyond x l ∙ v .beyond x l;
+      down = λ x h y. v .down x h (u .down x h y);
+      fall = λ x h y.
+          ⊎-elim
+          (λ (z : Up (length ar) e ws₁ x).
+          ⊎-elim (λ (t : Up (length ar) e ws₂ x). inl t)
+          (λ (t : Queued ws₂ e k₁ k₂ x). inr (record { at = t .at; from = omega (arith, t .from, v .more); to = t .to; is = t .is })) (u .fall x h z))
+          (λ (z : Queued ws₁ e k k₁ x). inr (queued-on x z)) (v .fall x h y);
+      inside = λ i l h. elim (decLt i k₁) [
+        | yes g ↦ rw (u .kept (e + 3 * i) (omega (arith, o .low)) (omega arith)) (v .inside i l g)
+        | no g ↦ u .inside i (omega arith) h
+      ];
+      lit = λ i l h. elim (decLt i k₁) [
+        | yes g ↦ rw (u .kept (e + 3 * i) (omega (arith, o .low)) (omega arith)) (v .lit i l g)
+        | no g ↦ v .down _ (u .inside i (omega arith) h) (u .lit i (omega arith) h)
+      ];
+      right = λ F f i l h. elim (decLt i k₁) [
+        | yes g ↦ rw (u .kept (e + 3 * i) (omega (arith, o .low)) (omega arith), u .kept (e + 3 * i + 1) (omega (arith, o .low)) (omega arith), u .kept (e + 3 * i + 2) (omega (arith, o .low)) (omega arith)) (v .right F f i l g)
+        | no g ↦ rw moved-marks at (u .right F (moved-lent F f) i (omega arith) h)
+      ];
+    }
+
+    pub cold-on : (F : Field) (x : ℕ) → Cold F ar e ids ws ws₁ x → Cold F ar e ids ws ws₂ x
+    cold-on F x c h y = c h (u .down x h y)
+
+    pub cold-then : (F : Field) (x : ℕ) → Cold F ar e ids ws₁ ws₂ x → Cold F ar e ids ws ws₂ x
+    cold-then F x c h y = rw moved-marks at (c h y)
+
+-- ---------------------------------------------------------------- the four directions of a span
+
+module _ (w : ℕ) (is ar cs : List ℕ) (e b : ℕ) (ids ws cons : List ℕ) (c : ℕ) where
+  pub side-none : (d : ℕ) (ws′ : List ℕ) → ((F : Field) (s : ℕ) → Leaf F w is cons c s → 65535 ≡ near F s d) → length ar ≤ 32000 → Side w is ar cs e b ids ws cons c ws′ d
+  side-none d ws′ g f = record { cold = λ F s v l h u. absurd (omega (arith, g F s (v .leaf))) }
+
+  pub side-tried : (d x : ℕ) (ws′ : List ℕ) → ((F : Field) (s : ℕ) → Leaf F w is cons c s → x ≡ near F s d) → Tried w is ar cs e b ids ws ws′ x → Side w is ar cs e b ids ws cons c ws′ d
+  side-tried d x ws′ g t = record { cold = λ F s v l. rw (g F s (v .leaf)) at (t .cold F l) }
+
+  pub sides-start : Sides w is ar cs e b ids ws cons c ws 0
+  sides-start = record { few = omega arith; cold = λ F s v l k h. absurd (omega arith) }
+
+  pub sides-next : (k : ℕ) (ws₁ : List ℕ) (k₁ d : ℕ) → Board (length ar) e b k ids ws → Moved w is ar cs e b ids ws k ws₁ k₁ → Sides w is ar cs e b ids ws cons c ws₁ d → d < 4
+      → (ws₂ : List ℕ) (k₂ : ℕ) → Moved w is ar cs e b ids ws₁ k₁ ws₂ k₂ → Side w is ar cs e b ids ws₁ cons c ws₂ d → Sides w is ar cs e b ids ws cons c ws₂ (d + 1)
+  sides-next k ws₁ k₁ d o m v h ws₂ k₂ u t = record {
+    few = omega arith;
+    cold = λ F s g l j y. elim (decLt j d) [
+      | yes z ↦ cold-on w is ar cs e b ids ws k ws₁ k₁ o m ws₂ k₂ u F (near F s j) (v .cold F s g l j z)
+      | no z ↦ let q : j ≡ d = omega arith in rw q (cold-then w is ar cs e b ids ws k ws₁ k₁ o m ws₂ k₂ u F (near F s d) (t .cold F s g (moved-lent w is ar cs e b ids ws k ws₁ k₁ o m F l)))
+    ];
+  }
+
+  pub sides-end : (ws′ : List ℕ) (d : ℕ) → Sides w is ar cs e b ids ws cons c ws′ d → 4 ≤ d → Sides w is ar cs e b ids ws cons c ws′ 4
+  sides-end ws′ d v h = let q : d ≡ 4 = omega (arith, v .few) in rw q at v
+
+  pub around-all : (s : ℕ) (ws′ : List ℕ) → s < length ar → c ≡ getD ws (b + s) 0 → cons ≡ consAt cs s → Sides w is ar cs e b ids ws cons c ws′ 4 → Around w is ar cs e b ids ws ws′ s
+  around-all s ws′ h q g v = record { cold = λ F l d y. v .cold F s (lent-site w is ar cs cons b s c ws h q g F l) l d y }
+
+-- ---------------------------------------------------------------- changes, and entries, one after another
+
+module _ (w : ℕ) (is ar cs : List ℕ) (e b : ℕ) (ids ws : List ℕ) where
+  pub beside-start : (lo : ℕ) → Beside w is ar cs e b ids ws ws lo lo
+  beside-start lo = record { cold = λ F l j g y. absurd (omega arith) }
+
+  pub entered-start : (a : ℕ) → Entered w is ar cs a e b ids ws ws 0
+  entered-start a = record { cold = λ F l j y. absurd (omega arith) }
+
+  pub beside-span : (k : ℕ) (ws₁ : List ℕ) (k₁ : ℕ) → Board (length ar) e b k ids ws → Moved w is ar cs e b ids ws k ws₁ k₁ → (lo i s : ℕ) → Spans (length ar) e lo k ws → lo ≤ i → i < k → s ≡ getD ws₁ (e + 3 * i) 0 → s < length ar
+  beside-span k ws₁ k₁ o m lo i s v g h q = rw (q ∙ m .kept (e + 3 * i) (omega (arith, o .low)) (omega arith)) (v .span i g h)
+
+  pub entered-entry : (a fill j k₁ : ℕ) (ws₁ : List ℕ) → Moved w is ar cs e b ids ws 0 ws₁ k₁ → Sizes (length ar) a e b ids ws → Entries (length ar) a fill ws → j < fill
+      → (getD ws₁ (a + j) 0 ≡ 65535 → ⊥) → getD ws₁ (a + j) 0 < length ar
+  entered-entry a fill j k₁ ws₁ m z f h y =
+      let u = m .kept (a + j) (omega (arith, z .low)) (omega (arith, z .apart, f .filled)) in
+      rw u (f .spans j h (λ q. y (u ∙ q)))
+
+  pub entered-at : (a fill j k₁ : ℕ) (ws₁ : List ℕ) → Moved w is ar cs e b ids ws 0 ws₁ k₁ → Sizes (length ar) a e b ids ws → Entries (length ar) a fill ws → j < fill → a + j < length ws₁
+  entered-at a fill j k₁ ws₁ m z f h = omega (arith, m .size, z .apart, z .past, z .room, f .filled)
+
+  pub entered-small : (a fill j : ℕ) → Sizes (length ar) a e b ids ws → Entries (length ar) a fill ws → j < fill → a + j ≤ 9000000
+  entered-small a fill j z f h = omega (arith, z .apart, z .past, z .close, f .filled)
+
+  module _ (k : ℕ) (ws₁ : List ℕ) (k₁ : ℕ) (o : Board (length ar) e b k ids ws) (m : Moved w is ar cs e b ids ws k ws₁ k₁) (ws₂ : List ℕ) (k₂ : ℕ) (u : Moved w is ar cs e b ids ws₁ k₁ ws₂ k₂) where
+    pub beside-next : (lo i s : ℕ) → Beside w is ar cs e b ids ws ws₁ lo i → i < k → s ≡ getD ws₁ (e + 3 * i) 0 → Around w is ar cs e b ids ws₁ ws₂ s → Beside w is ar cs e b ids ws ws₂ lo (i + 1)
+    beside-next lo i s v h q t = record {
+      cold = λ F l j g y d z. elim (decLt j i) [
+        | yes p ↦ cold-on w is ar cs e b ids ws k ws₁ k₁ o m ws₂ k₂ u F _ (v .cold F l j g p d z)
+        | no p ↦
+            let r : j ≡ i = omega arith in
+            let x : s ≡ getD ws (e + 3 * i) 0 = q ∙ m .kept (e + 3 * i) (omega (arith, o .low)) (omega arith) in
+            rw (r, ← x) (cold-then w is ar cs e b ids ws k ws₁ k₁ o m ws₂ k₂ u F _ (t .cold F (moved-lent w is ar cs e b ids ws k ws₁ k₁ o m F l) d z))
+      ];
+    }
+
+    pub entered-next : (a fill j : ℕ) → Sizes (length ar) a e b ids ws → Entries (length ar) a fill ws → j < fill → Entered w is ar cs a e b ids ws ws₁ j → Tried w is ar cs e b ids ws₁ ws₂ (getD ws₁ (a + j) 0) → Entered w is ar cs a e b ids ws ws₂ (j + 1)
+    entered-next a fill j z f h v t = record {
+      cold = λ F l i y. elim (decLt i j) [
+        | yes p ↦ cold-on w is ar cs e b ids ws k ws₁ k₁ o m ws₂ k₂ u F _ (v .cold F l i p)
+        | no p ↦
+            let r : i ≡ j = omega arith in
+            let x : getD ws₁ (a + j) 0 ≡ getD ws (a + j) 0 = m .kept (a + j) (omega (arith, z .low)) (omega (arith, z .apart, f .filled)) in
+            rw (r, ← x) (cold-then w is ar cs e b ids ws k ws₁ k₁ o m ws₂ k₂ u F _ (t .cold F (moved-lent w is ar cs e b ids ws k ws₁ k₁ o m F l)))
+      ];
+    }
+
+  pub beside-end : (ws′ : List ℕ) (lo i hi : ℕ) → Beside w is ar cs e b ids ws ws′ lo i → i ≤ hi → hi ≤ i → Beside w is ar cs e b ids ws ws′ lo hi
+  beside-end ws′ lo i hi v g h = let q : i ≡ hi = omega arith in rw q at v
+
+  pub entered-end : (a : ℕ) (ws′ : List ℕ) (j fill : ℕ) → Entered w is ar cs a e b ids ws ws′ j → j ≤ fill → fill ≤ j → Entered w is ar cs a e b ids ws ws′ fill
+  entered-end a ws′ j fill v g h = let q : j ≡ fill = omega arith in rw q at v

@@ -1,0 +1,366 @@
+-- Rounds by their frontier: an entry that found nothing finds something in the next round only if a neighbour of it changed, so the next changes stand
+-- beside the last (`still-nothing`). The order of changes does not matter (`written-set`), and the stack follows from the ids (`round-fresh`). Assumes nothing.
+use Prim.Native.Nat.{ℕ, zero, suc, _<_}
+use native.Mathlib.Omega.{arith}
+use native.Mathlib.Decide.{ℕ-discrete}
+use mathlib.Core.Path.{_≡_, refl, sym, ap, _∙_}
+use mathlib.Core.Bool.{Bool, true, false, not, true≢false, false≢true}
+use mathlib.Core.Logic.{⊎-elim, _⊎_, inl, inr}
+use mathlib.Core.List.{List, [], _∷_, map}
+use lib.ListN.{length, getD, set, length-set}
+use lib.Seq.{getD-set-same, getD-set-other, ext-getD}
+use lib.Dec.{eqb}
+use borrow.Author.Tests.{eqb-true, eq-eqb, ne-eqb}
+use Rattle.rules.specs.Base.{_and_, _or_, if_then_else_, upto, any, keep}
+use Rattle.rules.specs.Field.{Field, none, near}
+use Rattle.rules.specs.Growth.{Marks, put, Taken, look, takes, finds, wrote, written, Spread, round, rounds}
+use Rattle.laws.proofs.Basics.{both, neither, either, and-both, or-left, or-right, same-test, if-ind, All, All-both}
+use Rattle.space.proofs.Laws.{cases}
+use Rattle.expand.specs.Layout.{left, fresh, Unheld, Ok}
+use Rattle.expand.proofs.Halves.{finds-used, left-yes, left-no, wrote-yes}
+use Rattle.expand.proofs.Sources.{finds-id, written-keeps, round-is}
+
+-- ---------------------------------------------------------------- membership
+
+-- x stands in the list
+abbrev pub has : ℕ → List ℕ → Bool
+has x l = any (eqb x) l
+
+pub has-cons : (x e : ℕ) (l : List ℕ) → has x (e ∷ l) ≡ eqb x e or has x l
+unfolding any
+has-cons x e l = refl
+
+pub has-nil : (x : ℕ) → has x [] ≡ true → ⊥
+unfolding any
+has-nil x z = false≢true z
+
+pub has-head : (x : ℕ) (l : List ℕ) → has x (x ∷ l) ≡ true
+has-head x l = has-cons x x l ∙ or-left (eqb x x) (has x l) (eq-eqb x x refl)
+
+pub has-tail : (x e : ℕ) (l : List ℕ) → has x l ≡ true → has x (e ∷ l) ≡ true
+has-tail x e l h = has-cons x e l ∙ or-right (eqb x e) (has x l) h
+
+pub has-split : (P : Type 0) (x e : ℕ) (l : List ℕ) → has x (e ∷ l) ≡ true → (x ≡ e → P) → (has x l ≡ true → P) → P
+has-split P x e l h f g = either P (eqb x e) (has x l) (sym (has-cons x e l) ∙ h) (λ z. f (eqb-true x e z)) g
+
+keep-go : (b : Bool) (x e : ℕ) (l : List ℕ) → any (eqb x) (if b then e ∷ l else l) ≡ (b and eqb x e) or any (eqb x) l
+unfolding any _or_ _and_ if_then_else_
+keep-go true x e l = refl
+keep-go false x e l = refl
+
+keep-cons : (p : ℕ → Bool) (e : ℕ) (es : List ℕ) (x : ℕ) → has x (keep p (e ∷ es)) ≡ (p e and eqb x e) or has x (keep p es)
+unfolding keep
+keep-cons p e es x = keep-go (p e) x e (keep p es)
+
+pub keep-in : (p : ℕ → Bool) (x : ℕ) (l : List ℕ) → has x l ≡ true → p x ≡ true → has x (keep p l) ≡ true
+keep-in p x [] h q = absurd (has-nil x h)
+keep-in p x (e ∷ l) h q =
+    let r = keep-in p x l in
+    keep-cons p e l x
+    ∙ has-split ((p e and eqb x e) or has x (keep p l) ≡ true) x e l h
+    (λ z. or-left (p e and eqb x e) (has x (keep p l)) (and-both (p e) (eqb x e) (ap p (sym z) ∙ q) (eq-eqb x e z)))
+    (λ z. or-right (p e and eqb x e) (has x (keep p l)) (r z q))
+
+pub keep-out : (p : ℕ → Bool) (x : ℕ) (l : List ℕ) → has x (keep p l) ≡ true → (has x l ≡ true) × (p x ≡ true)
+unfolding keep
+keep-out p x [] h = absurd (has-nil x h)
+keep-out p x (e ∷ l) h =
+    let r = keep-out p x l in
+    either ((has x (e ∷ l) ≡ true) × (p x ≡ true)) (p e and eqb x e) (has x (keep p l)) (sym (keep-cons p e l x) ∙ h)
+    (λ z.
+    let b = both (p e) (eqb x e) z in
+    (has-cons x e l ∙ or-left (eqb x e) (has x l) (b .1), ap p (eqb-true x e (b .1)) ∙ b .0))
+    (λ z. (has-tail x e l (r z .0), r z .1))
+
+pub any-in : (p : ℕ → Bool) (x : ℕ) (l : List ℕ) → has x l ≡ true → p x ≡ true → any p l ≡ true
+unfolding any
+any-in p x [] h q = absurd (false≢true h)
+any-in p x (e ∷ l) h q =
+    let r = any-in p x l in
+    either (p e or any p l ≡ true) (eqb x e) (any (eqb x) l) h
+    (λ z. or-left (p e) (any p l) (ap p (sym (eqb-true x e z)) ∙ q))
+    (λ z. or-right (p e) (any p l) (r z q))
+
+pub any-out : (p : ℕ → Bool) (l : List ℕ) → ((x : ℕ) → has x l ≡ true → p x ≡ true → ⊥) → any p l ≡ false
+unfolding any _or_
+any-out p [] h = refl
+any-out p (e ∷ l) h =
+    let b : p e ≡ false = ⊎-elim (λ (z : p e ≡ true). absurd (h e (has-head e l) z)) (λ (z : p e ≡ false). z) (cases (p e)) in
+    rw b (any-out p l (λ x y. h x (has-tail x e l y)))
+
+-- ---------------------------------------------------------------- an entry sees its neighbours only
+
+-- span a is the same in both
+abbrev pub Alike : Marks → Marks → ℕ → Type 0
+Alike m m′ a = (getD (m′ .ids) a 0 ≡ getD (m .ids) a 0) × (getD (m′ .src) a 0 ≡ getD (m .src) a 0)
+
+look-local : (F : Field) (m m′ : Marks) (s d : ℕ) (t : Taken) → Alike m m′ (near F s d) → look F m′ s d t ≡ look F m s d t
+unfolding look
+look-local F m m′ s d t h = rw (h .0, h .1)
+
+takes-local : (F : Field) (m m′ : Marks) (s : ℕ) → ((d : ℕ) → d < 4 → Alike m m′ (near F s d)) → takes F m′ s ≡ takes F m s
+unfolding takes upto
+takes-local F m m′ s h =
+    rw (
+      look-local F m m′ s 0 _ (h 0 (omega arith)),
+      look-local F m m′ s 1 _ (h 1 (omega arith)),
+      look-local F m m′ s 2 _ (h 2 (omega arith)),
+      look-local F m m′ s 3 _ (h 3 (omega arith)),
+    )
+
+finds-local : (F : Field) (m m′ : Marks) (s : ℕ) → ((d : ℕ) → d < 4 → Alike m m′ (near F s d)) → finds F m′ s ≡ finds F m s
+unfolding finds
+finds-local F m m′ s h = rw (takes-local F m m′ s h)
+
+-- ---------------------------------------------------------------- a round writes the entries that find an id, and no other span
+
+-- what a round changes
+unfoldable pub changes : Field → Spread → List ℕ
+changes F p = keep (finds F (p .marks)) (p .stack)
+
+wrote-alike : (F : Field) (m : Marks) (e : ℕ) (out : Marks) (x : ℕ) → finds F m e and eqb x e ≡ false → Alike out (wrote F m e out) x
+unfolding wrote put
+wrote-alike F m e out x h =
+    if-ind (λ (r : Marks). Alike out r x) (finds F m e)
+    (λ z.
+    let n : (x ≡ e → ⊥) = λ q. true≢false (sym (and-both (finds F m e) (eqb x e) z (eq-eqb x e q)) ∙ h) in
+    (getD-set-other (out .ids) e x _ 0 n, getD-set-other (out .src) e x _ 0 n))
+    (λ _. (refl, refl))
+
+alike-then : (a b c : Marks) (x : ℕ) → Alike a b x → Alike b c x → Alike a c x
+alike-then a b c x f g = (g .0 ∙ f .0, g .1 ∙ f .1)
+
+-- a span that is not among the changes stays
+written-alike : (F : Field) (m : Marks) (x : ℕ) (es : List ℕ) (out : Marks) → has x (keep (finds F m) es) ≡ false → Alike out (written F m es out) x
+unfolding written
+written-alike F m x [] out h = (refl, refl)
+written-alike F m x (e ∷ es) out h =
+    let d = neither _ _ (sym (keep-cons (finds F m) e es x) ∙ h) in
+    alike-then out (wrote F m e out) (written F m es (wrote F m e out)) x (wrote-alike F m e out x (d .0)) (written-alike F m x es (wrote F m e out) (d .1))
+
+round-alike : (F : Field) (p : Spread) (x : ℕ) → has x (changes F p) ≡ false → Alike (p .marks) (round F p .marks) x
+unfolding round changes
+round-alike F p x h = written-alike F (p .marks) x (p .stack) (p .marks) h
+
+-- an entry that found nothing, and beside which nothing changed, still finds nothing
+pub still-nothing : (F : Field) (p : Spread) (e : ℕ) → finds F (p .marks) e ≡ false → ((d : ℕ) → d < 4 → has (near F e d) (changes F p) ≡ false)
+    → finds F (round F p .marks) e ≡ false
+still-nothing F p e z h = finds-local F (p .marks) (round F p .marks) e (λ d l. round-alike F p _ (h d l)) ∙ z
+
+-- ---------------------------------------------------------------- the order of the changes does not matter
+
+wrote-in : (F : Field) (m : Marks) (e : ℕ) (out : Marks) (x : ℕ) → x < length (out .ids) → x < length (out .src)
+    → (x < length (wrote F m e out .ids)) × (x < length (wrote F m e out .src))
+unfolding wrote put
+wrote-in F m e out x h g =
+    if-ind (λ (r : Marks). (x < length (r .ids)) × (x < length (r .src))) (finds F m e)
+    (λ _. (rw (length-set (out .ids) e (takes F m e .id)) h, rw (length-set (out .src) e (takes F m e .far)) g)) (λ _. (h, g))
+
+wrote-here : (F : Field) (m : Marks) (e : ℕ) (out : Marks) → finds F m e ≡ true → e < length (out .ids) → e < length (out .src)
+    → (getD (wrote F m e out .ids) e 0 ≡ takes F m e .id) × (getD (wrote F m e out .src) e 0 ≡ takes F m e .far)
+unfolding wrote put if_then_else_
+wrote-here F m e out z h g = rw z (getD-set-same (out .ids) e _ 0 h, getD-set-same (out .src) e _ 0 g)
+
+pub lengths : (F : Field) (m : Marks) (es : List ℕ) (out : Marks)
+    → (length (written F m es out .ids) ≡ length (out .ids)) × (length (written F m es out .src) ≡ length (out .src))
+unfolding written wrote put
+lengths F m [] out = (refl, refl)
+lengths F m (e ∷ es) out =
+    let r = lengths F m es (wrote F m e out) in
+    let o : (length (wrote F m e out .ids) ≡ length (out .ids)) × (length (wrote F m e out .src) ≡ length (out .src))
+    = if-ind (λ (k : Marks). (length (k .ids) ≡ length (out .ids)) × (length (k .src) ≡ length (out .src))) (finds F m e) (λ _. (length-set (out .ids) e _, length-set (out .src) e _)) (λ _. (refl, refl)) in
+    (r .0 ∙ o .0, r .1 ∙ o .1)
+
+marks-eq : (i j s t : List ℕ) → i ≡ j → s ≡ t → _≡_ {A = Marks} (record { ids = i; src = s }) (record { ids = j; src = t })
+marks-eq i j s t e f = rw (e, f)
+
+marks-ext : (a b : Marks) → length (a .ids) ≡ length (b .ids) → length (a .src) ≡ length (b .src) → ((x : ℕ) → x < length (a .ids) → getD (a .ids) x 0 ≡ getD (b .ids) x 0)
+    → ((x : ℕ) → x < length (a .src) → getD (a .src) x 0 ≡ getD (b .src) x 0) → a ≡ b
+marks-ext a b l k f g =
+    let i : a .ids ≡ b .ids = ext-getD 0 (a .ids) (b .ids) l f in
+    let s : a .src ≡ b .src = ext-getD 0 (a .src) (b .src) k g in
+    marks-eq (a .ids) (b .ids) (a .src) (b .src) i s
+
+nothing : (x : ℕ) (p : ℕ → Bool) → has x (keep p []) ≡ true → ⊥
+unfolding keep any
+nothing x p z = false≢true z
+
+-- span x after the writes of a list
+written-at : (F : Field) (m : Marks) (x : ℕ) (es : List ℕ) (out : Marks) → x < length (out .ids) → x < length (out .src) → has x (keep (finds F m) es) ≡ true
+    → (getD (written F m es out .ids) x 0 ≡ takes F m x .id) × (getD (written F m es out .src) x 0 ≡ takes F m x .far)
+unfolding written
+written-at F m x [] out h g z = absurd (nothing x (finds F m) z)
+written-at F m x (e ∷ es) out h g z =
+    ⊎-elim
+    (λ (y : has x (keep (finds F m) es) ≡ true). written-at F m x es (wrote F m e out) (wrote-in F m e out x h g .0) (wrote-in F m e out x h g .1) y)
+    (λ (y : has x (keep (finds F m) es) ≡ false).
+    let w : finds F m e and eqb x e ≡ true = either (finds F m e and eqb x e ≡ true) (finds F m e and eqb x e) (has x (keep (finds F m) es)) (sym (keep-cons (finds F m) e es x) ∙ z) (λ k. k) (λ k. absurd (true≢false (sym k ∙ y))) in
+    let b = both (finds F m e) (eqb x e) w in
+    let q = eqb-true x e (b .1) in
+    let a = written-alike F m x es (wrote F m e out) y in
+    let c = wrote-here F m e out (b .0) (rw q at h) (rw q at g) in
+    (a .0 ∙ rw q (c .0), a .1 ∙ rw q (c .1)))
+    (cases (has x (keep (finds F m) es)))
+
+-- two lists with the same changes leave the same marks, in whatever order and however often a span stands in them
+pub written-set : (F : Field) (m : Marks) (es cs : List ℕ) (out : Marks) → length (out .src) ≡ length (out .ids)
+    → ((x : ℕ) → has x (keep (finds F m) es) ≡ has x (keep (finds F m) cs)) → written F m es out ≡ written F m cs out
+written-set F m es cs out l h = marks-ext (written F m es out) (written F m cs out)
+    (lengths F m es out .0 ∙ sym (lengths F m cs out .0)) (lengths F m es out .1 ∙ sym (lengths F m cs out .1))
+    (λ x i. same x (rw (lengths F m es out .0) at i) (cases (has x (keep (finds F m) cs))) .0)
+    (λ x i. same x (rw l at (rw (lengths F m es out .1) at i)) (cases (has x (keep (finds F m) cs))) .1)
+  where
+    same : (x : ℕ) → x < length (out .ids) → (has x (keep (finds F m) cs) ≡ true) ⊎ (has x (keep (finds F m) cs) ≡ false)
+        → (getD (written F m es out .ids) x 0 ≡ getD (written F m cs out .ids) x 0) × (getD (written F m es out .src) x 0 ≡ getD (written F m cs out .src) x 0)
+    same x i (inl y) =
+        let j : x < length (out .src) = rw l i in
+        let a = written-at F m x es out i j (h x ∙ y) in
+        let b = written-at F m x cs out i j y in
+        (a .0 ∙ sym (b .0), a .1 ∙ sym (b .1))
+    same x i (inr y) =
+        let a = written-alike F m x es out (h x ∙ y) in
+        let b = written-alike F m x cs out y in
+        (a .0 ∙ sym (b .0), a .1 ∙ sym (b .1))
+
+-- ---------------------------------------------------------------- the stack follows from the ids
+
+pub fresh-used : (ids : List ℕ) (e : ℕ) → e ≡ none → fresh ids e ≡ none
+unfolding fresh
+fresh-used ids e h = if-ind (λ r. r ≡ none) (eqb (getD ids e 0) 0) (λ _. h) (λ _. refl)
+
+pub fresh-zero : (ids : List ℕ) (e : ℕ) → getD ids e 0 ≡ 0 → fresh ids e ≡ e
+unfolding fresh if_then_else_
+fresh-zero ids e h = rw (eq-eqb _ _ h)
+
+pub fresh-some : (ids : List ℕ) (e : ℕ) → (getD ids e 0 ≡ 0 → ⊥) → fresh ids e ≡ none
+unfolding fresh if_then_else_
+fresh-some ids e h = rw (ne-eqb _ _ h)
+
+-- freshening by fewer ids first changes nothing
+pub fresh-twice : (ids ids′ : List ℕ) → ((x : ℕ) → (getD ids x 0 ≡ 0 → ⊥) → getD ids′ x 0 ≡ 0 → ⊥) → (e : ℕ) → fresh ids′ (fresh ids e) ≡ fresh ids′ e
+fresh-twice ids ids′ h e =
+    elim (ℕ-discrete (getD ids e 0) 0) [
+      | yes z ↦ rw (fresh-zero ids e z)
+      | no z ↦ rw (fresh-some ids e z) (fresh-used ids′ none refl ∙ sym (fresh-some ids′ e (h e z)))
+    ]
+
+map-each : (P : ℕ → Type 0) (f g : ℕ → ℕ) (es : List ℕ) → ((e : ℕ) → P e → f e ≡ g e) → All P es → map f es ≡ map g es
+map-each P f g [] h p = refl
+map-each P f g (e ∷ es) h p = rw (h e (p .0), map-each P f g es h (p .1))
+
+pub map-twice : (f g k : ℕ → ℕ) (es : List ℕ) → ((e : ℕ) → f (g e) ≡ k e) → map f (map g es) ≡ map k es
+map-twice f g k [] h = refl
+map-twice f g k (e ∷ es) h = rw (h e, map-twice f g k es h)
+
+module _ (F : Field) (m : Marks) where
+  wrote-stays : (x e : ℕ) (out : Marks) → (getD (out .ids) x 0 ≡ 0 → ⊥) → getD (wrote F m e out .ids) x 0 ≡ 0 → ⊥
+  unfolding wrote put
+  wrote-stays x e out h =
+      if-ind (λ (r : Marks). getD (r .ids) x 0 ≡ 0 → ⊥) (finds F m e)
+      (λ z. set-stays (out .ids) e (takes F m e .id) x (finds-id F m e z) h)
+      (λ _. h)
+    where
+      set-stays : (l : List ℕ) (i v x : ℕ) → (v ≡ 0 → ⊥) → (getD l x 0 ≡ 0 → ⊥) → getD (set l i v) x 0 ≡ 0 → ⊥
+      set-stays [] i v x z h = h
+      set-stays (y ∷ l) zero v zero z h = z
+      set-stays (y ∷ l) zero v (suc x) z h = h
+      set-stays (y ∷ l) (suc i) v zero z h = h
+      set-stays (y ∷ l) (suc i) v (suc x) z h = set-stays l i v x z h
+
+  written-stays : (x : ℕ) (es : List ℕ) (out : Marks) → (getD (out .ids) x 0 ≡ 0 → ⊥) → getD (written F m es out .ids) x 0 ≡ 0 → ⊥
+  unfolding written
+  written-stays x [] out h = h
+  written-stays x (e ∷ es) out h = written-stays x es (wrote F m e out) (wrote-stays x e out h)
+
+  wrote-length : (e : ℕ) (out : Marks) → length (wrote F m e out .ids) ≡ length (out .ids)
+  unfolding wrote put
+  wrote-length e out = if-ind (λ (r : Marks). length (r .ids) ≡ length (out .ids)) (finds F m e) (λ _. length-set (out .ids) e _) (λ _. refl)
+
+  put-at : (e : ℕ) (out : Marks) (r d : ℕ) → e < length (out .ids) → getD (put out e r d .ids) e 0 ≡ r
+  unfolding put
+  put-at e out r d h = getD-set-same (out .ids) e r 0 h
+
+  written-found : (es : List ℕ) (out : Marks) (n : ℕ) → length (out .ids) ≡ n → All (λ e. finds F m e ≡ true → e < n) es
+      → All (λ e. finds F m e ≡ true → getD (written F m es out .ids) e 0 ≡ 0 → ⊥) es
+  unfolding written
+  written-found [] out n l p = tt
+  written-found (e ∷ es) out n l p = (
+    λ z. written-stays e es (wrote F m e out) (here e out z (rw l (p .0 z))),
+    written-found es (wrote F m e out) n (wrote-length e out ∙ l) (p .1),
+  )
+    where
+      here : (e : ℕ) (out : Marks) → finds F m e ≡ true → e < length (out .ids) → getD (wrote F m e out .ids) e 0 ≡ 0 → ⊥
+      here e out z h y = finds-id F m e z (sym (put-at e out (takes F m e .id) (takes F m e .far) h) ∙ rw (wrote-yes F m e out z) at y)
+
+module _ (F : Field) (n : ℕ) (p : Spread) (o : Ok n p) where
+  round-tidy : round F p .stack ≡ map (fresh (round F p .marks .ids)) (p .stack)
+  round-tidy =
+      let m = p .marks in
+      rw (round-is F p)
+      (map-each (λ e. Unheld n (m .ids) e × (finds F m e ≡ true → getD (written F m (p .stack) m .ids) e 0 ≡ 0 → ⊥)) (left F m) (fresh (written F m (p .stack) m .ids)) (p .stack)
+      (λ e h. at e h (cases (finds F m e)))
+      (All-both _ _ (p .stack) (o .entries) (written-found F m (p .stack) m n (o .idents) (spans-of (p .stack) (o .entries)))))
+    where
+      spans-of : (es : List ℕ) → All (Unheld n (p .marks .ids)) es → All (λ e. finds F (p .marks) e ≡ true → e < n) es
+      spans-of [] q = tt
+      spans-of (e ∷ es) q = (λ z. q .0 (λ y. finds-used F (p .marks) e y z) .0, spans-of es (q .1))
+
+      at : (e : ℕ) → Unheld n (p .marks .ids) e × (finds F (p .marks) e ≡ true → getD (written F (p .marks) (p .stack) (p .marks) .ids) e 0 ≡ 0 → ⊥)
+          → (finds F (p .marks) e ≡ true) ⊎ (finds F (p .marks) e ≡ false)
+          → left F (p .marks) e ≡ fresh (written F (p .marks) (p .stack) (p .marks) .ids) e
+      at e h (inl z) = left-yes F (p .marks) e z ∙ sym (fresh-some (written F (p .marks) (p .stack) (p .marks) .ids) e (h .1 z))
+      at e h (inr z) =
+          left-no F (p .marks) e z
+          ∙ elim (ℕ-discrete e none) [
+            | yes y ↦ y ∙ sym (fresh-used (written F (p .marks) (p .stack) (p .marks) .ids) e y)
+            | no y ↦ sym (fresh-zero (written F (p .marks) (p .stack) (p .marks) .ids) e (written-keeps F (p .marks) e z (p .stack) (p .marks) ∙ h .0 y .1))
+          ]
+
+  -- a round's stack, from the stack at the start
+  pub round-fresh : (es : List ℕ) → p .stack ≡ map (fresh (p .marks .ids)) es → round F p .stack ≡ map (fresh (round F p .marks .ids)) es
+  unfolding round
+  round-fresh es e =
+      round-tidy ∙ ap (λ (l : List ℕ). map (fresh (round F p .marks .ids)) l) e
+      ∙ map-twice (fresh (round F p .marks .ids)) (fresh (p .marks .ids)) (fresh (round F p .marks .ids)) es
+      (fresh-twice (p .marks .ids) (round F p .marks .ids) (λ x h. written-stays F (p .marks) x (p .stack) (p .marks) h))
+
+  -- a list with the members of the changes makes the round's marks
+  pub wave-marks : (cs : List ℕ) → length (p .marks .src) ≡ n → ((x : ℕ) → has x cs ≡ true → has x (changes F p) ≡ true) → ((x : ℕ) → has x (changes F p) ≡ true → has x cs ≡ true)
+      → written F (p .marks) cs (p .marks) ≡ round F p .marks
+  unfolding changes round
+  wave-marks cs l f g =
+      written-set F (p .marks) cs (p .stack) (p .marks) (l ∙ sym (o .idents))
+      (λ x. same-test _ _
+      (λ z. f x (keep-out (finds F (p .marks)) x cs z .0))
+      (λ z. keep-in (finds F (p .marks)) x cs (g x z) (keep-out (finds F (p .marks)) x (p .stack) z .1)))
+
+-- an entry that is left found nothing
+left-one : (p : ℕ → Bool) (x e : ℕ) → (x ≡ none → ⊥) → (b : Bool) → p e ≡ b → x ≡ (if b then none else e) → p x ≡ false
+unfolding if_then_else_
+left-one p x e n true z y = absurd (n y)
+left-one p x e n false z y = rw y z
+
+left-out : (p : ℕ → Bool) (x : ℕ) (es : List ℕ) → (x ≡ none → ⊥) → has x (map (λ e. if p e then none else e) es) ≡ true → p x ≡ false
+left-out p x [] n h = absurd (has-nil x h)
+left-out p x (e ∷ es) n h =
+    let r = left-out p x es n in
+    has-split (p x ≡ false) x (if p e then none else e) (map (λ e. if p e then none else e) es) h (λ q. left-one p x e n (p e) refl q) r
+
+pub round-left : (F : Field) (p : Spread) (x : ℕ) → (x ≡ none → ⊥) → has x (round F p .stack) ≡ true → finds F (p .marks) x ≡ false
+unfolding round
+round-left F p x n h = left-out (finds F (p .marks)) x (p .stack) n h
+
+-- ---------------------------------------------------------------- rounds
+
+module _ (F : Field) (k : ℕ) (p : Spread) where
+  pub rounds-on : any (finds F (p .marks)) (p .stack) ≡ true → rounds F (suc k) p ≡ rounds F k (round F p)
+  unfolding rounds if_then_else_
+  rounds-on z = rw z
+
+  pub rounds-off : any (finds F (p .marks)) (p .stack) ≡ false → rounds F (suc k) p ≡ p
+  unfolding rounds if_then_else_
+  rounds-off z = rw z
+
+pub rounds-none : (F : Field) (p : Spread) → rounds F 0 p ≡ p
+unfolding rounds
+rounds-none F p = refl

@@ -287,7 +287,7 @@ unfolding any many _or_
 any-many f [] e = absurd (false≢true e)
 any-many f (x ∷ es) e = if-ind (λ n. 0 < n) (f x) (λ _. omega arith) (λ z. any-many f es (rw z at e))
 
--- ---------------------------------------------------------------- is there one that p holds of?
+-- ---------------------------------------------------------------- one that p holds of
 
 module _ (p : ℕ → Bool) (l : List ℕ) (i : ℕ) where
   pub any-more : i < length l → any p (drop i l) ≡ p (getD l i 0) or any p (drop (i + 1) l)

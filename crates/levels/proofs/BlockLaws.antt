@@ -17,7 +17,7 @@ use Rattle.levels.specs.Levels.{levelsAt, Fills, sortedTo, anyOpen, Move
 use Rattle.levels.proofs.LevelLaws.{moved-none}
 use Rattle.levels.proofs.SortLaws.{skip-id, skip-high}
 
--- ---------------------------------------------------------------- is there one to sort?
+-- ---------------------------------------------------------------- one to sort
 
 pub and-or : (a b c : Bool) → (a && b) || c ≡ (a and b) or c
 and-or a b c = rw (code-and a b) (code-or (a and b) c)

@@ -6,7 +6,7 @@ use native.Mathlib.Nat.{mod-lt, mod-le, div-eq-of-lt, suc-mul, mul-comm, div-add
 use native.Mathlib.Numerals.{add-one}
 use native.Mathlib.Decide.{ℕ-discrete, decLt}
 use lib.Arith.{digits-lt}
-use mathlib.Core.Path.{_≡_, sym, ap, _∙_}
+use mathlib.Core.Path.{_≡_, refl, sym, ap, _∙_}
 use mathlib.Core.Bool.{true, false, false≢true}
 use mathlib.Core.List.{List, [], _∷_}
 use lib.ListN.{length, getD}
@@ -17,7 +17,7 @@ use Rattle.rules.specs.Refusals.{goodCells, goodCon}
 use Rattle.laws.proofs.Basics.{both, either, tests, in-list, getD-any}
 use Rattle.laws.proofs.Cells.{before, before-lt, cellOf-at, cellOf-in, Cell, cells-at, cells-sum, Leads, near-none, near-is}
 use Rattle.laws.proofs.Passes.{wide-pos}
-use Rattle.field.specs.Lent.{Stands, Celled, Reached, Spot, Leaf, SomeSpot, SomeLeaf, consAt}
+use Rattle.field.specs.Lent.{Stands, Celled, Reached, Spot, Leaf, SomeSpot, SomeLeaf, consAt, lent}
 
 -- ---------------------------------------------------------------- the cell across, by direction
 
@@ -280,3 +280,9 @@ across-in w h c (suc (suc zero)) g l e =
     omega (arith, div-add-mod' c w, mul-comm h w)
 across-in w h c (suc (suc (suc zero))) g l e = omega arith
 across-in w h c (suc (suc (suc (suc d)))) g l e = absurd (omega arith)
+
+-- a layer of cell c, as a loop over the cell's layers has it
+module _ (w h : ℕ) (is ks ar cs : List ℕ) (c i k j : ℕ) (e : i ≡ getD is c 0) (f : k ≡ getD ks c 0) (g : j < k) where
+  pub layer-spot : Reached (lent w h is ks ar cs) → Spot (lent w h is ks ar cs) w is cs c (i + j)
+  layer-spot ok =
+      record { reached = ok; wide = refl; indexed = refl; linked = refl; stands = stands-at (lent w h is ks ar cs) (ok .celled) c i k j e f g }

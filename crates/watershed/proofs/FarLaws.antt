@@ -13,11 +13,11 @@ use Rattle.rules.specs.Base.{_or_, if_then_else_, any}
 use Rattle.rules.specs.Field.{Field, spans}
 use Rattle.rules.specs.Refusals.{refusal, tooShort, tooFar, regionRefusal}
 use native.Mathlib.Numerals.{add-one}
-use Rattle.field.specs.Answer.{numberOf, verdictNumber}
-use Rattle.field.specs.declared.checker.Refusal.{Refusal}
-use Rattle.field.specs.declared.checker.Verdict.{Verdict}
-use Rattle.field.specs.declared.checker.Verdict.the-variants as verdict
-use Rattle.field.proofs.Refused.{reached-of}
+use Rattle.checker.specs.Answer.{numberOf, verdictNumber}
+use Rattle.checker.specs.declared.Refusal.{Refusal}
+use Rattle.checker.specs.declared.Verdict.{Verdict}
+use Rattle.checker.specs.declared.Verdict.the-variants as verdict
+use Rattle.field.proofs.Passed.{reached-of}
 use Rattle.watershed.specs.Stages.{ownRefusal}
 use Rattle.watershed.proofs.Outcome.{number-pos}
 

@@ -1,7 +1,7 @@
 // The region entry.
-use field::checker::Refusal;
-use field::checker::Verdict;
-use field::checker::check;
+use checker::Refusal;
+use checker::Verdict;
+use checker::check;
 use growth::grow::clear_part;
 use growth::grow::grow;
 use merge::merge_and_filter_regions;
@@ -18,7 +18,7 @@ ghost use Rattle.rules.specs.Growth.{grown};
 ghost use Rattle.rules.specs.Numbering.{regions};
 ghost use Rattle.rules.specs.Outcomes.{regionOutcome};
 ghost use Rattle.field.specs.Lent.{lent};
-ghost use Rattle.field.specs.Answer.{verdictNumber};
+ghost use Rattle.checker.specs.Answer.{verdictNumber};
 ghost use Rattle.watershed.specs.Answer.{AnswersRegions};
 ghost use Rattle.watershed.specs.Stages.{Admitted, ownRefusal};
 

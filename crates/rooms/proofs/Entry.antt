@@ -6,7 +6,8 @@ use mathlib.Core.List.{List, [], _∷_}
 use lib.ListN.{length}
 use lib.Dec.{eqb}
 use borrow.Author.Tests.{eqb-true, eqb-false}
-use Rattle.rules.specs.Field.{Field, spans, areaOf}
+use Rattle.rules.specs.Field.{Field}
+use Rattle.rules.specs.Net.{netOf, spans, areaOf}
 use Rattle.rules.specs.Refusals.{regionRefusal}
 use Rattle.rules.specs.Growth.{firstId}
 use Rattle.rules.specs.Outcomes.{Sizes, RegionOutcome, regionOutcome}
@@ -16,14 +17,14 @@ use Rattle.rooms.proofs.Rooms.{entry-rooms}
 
 -- the areas are bytes, as they are in a lent list
 abbrev pub Bytes : Field → Type 0
-Bytes F = (s : ℕ) → s < spans F → areaOf F s < 256
+Bytes F = (s : ℕ) → s < spans (netOf F) → areaOf (netOf F) s < 256
 
 pub not-refused-gives-rooms : (F : Field) (dist : List ℕ) (most : ℕ) (z : Sizes) (work ids : List ℕ) → Bytes F
     → regionOutcome F dist most z work ids .refused ≡ 0
-    → Rooms F (firstId (z .border)) (regionOutcome F dist most z work ids .ids) (regionOutcome F dist most z work ids .most)
+    → Rooms (netOf F) (firstId (z .border)) (regionOutcome F dist most z work ids .ids) (regionOutcome F dist most z work ids .most)
 unfolding regionOutcome
 not-refused-gives-rooms F dist most z work ids bytes =
-    if-ind (λ (o : RegionOutcome). o .refused ≡ 0 → Rooms F (firstId (z .border)) (o .ids) (o .most))
+    if-ind (λ (o : RegionOutcome). o .refused ≡ 0 → Rooms (netOf F) (firstId (z .border)) (o .ids) (o .most))
     (eqb (regionRefusal F (length dist ∷ length ids ∷ []) (length work) dist most) 0)
     (λ e _. entry-rooms F (length dist ∷ length ids ∷ []) (length work) dist most (eqb-true _ _ e) bytes (z .border) (z .least) (z .merge))
     (λ e h. absurd (eqb-false _ _ e h))

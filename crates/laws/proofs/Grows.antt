@@ -69,21 +69,21 @@ module _ (N : Net) where
     pub room : t .next + zeros (t .marks .ids) ≤ first + spans N
     pub inside : (j : ℕ) → All (Inside N) (getD (t .stacks) j [])
 
-  blank-inside : (m : Marks) → All (Inside N) (blank N m)
+  blank-inside : (ids : List ℕ) → All (Inside N) (blank (N .areas) ids)
   unfolding blank
-  blank-inside m = keep-all (Inside N) _ _ (tab-all (Inside N) (spans N) 0 (λ i g _. omega arith))
+  blank-inside ids = keep-all (Inside N) _ _ (tab-all (Inside N) (spans N) 0 (λ i g _. omega arith))
 
-  remains-inside : (m : Marks) (es : List ℕ) → All (Inside N) es → All (Inside N) (remains m es)
+  remains-inside : (ids es : List ℕ) → All (Inside N) es → All (Inside N) (remains ids es)
   unfolding remains
-  remains-inside m es h = keep-all (Inside N) _ es h
+  remains-inside ids es h = keep-all (Inside N) _ es h
 
   pub loaded-inside : (dist : List ℕ) (level j : ℕ) (t : Turn) → ((i : ℕ) → All (Inside N) (getD (t .stacks) i []))
       → (i : ℕ) → All (Inside N) (getD (loaded N dist level j t) i [])
   unfolding loaded sorted
   loaded-inside dist level j t h i =
       if-ind (λ (s : List (List ℕ)). All (Inside N) (getD s i [])) _
-      (λ _. tab-each (All (Inside N)) 8 0 _ [] i tt (λ a. keep-all (Inside N) _ _ (blank-inside (t .marks))))
-      (λ _. set-cases (t .stacks) j _ [] i (All (Inside N)) (append-all (Inside N) (getD (t .stacks) j []) (remains (t .marks) (getD (t .stacks) (j - 1) [])) (h j) (remains-inside (t .marks) (getD (t .stacks) (j - 1) []) (h (j - 1)))) (h i))
+      (λ _. tab-each (All (Inside N)) 8 0 _ [] i tt (λ a. keep-all (Inside N) _ _ (blank-inside (t .marks .ids))))
+      (λ _. set-cases (t .stacks) j _ [] i (All (Inside N)) (append-all (Inside N) (getD (t .stacks) j []) (remains (t .marks .ids) (getD (t .stacks) (j - 1) [])) (h j) (remains-inside (t .marks .ids) (getD (t .stacks) (j - 1) []) (h (j - 1)))) (h i))
 
   pub turn-room : (dist : List ℕ) → ((s : ℕ) → s < spans N → areaOf N s < 256) → spans N ≤ 32000 → (first : ℕ) → first ≤ 5
       → (top k : ℕ) (t : Turn) → Room first t → Room first (turn N dist top k t)

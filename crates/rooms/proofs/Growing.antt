@@ -12,7 +12,7 @@ use borrow.Author.Tests.{eqb-false, not-true, not-false}
 use Rattle.rules.specs.Base.{_and_, tab, keep}
 use Rattle.rules.specs.Field.{Field}
 use Rattle.rules.specs.Net.{Net, netOf, spans, areaOf}
-use Rattle.rules.specs.Growth.{Marks, idOf, walkable, paintOf, painted, firstId, blank, sorted, remains, expand, Turn, loaded, turn, grown}
+use Rattle.rules.specs.Growth.{idOf, walkable, paintOf, painted, firstId, blank, sorted, remains, expand, Turn, loaded, turn, grown}
 use Rattle.laws.proofs.Basics.{both, if-ind, upto-ind, All, tab-at, length-tab, set-cases, keep-all, append-all, tab-each, zeros-at}
 use Rattle.laws.proofs.Grows.{Down, expand-down, down-zeros, Room, loaded-inside, turn-room, first-few}
 use Rattle.laws.proofs.Lengths.{painted-length}
@@ -25,7 +25,7 @@ use Rattle.rooms.proofs.Flooding.{floods-grow}
 
 -- only walkable spans are painted, with flagged ids
 paint-is : (F : Field) (b s : ℕ) → (areaOf (netOf F) s ≡ 0 → paintOf F b s ≡ 0) × (Plain (paintOf F b s) → ⊥)
-unfolding paintOf walkable
+unfolding paintOf walkable areaOf
 paint-is F b s =
     if-ind (λ (r : ℕ). (areaOf (netOf F) s ≡ 0 → r ≡ 0) × (Plain r → ⊥)) _ (λ _. ((λ _. refl), λ p. omega arith))
     (λ w.
@@ -62,8 +62,8 @@ painted-grow F b =
 -- ---------------------------------------------------------------- stacks hold walkable spans
 
 module _ (N : Net) where
-  walks : (p : ℕ → Bool) (n at : ℕ) → at + n ≤ spans N → All (Good N) (keep (λ s. walkable N s and p s) (tab n at (λ s. s)))
-  unfolding keep tab walkable
+  walks : (p : ℕ → Bool) (n at : ℕ) → at + n ≤ spans N → All (Good N) (keep (λ s. walkable (N .areas) s and p s) (tab n at (λ s. s)))
+  unfolding keep tab walkable areaOf
   walks p zero at h = tt
   walks p (suc n) at h =
       let r = walks p n (suc at) (omega arith) in
@@ -71,20 +71,20 @@ module _ (N : Net) where
       (λ e. ((λ _. (omega arith, eqb-false _ _ (not-true _ (both _ _ e .0)))), r))
       (λ _. r)
 
-  blank-good : (m : Marks) → All (Good N) (blank N m)
+  blank-good : (ids : List ℕ) → All (Good N) (blank (N .areas) ids)
   unfolding blank
-  blank-good m = walks (λ s. eqb (idOf m s) 0) (spans N) 0 (omega arith)
+  blank-good ids = walks (λ s. eqb (getD ids s 0) 0) (spans N) 0 (omega arith)
 
-  remains-good : (m : Marks) (es : List ℕ) → All (Good N) es → All (Good N) (remains m es)
+  remains-good : (ids es : List ℕ) → All (Good N) es → All (Good N) (remains ids es)
   unfolding remains
-  remains-good m es h = keep-all (Good N) _ es h
+  remains-good ids es h = keep-all (Good N) _ es h
 
   loaded-good : (dist : List ℕ) (level j : ℕ) (t : Turn) → ((i : ℕ) → All (Good N) (getD (t .stacks) i [])) → (i : ℕ) → All (Good N) (getD (loaded N dist level j t) i [])
   unfolding loaded sorted
   loaded-good dist level j t h i =
       if-ind (λ (s : List (List ℕ)). All (Good N) (getD s i [])) _
-      (λ _. tab-each (All (Good N)) 8 0 _ [] i tt (λ a. keep-all (Good N) _ _ (blank-good (t .marks))))
-      (λ _. set-cases (t .stacks) j _ [] i (All (Good N)) (append-all (Good N) (getD (t .stacks) j []) (remains (t .marks) (getD (t .stacks) (j - 1) [])) (h j) (remains-good (t .marks) (getD (t .stacks) (j - 1) []) (h (j - 1)))) (h i))
+      (λ _. tab-each (All (Good N)) 8 0 _ [] i tt (λ a. keep-all (Good N) _ _ (blank-good (t .marks .ids))))
+      (λ _. set-cases (t .stacks) j _ [] i (All (Good N)) (append-all (Good N) (getD (t .stacks) j []) (remains (t .marks .ids) (getD (t .stacks) (j - 1) [])) (h j) (remains-good (t .marks .ids) (getD (t .stacks) (j - 1) []) (h (j - 1)))) (h i))
 
   -- ---------------------------------------------------------------- turns
 

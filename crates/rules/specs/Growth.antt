@@ -16,8 +16,9 @@ flagged r = leb 0x8000 r
 abbrev pub plain : ℕ → Bool
 plain r = not (eqb r 0) and not (flagged r)
 
-unfoldable pub walkable : Net → ℕ → Bool
-walkable N s = not (eqb (areaOf N s) 0)
+-- "0 = not walkable"
+unfoldable pub walkable : List ℕ → ℕ → Bool
+walkable areas s = not (eqb (getD areas s 256) 0)
 
 -- the ids of the spans, and their source distances
 pub record Marks : Type 0 where
@@ -39,7 +40,7 @@ paintOf F b s =
     let c = cellOf (F .count) s in
     let x = c % (F .w) in
     let z = c / (F .w) in
-    if not (walkable (netOf F) s) then 0 else
+    if not (walkable (F .area) s) then 0 else
     if leb (F .h - b) z then 0x8004 else
     if ltb z b then 0x8003 else
     if leb (F .w - b) x then 0x8002 else
@@ -59,16 +60,16 @@ firstId b = if eqb b 0 then 1 else 5
 -- ---------------------------------------------------------------- 2. sorting
 
 -- "every walkable span of id 0 .. in scan order"
-unfoldable pub blank : Net → Marks → List ℕ
-blank N m = keep (λ s. walkable N s and eqb (idOf m s) 0) (tab (spans N) 0 (λ s. s))
+unfoldable pub blank : List ℕ → List ℕ → List ℕ
+blank areas ids = keep (λ s. walkable areas s and eqb (getD ids s 0) 0) (tab (length areas) 0 (λ s. s))
 
 -- "to the stack numbered (level/2 − distance/2, not below 0, both halves rounded down) if below 8"
-unfoldable pub sorted : Net → List ℕ → Marks → ℕ → List (List ℕ)
-sorted N dist m level = let all = blank N m in tab 8 0 (λ j. keep (λ s. eqb (level / 2 - getD dist s 0 / 2) j) all)
+unfoldable pub sorted : List ℕ → List ℕ → List ℕ → ℕ → List (List ℕ)
+sorted areas dist ids level = let all = blank areas ids in tab 8 0 (λ j. keep (λ s. eqb (level / 2 - getD dist s 0 / 2) j) all)
 
 -- "what remains of the stack": unused entries of id 0; a used entry is none
-unfoldable pub remains : Marks → List ℕ → List ℕ
-remains m es = keep (λ e. not (eqb e none) and eqb (idOf m e) 0) es
+unfoldable pub remains : List ℕ → List ℕ → List ℕ
+remains ids es = keep (λ e. not (eqb e none) and eqb (getD ids e 0) 0) es
 
 -- ---------------------------------------------------------------- 3. expansion
 
@@ -214,8 +215,8 @@ pub record Turn : Type 0 where
 -- stack before is appended to this turn's."
 unfoldable pub loaded : Net → List ℕ → ℕ → ℕ → Turn → List (List ℕ)
 loaded N dist level j t =
-    if eqb j 0 then sorted N dist (t .marks) level
-    else set (t .stacks) j (getD (t .stacks) j [] ++ remains (t .marks) (getD (t .stacks) (j - 1) []))
+    if eqb j 0 then sorted (N .areas) dist (t .marks .ids) level
+    else set (t .stacks) j (getD (t .stacks) j [] ++ remains (t .marks .ids) (getD (t .stacks) (j - 1) []))
 
 -- "While it is above 0, a turn (2 to 4) begins by lowering it by 2. The turn number counts 0 to 7 and round.":
 -- turn k of all, from 0, has level top - 2 (k + 1) and number k % 8
@@ -239,4 +240,4 @@ grown F dist most b =
     let N = netOf F in
     let top = 2 * ((most + 1) / 2) in
     let t = upto (top / 2) (turn N dist top) (record { marks = painted F b; stacks = []; next = firstId b }) in
-    record { ids = expand N 0 (t .marks) (blank N (t .marks)) .marks .ids; next = t .next }
+    record { ids = expand N 0 (t .marks) (blank (N .areas) (t .marks .ids)) .marks .ids; next = t .next }

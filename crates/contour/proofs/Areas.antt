@@ -1,0 +1,37 @@
+-- A contour reads no area: two nets with the same neighbours have the same edges and contours.
+-- It holds because each reads the net by `near` alone.
+use Prim.Native.Nat.{ℕ, zero, suc}
+use mathlib.Core.Path.{_≡_, refl, ap}
+use mathlib.Core.List.{List}
+use lib.Dec.{eqb}
+use Rattle.rules.specs.Base.{_and_, if_then_else_}
+use Rattle.rules.specs.Net.{Net, near}
+use Rattle.rules.specs.Contour.{across, solid, firstSolid, Walker, stride, walk, trim, contour}
+
+module _ (l a b ids : List ℕ) where
+  abbrev N : Net
+  N = record { neighbours = l; areas = a }
+
+  abbrev M : Net
+  M = record { neighbours = l; areas = b }
+
+  pub solid-areas : (s d : ℕ) → solid N ids s d ≡ solid M ids s d
+  unfolding near across solid
+  solid-areas s d = refl
+
+  pub first-areas : (s : ℕ) → firstSolid N ids s ≡ firstSolid M ids s
+  unfolding near across solid firstSolid
+  first-areas s = refl
+
+  stride-areas : (v : Walker) → stride N ids v ≡ stride M ids v
+  unfolding near across solid stride
+  stride-areas v = refl
+
+  walk-areas : (s d k : ℕ) (v : Walker) → walk N ids s d k v ≡ walk M ids s d k v
+  unfolding walk
+  walk-areas s d zero v = refl
+  walk-areas s d (suc k) v = rw (stride-areas v, walk-areas s d k (stride M ids v))
+
+  pub contour-areas : (s d : ℕ) → contour N ids s d ≡ contour M ids s d
+  unfolding near across contour
+  contour-areas s d = ap (λ (v : Walker). trim (v .listed)) (walk-areas s d 40000 _)

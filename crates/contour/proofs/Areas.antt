@@ -1,12 +1,16 @@
 -- A contour reads no area: two nets with the same neighbours have the same edges and contours.
 -- It holds because each reads the net by `near` alone.
-use Prim.Native.Nat.{ℕ, zero, suc}
-use mathlib.Core.Path.{_≡_, refl, ap}
+use Prim.Native.Nat.{ℕ, zero, suc, _*_}
+use mathlib.Core.Path.{_≡_, refl, sym, ap}
 use mathlib.Core.List.{List}
+use lib.ListN.{length}
 use lib.Dec.{eqb}
 use Rattle.rules.specs.Base.{_and_, if_then_else_}
 use Rattle.rules.specs.Net.{Net, near}
 use Rattle.rules.specs.Contour.{across, solid, firstSolid, Walker, stride, walk, trim, contour}
+use Rattle.space.specs.Space.{sec}
+use Rattle.net.specs.Table.{netAt, Closed, Opens, Lent}
+use Rattle.contour.specs.Ways.{Mutual, Ways}
 
 module _ (l a b ids : List ℕ) where
   abbrev N : Net
@@ -35,3 +39,17 @@ module _ (l a b ids : List ℕ) where
   pub contour-areas : (s d : ℕ) → contour N ids s d ≡ contour M ids s d
   unfolding near across contour
   contour-areas s d = ap (λ (v : Walker). trim (v .listed)) (walk-areas s d 40000 _)
+
+-- so ids may stand where the areas are
+pub ways-areas : (table : ℕ) (con ar ids ws : List ℕ) → length ids ≡ length ar → Ways table con ar ws → Ways table con ids ws
+unfolding netAt near
+ways-areas table con ar ids ws e w = record {
+  lent = record {
+    closed = record { few = rw e (w .lent .closed .few); inside = rw e (w .lent .closed .inside) };
+    opens = rw e (λ s h. record { shut = w .lent .opens s h .shut; leads = w .lent .opens s h .leads });
+    linked = rw e (w .lent .linked);
+    room = rw e (w .lent .room);
+    place = w .lent .place;
+  };
+  answers = record { back = rw e (w .answers .back) };
+}

@@ -63,6 +63,10 @@ laid-then p q r at size start e f a b = record {
 pub ways-answered : (table : ℕ) (cs ids ws : List ℕ) → Ways table cs ids ws → Answered (netAt table ids ws)
 ways-answered table cs ids ws w = record { few = w .lent .closed .few; back = w .answers .back }
 
+-- and stay where the net stays
+pub ways-same : (table : ℕ) (cs ids ws ws′ : List ℕ) → length ws′ ≡ length ws → netAt table ids ws′ ≡ netAt table ids ws → Ways table cs ids ws → Ways table cs ids ws′
+ways-same table cs ids ws ws′ e n w = record { lent = lent-same table ids cs ws ws′ e n (w .lent); answers = rw n (w .answers) }
+
 module _ (pool : Pool) (cs ids ws₀ : List ℕ) (s d start : ℕ) (st : Start pool cs ids s d start ws₀) (p : List ℕ) (v₀ : Walker) (b : Begun pool ids ws₀ s d start p v₀) where
   abbrev N : Net
   N = netAt (pool .table) ids p

@@ -10,14 +10,24 @@ use mathlib.Core.List.{List, [], _∷_, map}
 use lib.ListN.{length, getD, set, take, drop, length-set, length-take}
 use lib.Seq.{getD-take, take-suc-set}
 use lib.Dec.{eqb, leb·suc-suc}
-use borrow.Author.Tests.{eqb-true, eq-eqb, ne-eqb, lt-ltb, le-ltb}
+use borrow.Author.Tests.{eqb-true, eq-eqb, ne-eqb, lt-ltb, le-ltb, leb-true, leb-false}
 use Rattle.rules.specs.Base.{_and_, _or_, if_then_else_, keep, tab, any}
-use Rattle.rules.specs.Growth.{plain}
+use Rattle.rules.specs.Growth.{flagged, plain}
 use Rattle.rules.specs.Merge.{place}
 use Rattle.rules.specs.Records.{has, once}
 use Rattle.laws.proofs.Basics.{if-ind, or-right, or-no, or-yes, or-swap}
+use Rattle.laws.proofs.Plain.{plain-flagged, plain-yes}
 use Rattle.table.proofs.SearchLaws.{has-cons, place-other, place-first}
 use Rattle.records.specs.Cell.{twin, twins, othersFrom, joinOne, Found, Joined}
+
+-- ---------------------------------------------------------------- ids of regions, as the code tests for them
+
+module _ (r : ℕ) (b : Bool) (e : b ≡ flagged r) where
+  pub border-not : b ≡ true → plain r ≡ false
+  border-not t = plain-flagged r (leb-true 32768 r (sym e ∙ t))
+
+  pub region-yes : (r ≡ 0 → ⊥) → b ≡ false → plain r ≡ true
+  region-yes n f = plain-yes r n (leb-false 32768 r (sym e ∙ f))
 
 -- ---------------------------------------------------------------- the own id
 

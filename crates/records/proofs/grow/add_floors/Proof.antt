@@ -68,7 +68,8 @@ part-join-end c = omega (arith, room-inside _ _ _ _ _ (S c .pre .0) _ (S c .pre 
 
 join-requires : tie.Need-join-requires
 join-requires c κs = let p = S (c .before) .pre in
-    room-roomy _ _ _ _ _ (p .0) _ (p .1) _ _ _ (ea (c .before)) (ee (c .before)) (ez (c .before)) _ _ _ (omega (arith, p .2, ea (c .before), ee (c .before), ez (c .before))) (p .3) (p .4) (p .5) (p .6)
+    let w = p .3 in
+    room-roomy _ _ _ _ _ (p .0) _ (p .1) _ _ _ (ea (c .before)) (ee (c .before)) (ez (c .before)) _ _ _ (omega (arith, p .2 .slack, ea (c .before), ee (c .before), ez (c .before))) (w .few) (w .inside) (w .lower) (w .upper)
 
 same-length : tie.Need-same-length
 same-length c = search needs

@@ -1,9 +1,9 @@
--- `once` leaves the rule's `once` of the list: an id that is found is not listed again.
+-- `add_unique_floor_region` leaves the rule's `once` of the list: an id that is found is not listed again.
 -- Another is stored at the list's end, where there is room.
 use Rattle.records.proofs.CellLaws.{once-there, once-new}
 use borrow.Author.Needs.{needs}
-use Rattle.records.proofs.cell.once.Statement.{statement}
-use Rattle.records.proofs.cell.once.Tie as tie
+use Rattle.records.proofs.cell.add_unique_floor_region.Statement.{statement}
+use Rattle.records.proofs.cell.add_unique_floor_region.Tie as tie
 
 find-requires : tie.Need-find-requires
 find-requires c κs = search needs
@@ -35,8 +35,8 @@ same-length-2 c = search needs
 returns-2 : tie.Need-returns-2
 returns-2 c = search (needs, once-new)
 
-pub once-spec : {M : Type 1} → statement M
-once-spec =
+pub add-unique-floor-region-spec : {M : Type 1} → statement M
+add-unique-floor-region-spec =
     tie.close
     (tie.spec
     find-requires

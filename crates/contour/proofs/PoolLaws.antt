@@ -153,8 +153,8 @@ module _ (ws₀ ws : List ℕ) (at size start e : ℕ) (l : Laid ws₀ at size s
   fits : start + length listed ≤ size
   fits = omega (arith, listed-length, l .order, l .within)
 
-  in-list : (i : ℕ) → at + start ≤ i → i < at + e → getD ws i 0 ≡ getD (pooled ws₀ at size start listed) i 0
-  in-list i a b =
+  listed-at : (i : ℕ) → at + start ≤ i → i < at + e → getD ws i 0 ≡ getD (pooled ws₀ at size start listed) i 0
+  listed-at i a b =
       let j = i - (at + start) in
       let q : at + start + j ≡ i = omega arith in
       let m : j < e - start = omega arith in
@@ -170,7 +170,7 @@ module _ (ws₀ ws : List ℕ) (at size start e : ℕ) (l : Laid ws₀ at size s
         | no a ↦ elim (decLt i (at + start)) [
           | yes b ↦ (let q : at + (i - at) ≡ i = omega arith in l .before i b ∙ sym (rw q at (pooled-at ws₀ at size start listed there fits (i - at) (omega arith))))
           | no b ↦ elim (decLt i (at + e)) [
-            | yes c ↦ in-list i (omega arith) c
+            | yes c ↦ listed-at i (omega arith) c
             | no c ↦ elim (decLt i (at + size)) [
               | yes d ↦ (let q : at + (i - at) ≡ i = omega arith in rw q at (l .blank (i - at) (omega arith) (omega arith)
                   ∙ sym (pooled-blank ws₀ at size start listed there fits (i - at) (omega (arith, listed-length, l .order)) (omega arith))))
@@ -253,7 +253,7 @@ many-one v (x ∷ l) (suc s) h e = go (eqb v x) (many-one v l s (omega arith) e)
     go true h = omega arith
     go false h = h
 
-module _ (pool : Pool) (cs ids ws : List ℕ) (s d start : ℕ) (st : Start pool cs ids s d start ws) where
+module _ (pool : Pool) (cs ids ws : List ℕ) (s start : ℕ) (st : Start pool cs ids s start ws) where
   pub start-con : 4 * s + 3 < length cs
   start-con = omega (arith, st .span, st .ways .lent .linked)
 
@@ -277,10 +277,10 @@ module _ (pool : Pool) (cs ids ws : List ℕ) (s d start : ℕ) (st : Start pool
     after = λ i g. refl;
   }
 
-  pub begun : (r : ℕ) (u : Walker) → r ≡ across (netAt (pool .table) ids ws) ids s d → u .span .0 ≡ s → u .dir ≡ d → u .last ≡ r → u .end ≡ start + 1
+  pub begun : (d r : ℕ) (u : Walker) → r ≡ across (netAt (pool .table) ids ws) ids s d → u .span .0 ≡ s → u .dir ≡ d → u .last ≡ r → u .end ≡ start + 1
       → Begun pool ids ws s d start (set ws (pool .at + start) r) u
   unfolding view first
-  begun r u g a b j e = record {
+  begun d r u g a b j e = record {
     same =
         let z : sec (pool .at + start) (start - start) ws ≡ [] = (let k : start - start ≡ 0 = omega arith in rw k refl) in
         rw (a, b, j, e, sec-push ws (pool .at) start start r (omega arith) start-in, z, g);

@@ -67,7 +67,7 @@ ways-answered table cs ids ws w = record { few = w .lent .closed .few; back = w 
 pub ways-same : (table : ℕ) (cs ids ws ws′ : List ℕ) → length ws′ ≡ length ws → netAt table ids ws′ ≡ netAt table ids ws → Ways table cs ids ws → Ways table cs ids ws′
 ways-same table cs ids ws ws′ e n w = record { lent = lent-same table ids cs ws ws′ e n (w .lent); answers = rw n (w .answers) }
 
-module _ (pool : Pool) (cs ids ws₀ : List ℕ) (s d start : ℕ) (st : Start pool cs ids s d start ws₀) (p : List ℕ) (v₀ : Walker) (b : Begun pool ids ws₀ s d start p v₀) where
+module _ (pool : Pool) (cs ids ws₀ : List ℕ) (s d start : ℕ) (st : Start pool cs ids s start ws₀) (hd : d < 4) (p : List ℕ) (v₀ : Walker) (b : Begun pool ids ws₀ s d start p v₀) where
   abbrev N : Net
   N = netAt (pool .table) ids p
 
@@ -97,7 +97,7 @@ module _ (pool : Pool) (cs ids ws₀ : List ℕ) (s d start : ℕ) (st : Start p
     };
     order = b .order;
     net = refl;
-    been = rw first-same (been-first N ok ids size (getD ids s 0) (st .own) s d within (st .dir) refl);
+    been = rw first-same (been-first N ok ids size (getD ids s 0) (st .own) s d within hd refl);
     same = rw first-same refl;
   }
 
@@ -105,7 +105,7 @@ module _ (pool : Pool) (cs ids ws₀ : List ℕ) (s d start : ℕ) (st : Start p
     pub going-stand : Standing pool cs ids v ws
     unfolding view
     going-stand =
-        let o = been-on N ok ids size (getD ids s 0) (st .own) s d within (st .dir) refl k _ (g .been) in
+        let o = been-on N ok ids size (getD ids s 0) (st .own) s d within hd refl k _ (g .been) in
         let l = lent-same (pool .table) ids cs ws₀ p (b .laid .same) (b .net) (st .ways .lent) in
         record {
           lent = lent-same (pool .table) ids cs p ws (g .laid .same) (g .net) l;
@@ -114,7 +114,7 @@ module _ (pool : Pool) (cs ids ws₀ : List ℕ) (s d start : ℕ) (st : Start p
           dir = o .dir;
           own = λ z. st .own (sym (o .id) ∙ z);
           room = rw (g .net) (λ n.
-              let r = been-space N ok ids size (getD ids s 0) (st .own) s d within (st .dir) refl k _ (g .been) n in
+              let r = been-space N ok ids size (getD ids s 0) (st .own) s d within hd refl k _ (g .been) n in
               let z = length-sec (pool .at + start) (v .end - start) ws (omega (arith, g .laid .order, g .laid .within, g .laid .inside)) in
               omega (arith, r, z, st .room, g .order));
         }
@@ -137,7 +137,7 @@ module _ (pool : Pool) (cs ids ws₀ : List ℕ) (s d start : ℕ) (st : Start p
             net = t .net ∙ g .net;
             been =
                 rw (strode, add-one k)
-                (been-next N ok ids size (getD ids s 0) (st .own) s d within (st .dir) refl k _ (g .been) (rw (← strode) away));
+                (been-next N ok ids size (getD ids s 0) (st .own) s d within hd refl k _ (g .been) (rw (← strode) away));
             same = g .same ∙ rw fuel (walk-go N ids s d _ _ strode _ away);
           }
 
@@ -159,7 +159,7 @@ module _ (pool : Pool) (cs ids ws₀ : List ℕ) (s d start : ℕ) (st : Start p
     }
 
 -- the list, trimmed
-module _ (pool : Pool) (cs ids ws₀ : List ℕ) (s d start : ℕ) (st : Start pool cs ids s d start ws₀) (ws : List ℕ) (v : Walker) (k : Walked pool ids ws₀ s d start ws v) where
+module _ (pool : Pool) (cs ids ws₀ : List ℕ) (s d start : ℕ) (st : Start pool cs ids s start ws₀) (ws : List ℕ) (v : Walker) (k : Walked pool ids ws₀ s d start ws v) where
   pub trim-there : (pool .at ≤ lastPlace) × (start < v .end) × (pool .at + v .end ≤ length ws)
   trim-there = (omega (arith, st .apart, st .ways .lent .place), k .order, omega (arith, k .laid .within, k .laid .inside))
 

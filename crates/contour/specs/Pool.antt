@@ -57,11 +57,10 @@ pub record Standing (pool : Pool) (con ids : List ℕ) (v : Walker) (ws : List �
   pub room : (across (netAt (pool .table) ids ws) ids (v .span .0) (v .dir) ≡ v .last → ⊥) → v .end < 4 * length ids
 
 -- a start: a span of a region, room for four ids a span of it, and zeros there
-pub record Start (pool : Pool) (con ids : List ℕ) (s d start : ℕ) (ws : List ℕ) : Type 0 where
+pub record Start (pool : Pool) (con ids : List ℕ) (s start : ℕ) (ws : List ℕ) : Type 0 where
   pub ways : Ways (pool .table) con ids ws
   pub apart : pool .at + 4 * length ids ≤ pool .table
   pub span : s < length ids
-  pub dir : d < 4
   pub own : getD ids s 0 ≡ 0 → ⊥
   pub room : start + 4 * many (eqb (getD ids s 0)) ids ≤ 4 * length ids
   pub blank : (i : ℕ) → start ≤ i → i < 4 * length ids → getD ws (pool .at + i) 0 ≡ 0

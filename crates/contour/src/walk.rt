@@ -52,7 +52,7 @@ fn begin(
     d: usize,
     start: usize,
 ) -> Walker
-    requires { ⌜ Start pool (now con) (now ids) (span .0) d start (now ws) ⌝ }
+    requires { ⌜ Start pool (now con) (now ids) (span .0) start (now ws) × (d < 4) ⌝ }
     ensures { λ r. ⌜ Begun pool (now (ids .entry)) (now (ws .entry)) (span .0) d start (now (ws .exit)) r ⌝ }
 {
     let cons = connections(con, span);
@@ -76,7 +76,7 @@ fn walk(
     d: usize,
     start: usize,
 ) -> Walker
-    requires { ⌜ Start pool (now con) (now ids) (span .0) d start (now ws) ⌝ }
+    requires { ⌜ Start pool (now con) (now ids) (span .0) start (now ws) × (d < 4) ⌝ }
     ensures { λ r. ⌜ Walked pool (now (ids .entry)) (now (ws .entry)) (span .0) d start (now (ws .exit)) r ⌝ }
 {
     let mut v = begin(con, ids, ws, pool, span, d, start);
@@ -117,7 +117,7 @@ pub fn walk_contour(
     d: usize,
     start: usize,
 ) -> usize
-    requires { ⌜ Start pool (now con) (now ids) (span .0) d start (now ws) ⌝ }
+    requires { ⌜ Start pool (now con) (now ids) (span .0) start (now ws) × (d < 4) ⌝ }
     ensures { λ _. ⌜ (let net = netAt (pool .table) (now (ids .entry)) (now (ws .entry)) in
         let list = contour net (now (ids .entry)) (span .0) d in
         now (ws .exit) ≡ pooled (now (ws .entry)) (pool .at) (4 * length (now (ids .entry))) start list) ⌝ }

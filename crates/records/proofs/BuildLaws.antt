@@ -23,7 +23,7 @@ use Rattle.laws.proofs.Strides.{answered}
 use Rattle.field.specs.Lent.{Celled, Reached, Stands}
 use Rattle.field.proofs.Passed.{sound-reached}
 use Rattle.field.proofs.Places.{cell-is, layer-stands, stands-at, firstOf, first-is, total-is}
-use Rattle.net.specs.Table.{netAt, Lent}
+use Rattle.net.specs.Table.{netAt, mostSpans}
 use Rattle.net.proofs.Tables.{net-same}
 use Rattle.net.proofs.Fills.{net-lent}
 use Rattle.contour.specs.Ways.{Mutual, Ways}
@@ -168,8 +168,8 @@ module _ (plan : Plan) (ar cs ids : List ℕ) (cell : Spans) (top : ℕ) (ws₀ 
     net-there : netAt (plan .table) ar ws ≡ netAt (plan .table) ar ws₀
     net-there = net-past plan ar ids ws₀ ws (E .past) (rw (← E .sized) (E .ways .lent .room)) (D .size) (D .after)
 
-    pub entered-stand : Standing plan ar cs ids cell (cell .from + j) t ws
-    entered-stand = record {
+    stand-there : Standing plan ar cs ids cell (cell .from + j) t ws
+    stand-there = record {
       reach = record {
         ways = ways-same (plan .table) cs ids ws₀ ws (D .size) (net-past plan ids ids ws₀ ws (E .past) (E .ways .lent .room) (D .size) (D .after)) (E .ways);
         sized = E .sized;
@@ -180,8 +180,8 @@ module _ (plan : Plan) (ar cs ids : List ℕ) (cell : Spans) (top : ℕ) (ws₀ 
       keeping = D .keeping (omega arith);
     }
 
-    pub entered-next : (u : ℕ) (ws′ : List ℕ) → Added plan ar ids cell (cell .from + j) ws u ws′ → Entered plan ar ids cell (j + 1) top ws₀ u ws′
-    entered-next u ws′ A = record {
+    next-there : (u : ℕ) (ws′ : List ℕ) → Added plan ar ids cell (cell .from + j) ws u ws′ → Entered plan ar ids cell (j + 1) top ws₀ u ws′
+    next-there u ws′ A = record {
       low = omega arith;
       same =
           let N = netAt (plan .table) ar ws₀ in
@@ -194,6 +194,17 @@ module _ (plan : Plan) (ar cs ids : List ℕ) (cell : Spans) (top : ℕ) (ws₀ 
       size = A .size ∙ D .size;
       after = λ i g. A .after i g ∙ D .after i g;
     }
+
+    pub entered-room : cell .from + j < mostSpans
+    entered-room = omega (arith, stand-there .reach .span, stand-there .keeping .spans)
+
+    -- the span in layer j, as the code has it
+    module _ (s : ℕ) (e : s ≡ cell .from + j) where
+      pub entered-stand : Standing plan ar cs ids cell s t ws
+      entered-stand = rw e stand-there
+
+      pub entered-next : (u : ℕ) (ws′ : List ℕ) → Added plan ar ids cell s ws u ws′ → Entered plan ar ids cell (j + 1) top ws₀ u ws′
+      entered-next u ws′ A = next-there u ws′ (rw e at A)
 
   pub entered-end : (j t : ℕ) (ws : List ℕ) → Entered plan ar ids cell j top ws₀ t ws → cell .size ≤ j → Entered plan ar ids cell (cell .size) top ws₀ t ws
   entered-end j t ws D h = let q : j ≡ cell .size = omega (arith, D .low) in rw q at D

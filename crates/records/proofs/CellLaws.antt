@@ -56,9 +56,10 @@ module _ (ids : List ℕ) (s own size t j : ℕ) (b : Bool) (e : b or twins ids 
       let z : twins ids s own (size - j) (t + j) ≡ false = rw q refl in
       sym (or-no b) ∙ sym (ap (λ x. b or x) z) ∙ e
 
-  pub twins-go : (c : Bool) → j < size → c ≡ b or twin ids (t + j) s own → c or twins ids s own (size - (j + 1)) (t + (j + 1)) ≡ twins ids s own size t
+  pub twins-go : (u : ℕ) → u ≡ t + j → (c : Bool) → j < size → c ≡ b or twin ids u s own → c or twins ids s own (size - (j + 1)) (t + (j + 1)) ≡ twins ids s own size t
   unfolding twins
-  twins-go c g q =
+  twins-go u eu c g v =
+      let q : c ≡ b or twin ids (t + j) s own = rw eu at v in
       let f : size - j ≡ suc (size - (j + 1)) = omega arith in
       let a : t + (j + 1) ≡ t + j + 1 = omega arith in
       let z : twins ids s own (size - j) (t + j) ≡ twin ids (t + j) s own or twins ids s own (size - (j + 1)) (t + (j + 1)) = rw (f, a) refl in

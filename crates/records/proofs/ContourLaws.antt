@@ -19,19 +19,20 @@ use Rattle.space.specs.Space.{sec}
 use Rattle.net.specs.Table.{netAt}
 use Rattle.net.proofs.Tables.{area-at, net-same}
 use Rattle.contour.specs.Ways.{Ways}
+use Rattle.contour.specs.Pool.{Start}
 use Rattle.contour.proofs.Areas.{first-areas, contour-areas}
 use Rattle.contour.proofs.WalkLaws.{ways-same}
 use Rattle.table.specs.View.{startOf, endOf, listAt, recAt, view, recsOf}
 use Rattle.table.proofs.ViewLaws.{list-length, view-at, view-length, recs-at}
 use Rattle.records.specs.Cell.{twins, othersFrom}
-use Rattle.records.specs.Rows.{Keeping, Step, Slack, Tracing, traced, plusOne, overlaid, floored, celled, withArea, withList, contoured}
+use Rattle.records.specs.Rows.{Keeping, Step, Slack, traced, marked, plusOne, overlaid, floored, celled, withArea, withList, contoured}
 use Rattle.records.specs.Map.{poolIn}
 use Rattle.records.specs.Stock.{Reach}
 use Rattle.records.specs.declared.grow.Plan.{Plan}
 use Rattle.records.specs.declared.cell.Spans.{Spans}
 use Rattle.records.proofs.CellLaws.{twins-alone, others-alone}
 use Rattle.records.proofs.RowLaws.{list-parts, floor-parts, count-room, step-then, store-start, store-end}
-use Rattle.records.proofs.StepLaws.{step-none, overlaid-not, step-one, step-area}
+use Rattle.records.proofs.StepLaws.{step-none, overlaid-not, step-one, step-area, step-marked}
 use Rattle.records.proofs.TraceLaws.{list-tracing}
 
 -- a contour reads no area, so it is the same with ids in their place
@@ -88,7 +89,7 @@ module _ (ids : List ℕ) (m top k : ℕ) (ws : List ℕ) (K : Keeping ids m top
       net-left = net-same table ids ws (set ws (2 * m + r) v) (R .ways .lent .room) (length-set ws (2 * m + r) v)
           (λ i g. getD-set-other ws (2 * m + r) i v 0 (λ z. omega (arith, low)))
 
-      pub area-tracing : (r ≡ 0 → ⊥) → Tracing (poolIn (record { records = m; table = table })) cs ids s top (set ws (2 * m + r) v)
+      pub area-tracing : (r ≡ 0 → ⊥) → Start (poolIn (record { records = m; table = table })) cs ids s top (set ws (2 * m + r) v)
       area-tracing own =
           list-tracing (record { records = m; table = table }) cs ids s top k (set ws (2 * m + r) v) (area-keeping v) r er h (none-after v) own
           (ways-same table cs ids ws (set ws (2 * m + r) v) (length-set ws (2 * m + r) v) net-left (R .ways)) (R .span) (R .past)
@@ -147,9 +148,9 @@ module _ (ids : List ℕ) (m top s : ℕ) (ws : List ℕ) (K : Keeping ids m top
 
     -- floors and overlap do not touch each other, so either may come first
     pub cell-step : (ws₂ ws₃ : List ℕ) (b : Bool) → Step (floored (othersFrom ids s size from)) ids m r top (s + 1) ws₁ ws₂ → b ≡ twins ids s (getD ids s 0) size from
-        → ((ids′ : List ℕ) (top k : ℕ) → Keeping ids′ m top k ws₂ → Step (overlaid b) ids′ m r top k ws₂ ws₃) → Step (celled ids s size from) ids m r top (s + 1) ws ws₃
+        → ws₃ ≡ marked m r b ws₂ → Step (celled ids s size from) ids m r top (s + 1) ws ws₃
     unfolding celled floored overlaid
     cell-step ws₂ ws₃ b q e p =
         let two = step-then plusOne (floored (othersFrom ids s size from)) ids m r top top (s + 1) (s + 1) ws ws₁ ws₂ own-in one₁ q in
-        let three = step-then (λ x. floored (othersFrom ids s size from) (plusOne x)) (overlaid b) ids m r top top (s + 1) (s + 1) ws ws₂ ws₃ own-in two (p ids top (s + 1) (q .keeping)) in
+        let three = step-then (λ x. floored (othersFrom ids s size from) (plusOne x)) (overlaid b) ids m r top top (s + 1) (s + 1) ws ws₂ ws₃ own-in two (rw p (step-marked b ids m top (s + 1) ws₂ (q .keeping) r own-in)) in
         step-as _ (celled ids s size from) ids m r top (s + 1) ws ws₃ (rw e refl) three

@@ -16,56 +16,38 @@ use Rattle.rules.specs.Records.{Rec, at}
 use Rattle.laws.proofs.Basics.{if-ind}
 use Rattle.space.specs.Space.{sec, Frame}
 use Rattle.space.proofs.Laws.{sec-after, getD-before, getD-after}
-use Rattle.field.specs.Lent.{consAt}
-use Rattle.net.specs.Table.{netAt, AtSpan}
-use Rattle.net.proofs.Tables.{spans-at, lent-span}
+use Rattle.net.specs.Table.{netAt}
+use Rattle.net.proofs.Tables.{spans-at}
 use Rattle.contour.specs.Ways.{Ways, edgeNumber, edgeOf}
-use Rattle.contour.specs.Pool.{Laid, pooled, Start}
+use Rattle.contour.specs.Pool.{pooled, Start}
 use Rattle.contour.specs.declared.walk.Pool.{Pool}
 use Rattle.contour.specs.declared.edge.Edge.{Edge}
 use Rattle.contour.specs.declared.edge.Edge.the-variants.{At, Nowhere}
 use Rattle.contour.proofs.EdgeLaws.{edge-at, edge-none}
-use Rattle.contour.proofs.PoolLaws.{laid-whole, pooled-length, pooled-frame, pooled-list, pooled-blank, pooled-at}
+use Rattle.contour.proofs.PoolLaws.{start-laid, laid-whole, pooled-length, pooled-frame, pooled-list, pooled-blank, pooled-at}
 use Rattle.contour.proofs.WalkLaws.{ways-answered}
 use Rattle.contour.proofs.Room.{contour-room}
 use Rattle.table.specs.View.{part, startOf, endOf, listAt, recAt, recsOf, Placed}
 use Rattle.table.proofs.ViewLaws.{rec-eq, list-same, wide-same, recs-at}
 use Rattle.records.specs.Map.{poolIn}
-use Rattle.records.specs.Rows.{walked, Row, Keeping, Change, Step, Tracing, Traced, traced, withList}
+use Rattle.records.specs.Rows.{walked, Row, Keeping, Change, Step, Traced, traced, withList}
 use Rattle.records.specs.declared.grow.Plan.{Plan}
 use Rattle.records.proofs.CountLaws.{many-same, many-apart, many-more}
 use Rattle.records.proofs.RowLaws.{pool-fits, floors-past, list-parts, floor-parts, change-recs, change-keeping, walked-other}
 
 -- ---------------------------------------------------------------- the trace
 
-module _ (pool : Pool) (cs ids : List ℕ) (s top : ℕ) (ws : List ℕ) (T : Tracing pool cs ids s top ws) where
+module _ (pool : Pool) (cs ids : List ℕ) (s top : ℕ) (ws : List ℕ) (T : Start pool cs ids s top ws) where
   abbrev N : Net
   N = netAt (pool .table) ids ws
-
-  pub trace-con : 4 * s + 3 < length cs
-  trace-con = omega (arith, T .span, T .ways .lent .linked)
-
-  pub trace-span : (cons : List ℕ) → cons ≡ consAt cs s → AtSpan (pool .table) ids ws cons s
-  trace-span cons four = lent-span (pool .table) ids cs ws cons s (T .ways .lent) (T .span) four
-
-  none-laid : Laid ws (pool .at) (4 * length ids) top top ws
-  none-laid = record {
-    order = omega arith;
-    within = omega (arith, T .room);
-    inside = omega (arith, T .apart, T .ways .lent .room);
-    same = refl;
-    before = λ i g. refl;
-    blank = T .blank;
-    after = λ i g. refl;
-  }
 
   module _ (r : Edge) (e : edgeNumber r ≡ firstSolid N ids s) where
     module _ (f : r ≡ edgeOf (edgeNumber r)) (d : ℕ) (q : r ≡ At d) where
       found : (firstSolid N ids s ≡ d) × (d < 4)
       found = edge-at r (firstSolid N ids s) e d f q
 
-      pub trace-start : Start pool cs ids s d top ws
-      trace-start = record { ways = T .ways; apart = T .apart; span = T .span; dir = found .1; own = T .own; room = T .room; blank = T .blank }
+      pub trace-dir : d < 4
+      trace-dir = found .1
 
       traced-at : traced N ids s ≡ contour N ids s d
       unfolding traced if_then_else_
@@ -82,7 +64,7 @@ module _ (pool : Pool) (cs ids : List ℕ) (s top : ℕ) (ws : List ℕ) (T : Tr
         let z : sec (pool .at + top) (top - top) ws ≡ [] = (let k : top - top ≡ 0 = omega arith in rw k refl) in
         record {
           end = rw g (omega arith);
-          pool = rw g (laid-whole ws ws (pool .at) (4 * length ids) top top none-laid ∙ ap (pooled ws (pool .at) (4 * length ids) top) z);
+          pool = rw g (laid-whole ws ws (pool .at) (4 * length ids) top top (start-laid pool cs ids ws s top T) ∙ ap (pooled ws (pool .at) (4 * length ids) top) z);
         }
 
 -- a traced list has at most four ids for each span of the region
@@ -253,7 +235,7 @@ module _ (plan : Plan) (cs ids : List ℕ) (s top k : ℕ) (ws : List ℕ) (K : 
   abbrev m : ℕ
   m = plan .records
 
-  pub list-tracing : (r ≡ 0 → ⊥) → Ways (plan .table) cs ids ws → s < length ids → 15 * m + 70 * length ids ≤ plan .table → Tracing (poolIn plan) cs ids s top ws
+  pub list-tracing : (r ≡ 0 → ⊥) → Ways (plan .table) cs ids ws → s < length ids → 15 * m + 70 * length ids ≤ plan .table → Start (poolIn plan) cs ids s top ws
   list-tracing own l g p = record {
     ways = l;
     apart = omega arith;
@@ -263,7 +245,7 @@ module _ (plan : Plan) (cs ids : List ℕ) (s top k : ℕ) (ws : List ℕ) (K : 
     blank = λ i a b. K .blank (15 * m + i) (omega arith) (omega arith);
   }
 
-  module _ (T : Tracing (poolIn plan) cs ids s top ws) (ws₁ : List ℕ) (t : ℕ) (D : Traced (traced (netAt (plan .table) ids ws) ids s) ids (15 * m) top ws ws₁ t) where
+  module _ (T : Start (poolIn plan) cs ids s top ws) (ws₁ : List ℕ) (t : ℕ) (D : Traced (traced (netAt (plan .table) ids ws) ids s) ids (15 * m) top ws ws₁ t) where
     short : length (traced (netAt (plan .table) ids ws) ids s) ≤ 4 * many (eqb r) ids
     short = rw er (traced-room (plan .table) cs ids ws s (T .ways) (T .span) (T .own))
 

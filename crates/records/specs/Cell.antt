@@ -8,6 +8,7 @@ use lib.Dec.{eqb, ltb}
 use Rattle.rules.specs.Base.{_and_, _or_, if_then_else_, keep, tab}
 use Rattle.rules.specs.Growth.{plain}
 use Rattle.rules.specs.Records.{has, once, onceAll}
+use Rattle.net.specs.Table.{mostSpans}
 use Rattle.records.specs.declared.cell.Spans.{Spans}
 
 unfoldable pub twin : List ℕ → ℕ → ℕ → ℕ → Bool
@@ -53,6 +54,7 @@ pub record Within (ids : List ℕ) (s : ℕ) (cell : Spans) : Type 0 where
 
 -- s is one of the size spans from `from` on, and there is room for the others
 pub record Roomy (ids part : List ℕ) (s from size len : ℕ) : Type 0 where
+  pub spans : length ids ≤ mostSpans
   pub inside : from + size ≤ length ids
   pub lower : from ≤ s
   pub upper : s < from + size

@@ -11,9 +11,7 @@ use Rattle.rules.specs.Growth.{plain}
 use Rattle.rules.specs.Contour.{firstSolid, contour}
 use Rattle.rules.specs.Records.{Rec, at, has, onceAll}
 use Rattle.net.specs.Table.{mostSpans}
-use Rattle.contour.specs.Ways.{Ways}
 use Rattle.contour.specs.Pool.{pooled}
-use Rattle.contour.specs.declared.walk.Pool.{Pool}
 use Rattle.table.specs.View.{startOf, endOf, listAt, recsOf}
 use Rattle.records.specs.Map.{listsAt, floorPartsAt, poolAt, floorsFrom, floorRoom, recordsEnd, border}
 use Rattle.records.specs.Cell.{twins, othersFrom}
@@ -75,15 +73,6 @@ pub record Change (m r : ℕ) (ws ws′ : List ℕ) : Type 0 where
 pub record Slack (m r : ℕ) (ws : List ℕ) : Type 0 where
   pub slack : endOf ws m (floorPartsAt m) r + floorRoom ≤ startOf ws m (floorPartsAt m) r + floorRoom * getD ws (m + r) 0
 
--- a span of a region, and room in the pool for its contour
-pub record Tracing (pool : Pool) (con ids : List ℕ) (s top : ℕ) (ws : List ℕ) : Type 0 where
-  pub ways : Ways (pool .table) con ids ws
-  pub apart : pool .at + 4 * length ids ≤ pool .table
-  pub span : s < length ids
-  pub own : getD ids s 0 ≡ 0 → ⊥
-  pub room : top + 4 * many (eqb (getD ids s 0)) ids ≤ 4 * length ids
-  pub blank : (i : ℕ) → top ≤ i → i < 4 * length ids → getD ws (pool .at + i) 0 ≡ 0
-
 -- what a trace leaves: a list in the pool, which ends at t
 pub record Traced (l : List ℕ) (ids : List ℕ) (base top : ℕ) (ws ws′ : List ℕ) (t : ℕ) : Type 0 where
   pub end : t ≡ top + length l
@@ -96,6 +85,10 @@ plusOne r = record { id = r .id; count = suc (r .count); area = r .area; visited
 
 unfoldable pub overlaid : Bool → Rec → Rec
 overlaid b r = record { id = r .id; count = r .count; area = r .area; visited = r .visited; overlap = r .overlap or b; list = r .list; floors = r .floors }
+
+-- overlap as it is set
+unfoldable pub marked : ℕ → ℕ → Bool → List ℕ → List ℕ
+marked m r b ws = if b then set ws (3 * m + r) 1 else ws
 
 unfoldable pub floored : List ℕ → Rec → Rec
 floored o r = record { id = r .id; count = r .count; area = r .area; visited = r .visited; overlap = r .overlap; list = r .list; floors = onceAll (r .floors) o }

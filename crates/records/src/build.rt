@@ -4,8 +4,8 @@ use crate::fresh::renew;
 use crate::grow::Plan;
 use crate::grow::add_cell;
 use crate::grow::add_contour;
+use field::place::Layer;
 use field::place::SpanIx;
-use field::read::at8;
 use field::read::at32;
 use region::RegionId;
 use table::at;
@@ -78,7 +78,7 @@ fn add_spans(
 {
     let mut end = top;
     for j in 0..cell.size {
-        end = add_span(area, con, ids, ws, plan, cell, SpanIx(cell.from + j), end);
+        end = add_span(area, con, ids, ws, plan, cell, cell.at(Layer(j)), end);
     }
     end
 }
@@ -90,7 +90,7 @@ fn spans_of(index: &[u32], count: &[u8], c: usize) -> Spans
 {
     Spans {
         from: at32(index, c),
-        size: at8(count, c),
+        size: count[c],
     }
 }
 

@@ -1,4 +1,5 @@
 // The other spans of a cell.
+use field::place::Layer;
 use field::place::SpanIx;
 use region::RegionId;
 use table::place;
@@ -7,12 +8,23 @@ ghost use Prim.Native.Nat.{_+_, _≤_, _<_};
 ghost use lib.ListN.{length, getD, take};
 ghost use Rattle.rules.specs.Base.{_or_};
 ghost use Rattle.rules.specs.Records.{once, onceAll};
+ghost use Rattle.net.specs.Table.{mostSpans};
 ghost use Rattle.records.specs.Cell.{twin, twins, othersFrom, joinOne, Found, Joined, JoinedAll, Roomy};
 
 // The spans of a cell: size of them, from `from` on.
 pub struct Spans {
     pub from: usize,
-    pub size: usize,
+    pub size: u8,
+}
+
+impl Spans {
+    // The span in a layer of the cell.
+    pub(crate) fn at(self, layer: Layer) -> SpanIx
+        requires { ⌜ self .from + layer .0 < mostSpans ⌝ }
+        ensures { λ r. ⌜ r .0 ≡ self .from + layer .0 ⌝ }
+    {
+        SpanIx(self.from + layer.0 as usize)
+    }
 }
 
 // Met before, or other is another span and has the id.
@@ -109,7 +121,7 @@ pub(crate) fn join(ids: &[u16], part: &mut [u16], span: SpanIx, cell: Spans, len
     let mut l = Listed { len, next: 0 };
     let mut twin = false;
     for j in 0..cell.size {
-        let other = SpanIx(cell.from + j);
+        let other = cell.at(Layer(j));
         twin = met(ids, other, span, own, twin);
         l = join_one(ids, part, span, other, l);
     }

@@ -18,22 +18,21 @@ use table::set_part;
 use table::start_of;
 ghost use mathlib.Core.Path.{_≡_};
 ghost use mathlib.Core.Bool.{true};
-ghost use mathlib.Core.List.{List};
-ghost use Prim.Native.Nat.{ℕ, _+_, _*_, _≤_, _<_};
+ghost use Prim.Native.Nat.{_+_, _*_, _≤_, _<_};
 ghost use lib.ListN.{length, getD};
 ghost use Rattle.rules.specs.Growth.{plain};
 ghost use Rattle.net.specs.Table.{netAt};
+ghost use Rattle.contour.specs.Pool.{Start};
 ghost use Rattle.table.specs.View.{startOf, endOf};
 ghost use Rattle.records.specs.Map.{poolIn, listsAt};
 ghost use Rattle.records.specs.Cell.{twins, othersFrom, Within};
-ghost use Rattle.records.specs.Rows.{Keeping, Step, Slack, Tracing, Traced, traced, overlaid, floored, withList, contoured, celled};
+ghost use Rattle.records.specs.Rows.{Keeping, Step, Slack, Traced, traced, marked, floored, withList, contoured, celled};
 ghost use Rattle.records.specs.Stock.{Reach};
 
 // Overlap is set where another span of a cell has the id r too.
 fn add_overlap(ws: &mut [u16], m: usize, r: usize, twin: bool)
     requires { ⌜ (r < m) × (5 * m ≤ length (now ws)) ⌝ }
-    ensures { λ _. ⌜ ((ids : List ℕ) (top k : ℕ) → Keeping ids m top k (now (ws .entry))
-        → Step (overlaid twin) ids m r top k (now (ws .entry)) (now (ws .exit))) ⌝ }
+    ensures { λ _. ⌜ now (ws .exit) ≡ marked m r twin (now (ws .entry)) ⌝ }
 {
     if twin {
         ws[3 * m + r] = 1;
@@ -41,7 +40,7 @@ fn add_overlap(ws: &mut [u16], m: usize, r: usize, twin: bool)
 }
 
 // The ids of the cell's other spans join the floors of record r, which has been counted already. The list's end is written only where the
-// list has grown. Gives whether one of them has the span's id.
+// list has grown. Gives whether one of them has the span's id. What the pool has, up to top, only the contract reads.
 fn add_floors(
     ids: &[u16],
     ws: &mut [u16],
@@ -72,7 +71,7 @@ fn add_floors(
 
 // The contour from the span is listed in the pool from top on, if the span has a solid edge. Gives the end.
 fn trace(con: &[u8], ids: &[u16], ws: &mut [u16], pool: Pool, span: SpanIx, top: usize) -> usize
-    requires { ⌜ Tracing pool (now con) (now ids) (span .0) top (now ws) ⌝ }
+    requires { ⌜ Start pool (now con) (now ids) (span .0) top (now ws) ⌝ }
     ensures { λ r. ⌜ (let list = traced (netAt (pool .table) (now (ids .entry)) (now (ws .entry))) (now (ids .entry)) (span .0) in
         Traced list (now (ids .entry)) (pool .at) top (now (ws .entry)) (now (ws .exit)) r) ⌝ }
 {
@@ -99,7 +98,7 @@ fn add_list(
     r: usize,
     top: usize,
 ) -> usize
-    requires { ⌜ Tracing (poolIn plan) (now con) (now ids) (span .0) top (now ws) ⌝ }
+    requires { ⌜ Start (poolIn plan) (now con) (now ids) (span .0) top (now ws) ⌝ }
     requires { ⌜ Keeping (now ids) (plan .records) top (span .0 + 1) (now ws) × (r ≡ getD (now ids) (span .0) 0) × (r < plan .records) ⌝ }
     requires { ⌜ (let m = plan .records in
         endOf (now ws) m (listsAt m) r ≤ startOf (now ws) m (listsAt m) r) ⌝ }

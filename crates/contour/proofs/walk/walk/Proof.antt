@@ -32,11 +32,11 @@ begin-requires : tie.Need-begin-requires Inv-loop μ-loop
 begin-requires c κs = search needs
 
 loop-holds : tie.Need-loop-holds Inv-loop μ-loop
-loop-holds c = going-start _ _ _ _ _ _ _ (S c .pre) _ _ (B c .begin .ensures)
+loop-holds c = going-start _ _ _ _ _ _ _ (S c .pre .0) (S c .pre .1) _ _ (B c .begin .ensures)
 
 stride-requires : tie.Need-stride-requires Inv-loop μ-loop
 stride-requires c κs = let l = c .before .before in
-    going-stand _ _ _ _ _ _ _ (S (l .before) .pre) _ _ (B (l .before) .begin .ensures) _ _ _ (l .loop .inv)
+    going-stand _ _ _ _ _ _ _ (S (l .before) .pre .0) (S (l .before) .pre .1) _ _ (B (l .before) .begin .ensures) _ _ _ (l .loop .inv)
 
 at-requires : tie.Need-at-requires Inv-loop μ-loop
 at-requires c κs = search needs
@@ -47,7 +47,7 @@ same-length c = let l = L (c .before) in
 
 returns : tie.Need-returns Inv-loop μ-loop
 returns c = let l = L (c .before) in
-    going-back _ _ _ _ _ _ _ (S (l .before) .pre) _ _ (B (l .before) .begin .ensures) _ _ _ (l .loop .inv) _ _ (A (c .before) .stride .ensures) (omega (arith, A (c .before) .before .before .loop-test .taken)) _ (c .before .at .ensures) (c .if1 .taken)
+    going-back _ _ _ _ _ _ _ (S (l .before) .pre .0) (S (l .before) .pre .1) _ _ (B (l .before) .begin .ensures) _ _ _ (l .loop .inv) _ _ (A (c .before) .stride .ensures) (omega (arith, A (c .before) .before .before .loop-test .taken)) _ (c .before .at .ensures) (c .if1 .taken)
 
 add-k : tie.Need-add-k Inv-loop μ-loop
 add-k c = search needs
@@ -57,13 +57,13 @@ loop-less c = search needs
 
 loop-again : tie.Need-loop-again Inv-loop μ-loop
 loop-again c = let l = L (c .before) in
-    going-next _ _ _ _ _ _ _ (S (l .before) .pre) _ _ (B (l .before) .begin .ensures) _ _ _ (l .loop .inv) _ _ (A (c .before) .stride .ensures) (omega (arith, A (c .before) .before .before .loop-test .taken)) _ (c .before .at .ensures) (c .if1 .left)
+    going-next _ _ _ _ _ _ _ (S (l .before) .pre .0) (S (l .before) .pre .1) _ _ (B (l .before) .begin .ensures) _ _ _ (l .loop .inv) _ _ (A (c .before) .stride .ensures) (omega (arith, A (c .before) .before .before .loop-test .taken)) _ (c .before .at .ensures) (c .if1 .left)
 
 same-length-2 : tie.Need-same-length-2 Inv-loop μ-loop
 same-length-2 c = c .before .loop .inv .laid .same ∙ B (c .before .before) .begin .kept .1 .1 .0
 
 returns-2 : tie.Need-returns-2 Inv-loop μ-loop
-returns-2 c = going-end _ _ _ _ _ _ _ (S (c .before .before) .pre) _ _ (B (c .before .before) .begin .ensures) _ _ _ (c .before .loop .inv) (c .loop-test .left)
+returns-2 c = going-end _ _ _ _ _ _ _ (S (c .before .before) .pre .0) (S (c .before .before) .pre .1) _ _ (B (c .before .before) .begin .ensures) _ _ _ (c .before .loop .inv) (c .loop-test .left)
 
 pub walk-spec : {M : Type 1} → statement M
 walk-spec =

@@ -13,7 +13,7 @@ walk-requires : tie.Need-walk-requires
 walk-requires c κs = search needs
 
 trim-requires : tie.Need-trim-requires
-trim-requires c κs = let k = c .before .before .before in trim-there _ _ _ _ _ _ _ (S k .pre) _ _ (k .walk .ensures)
+trim-requires c κs = let k = c .before .before .before in trim-there _ _ _ _ _ _ _ (S k .pre .0) _ _ (k .walk .ensures)
 
 same-length : tie.Need-same-length
 same-length c = search needs
@@ -21,7 +21,7 @@ same-length c = search needs
 returns : tie.Need-returns
 returns c = let t = c .before .before in
     let k = t .before .before .before .before in
-    (contour-pool _ _ _ _ _ _ _ (S k .pre) _ _ (k .walk .ensures) _ _ (t .trim .ensures), contour-end _ _ _ _ _ _ _ (S k .pre) _ _ (k .walk .ensures) _ _ (t .trim .ensures))
+    (contour-pool _ _ _ _ _ _ _ (S k .pre .0) _ _ (k .walk .ensures) _ _ (t .trim .ensures), contour-end _ _ _ _ _ _ _ (S k .pre .0) _ _ (k .walk .ensures) _ _ (t .trim .ensures))
 
 pub walk-contour-spec : {M : Type 1} → statement M
 walk-contour-spec = tie.close (tie.spec walk-requires trim-requires same-length returns)

@@ -2,9 +2,8 @@
 -- It starts with none of them; the measure is what is left of the cell.
 use Prim.Native.Nat.{_-_}
 use Rattle.records.specs.Build.{Entered}
-use Rattle.records.proofs.BuildLaws.{entered-start, entered-stand, entered-next, entered-end}
+use Rattle.records.proofs.BuildLaws.{entered-start, entered-room, entered-stand, entered-next, entered-end}
 use borrow.Author.Needs.{needs}
-use native.Mathlib.Omega.{arith}
 use Rattle.records.proofs.build.add_spans.Statement.{statement}
 use Rattle.records.proofs.build.add_spans.Tie as tie
 
@@ -21,16 +20,15 @@ S c = c .before .before .before .before .before
 loop-holds : tie.Need-loop-holds Inv-loop μ-loop
 loop-holds c = entered-start _ _ _ _ _ _ _ (c .before .before .before .before .pre)
 
-add-t14 : tie.Need-add-t14 Inv-loop μ-loop
-add-t14 c = let i = c .before .before in
+at-requires : tie.Need-at-requires Inv-loop μ-loop
+at-requires c κs = let i = c .before in
     let l = i .before in
-    let st = entered-stand _ _ _ _ _ _ _ (S l .pre) _ _ _ (l .loop .inv) (i .loop-test .taken) in
-    omega (arith, st .reach .span, st .keeping .spans)
+    entered-room _ _ _ _ _ _ _ (S l .pre) _ _ _ (l .loop .inv) (i .loop-test .taken)
 
 add-span-requires : tie.Need-add-span-requires Inv-loop μ-loop
 add-span-requires c κs = let i = c .before .before in
     let l = i .before in
-    entered-stand _ _ _ _ _ _ _ (S l .pre) _ _ _ (l .loop .inv) (i .loop-test .taken)
+    entered-stand _ _ _ _ _ _ _ (S l .pre) _ _ _ (l .loop .inv) (i .loop-test .taken) _ (c .at .ensures)
 
 add-j : tie.Need-add-j Inv-loop μ-loop
 add-j c = search needs
@@ -40,9 +38,10 @@ loop-less c = search needs
 
 loop-again : tie.Need-loop-again Inv-loop μ-loop
 loop-again c = let a = c .before .before in
-    let i = a .before .before .before in
+    let s = a .before in
+    let i = s .before .before in
     let l = i .before in
-    entered-next _ _ _ _ _ _ _ (S l .pre) _ _ _ (l .loop .inv) (i .loop-test .taken) _ _ (a .add-span .ensures)
+    entered-next _ _ _ _ _ _ _ (S l .pre) _ _ _ (l .loop .inv) (i .loop-test .taken) _ (s .at .ensures) _ _ (a .add-span .ensures)
 
 same-length : tie.Need-same-length Inv-loop μ-loop
 same-length c = c .before .loop .inv .size
@@ -57,7 +56,7 @@ add-spans-spec =
     Inv-loop
     μ-loop
     loop-holds
-    add-t14
+    at-requires
     add-span-requires
     add-j
     loop-less

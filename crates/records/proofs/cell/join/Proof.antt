@@ -32,18 +32,20 @@ shared-slice-read-own c = (let p = S c .pre in omega (arith, p .inside, p .upper
 loop-holds : tie.Need-loop-holds Inv-loop μ-loop
 loop-holds c = (join-start _ _ _ _ _ _ (S c .pre), twins-start _ _ _ _ _)
 
-add-t17 : tie.Need-add-t17 Inv-loop μ-loop
-add-t17 c = search needs
+at-requires : tie.Need-at-requires Inv-loop μ-loop
+at-requires c κs = let p = S (c .before .before) .pre in omega (arith, p .inside, p .spans, c .loop-test .taken)
 
 met-requires : tie.Need-met-requires Inv-loop μ-loop
-met-requires c κs = (let i = c .before in let p = S (i .before .before) .pre in omega (arith, p .inside, i .loop-test .taken))
+met-requires c κs = let i = c .before in
+    let p = S (i .before .before) .pre in
+    omega (arith, p .inside, c .at .ensures, i .loop-test .taken)
 
 join-one-requires : tie.Need-join-one-requires Inv-loop μ-loop
-join-one-requires c κs =
-    let i = c .before .before .before in
+join-one-requires c κs = let a = c .before .before in
+    let i = a .before in
     let l = i .before in
     let p = S (l .before) .pre in
-    (omega (arith, p .inside, i .loop-test .taken), join-room _ _ _ _ _ _ p _ _ _ (l .loop .inv .0) (i .loop-test .taken))
+    (omega (arith, p .inside, a .at .ensures, i .loop-test .taken), join-room _ _ _ _ _ _ p _ _ _ (l .loop .inv .0) (i .loop-test .taken) _ (a .at .ensures))
 
 add-j : tie.Need-add-j Inv-loop μ-loop
 add-j c = search needs
@@ -55,10 +57,11 @@ loop-again : tie.Need-loop-again Inv-loop μ-loop
 loop-again c =
     let a = c .before .before in
     let m = a .before .before in
-    let i = m .before .before in
+    let t = m .before in
+    let i = t .before in
     let l = i .before in (
-      join-next _ _ _ _ _ _ (S (l .before) .pre) _ _ _ (l .loop .inv .0) (i .loop-test .taken) _ _ (a .join-one .ensures .0) (a .join-one .ensures .1) (a .join-one .kept .1 .0),
-      twins-go _ _ _ _ _ _ _ (l .loop .inv .1) _ (i .loop-test .taken) (m .met .ensures),
+      join-next _ _ _ _ _ _ (S (l .before) .pre) _ _ _ (l .loop .inv .0) (i .loop-test .taken) _ (t .at .ensures) _ _ (a .join-one .ensures .0) (a .join-one .ensures .1) (a .join-one .kept .1 .0),
+      twins-go _ _ _ _ _ _ _ (l .loop .inv .1) _ (t .at .ensures) _ (i .loop-test .taken) (m .met .ensures),
     )
 
 same-length : tie.Need-same-length Inv-loop μ-loop
@@ -78,7 +81,7 @@ join-spec =
     mul-own
     shared-slice-read-own
     loop-holds
-    add-t17
+    at-requires
     met-requires
     join-one-requires
     add-j

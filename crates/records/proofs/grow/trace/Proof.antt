@@ -1,6 +1,7 @@
 -- `trace` leaves the rule's traced list in the pool: the contour from the first solid direction, or nothing.
 -- The pool has zeros from top on.
-use Rattle.records.proofs.TraceLaws.{trace-con, trace-span, trace-start, trace-at, trace-none}
+use Rattle.contour.proofs.PoolLaws.{start-con, start-at}
+use Rattle.records.proofs.TraceLaws.{trace-dir, trace-at, trace-none}
 use borrow.Author.Needs.{needs}
 use Rattle.records.proofs.grow.trace.Statement.{statement}
 use Rattle.records.proofs.grow.trace.Tie as tie
@@ -10,10 +11,10 @@ abbrev S : tie.After-connections → tie.Start
 S c = c .before .before .before .before
 
 connections-requires : tie.Need-connections-requires
-connections-requires c κs = search (needs, trace-con)
+connections-requires c κs = search (needs, start-con)
 
 first-solid-requires : tie.Need-first-solid-requires
-first-solid-requires c κs = let k = c .before in trace-span _ _ _ _ _ _ (S k .pre) _ (k .connections .ensures)
+first-solid-requires c κs = let k = c .before in start-at _ _ _ _ _ _ (S k .pre) _ (k .connections .ensures)
 
 enum-known-d : tie.Need-enum-known-d
 enum-known-d c = search needs
@@ -22,7 +23,8 @@ walk-contour-requires : tie.Need-walk-contour-requires
 walk-contour-requires c κs = let d = c .before .before in
     let f = d .before .before in
     let e = f .first-solid .ensures in
-    trace-start _ _ _ _ _ _ (S (f .before .before) .pre) _ (e .0) (e .1) _ (d .d .given .1)
+    let p = S (f .before .before) .pre in
+    (p, trace-dir _ _ _ _ _ _ p _ (e .0) (e .1) _ (d .d .given .1))
 
 enum-told : tie.Need-enum-told
 enum-told c = search needs

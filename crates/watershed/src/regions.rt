@@ -8,6 +8,7 @@ use merge::merge_and_filter_regions;
 use numbering::Regions;
 use records::build::build_records;
 use space::clear;
+use table::any_above;
 ghost use mathlib.Core.Path.{_≡_};
 ghost use mathlib.Core.List.{[], _∷_};
 ghost use lib.ListN.{length, replicate};
@@ -26,19 +27,6 @@ ghost use Rattle.watershed.specs.Stages.{Admitted, ownRefusal};
 pub enum RegionAnswer {
     Refused(Refusal),
     Done(u16, u16),
-}
-
-fn any_above(dist: &[u16], most: u16) -> bool
-    ensures { λ r. ⌜ r ≡ any (ltb most) (now (dist .entry)) ⌝ }
-{
-    let mut i = 0;
-    while i < dist.len() {
-        if most < dist[i] {
-            return true;
-        }
-        i += 1;
-    }
-    false
 }
 
 // Refusal 8.

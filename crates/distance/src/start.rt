@@ -82,7 +82,7 @@ fn start_cell(
 }
 
 // Row y.
-pub fn start_row(
+pub(crate) fn start_row(
     w: usize,
     h: usize,
     index: &[u32],
@@ -102,7 +102,7 @@ pub fn start_row(
 }
 
 // Every row.
-pub fn start(
+pub(crate) fn start(
     w: usize,
     h: usize,
     index: &[u32],

@@ -1,0 +1,4 @@
+-- What the distance is said to mean: moves and chains of them, the open field, and a field where raw is above the cheapest chain.
+pub mod Moves
+pub mod Open
+pub mod Crossed

@@ -192,9 +192,9 @@ module _ (w h : ℕ) (few : w * h ≤ 65535) where
   kept-start : Kept (start O)
   kept-start =
       record {
-        size = start-length O ∙ open-spans w h few;
-        high = λ x z p q. rw (start-at O (spanAt w x z) (rw (open-spans w h few) (in-field w h few x z p q))) (start-within x z p q);
-        edge = λ x z p q e. start-at O (spanAt w x z) (rw (open-spans w h few) (in-field w h few x z p q)) ∙ start-on-edge x z p q e;
+        size = start-length O ∙ open-spans w h;
+        high = λ x z p q. rw (start-at O (spanAt w x z) (rw (open-spans w h) (in-field w h few x z p q))) (start-within x z p q);
+        edge = λ x z p q e. start-at O (spanAt w x z) (rw (open-spans w h) (in-field w h few x z p q)) ∙ start-on-edge x z p q e;
       }
 
   -- ---------------------------------------------------------------- not more: pass 1
@@ -239,10 +239,10 @@ module _ (w h : ℕ) (few : w * h ≤ 65535) where
   after-pass1 : Pass1 (w * h) (pass1 O (start O))
   unfolding pass1
   after-pass1 =
-      rw (← open-spans w h few)
+      rw (← open-spans w h)
       (upto-ind Pass1 (lower O 0 3 3 2) (start O) (spans O)
       (record { kept = kept-start; column = λ x z p q i. absurd (omega arith); row = λ x z p q i. absurd (omega arith) })
-      (λ k l g v. pass1-next k l (rw (open-spans w h few) at g) v))
+      (λ k l g v. pass1-next k l (rw (open-spans w h) at g) v))
 
   -- ---------------------------------------------------------------- not more: pass 2
 
@@ -308,7 +308,7 @@ pub open-raw-is-twice-the-least : (w h x z : ℕ) → w * h ≤ 65535 → x < w 
 open-raw-is-twice-the-least w h x z few p q =
     let v = after-pass2 w h few in
     let s = spanAt w x z in
-    let d : getD (raw (openField w h)) s 0 ≡ far (raw (openField w h)) s = getD-any (raw (openField w h)) s 0 65535 (omega (arith, raw-length (openField w h), open-spans w h few, in-field w h few x z p q)) in
+    let d : getD (raw (openField w h)) s 0 ≡ far (raw (openField w h)) s = getD-any (raw (openField w h)) s 0 65535 (omega (arith, raw-length (openField w h), open-spans w h, in-field w h few x z p q)) in
     d ∙ twice (far (raw (openField w h)) s) (v .column x z p q) (v .row x z p q) (v .columns x z p q (omega arith)) (v .rows x z p q (omega arith)) (v .kept .high x z p q)
   where
     twice : (r : ℕ) → r ≤ 2 * x → r ≤ 2 * z → r + 2 * x + 2 ≤ 2 * w → r + 2 * z + 2 ≤ 2 * h → 2 * least w h x z ≤ r → r ≡ 2 * least w h x z

@@ -28,6 +28,10 @@ cellOf-ones (suc n) s h =
     if-ind (λ c. c ≡ s) _ (λ e. omega tests)
     (λ e. let r = cellOf-ones n (s - 1) (omega tests) in omega tests)
 
+pub open-spans : (w h : ℕ) → spans (openField w h) ≡ w * h
+unfolding openField
+open-spans w h = length-replicate (w * h) _
+
 module _ (w h : ℕ) (few : w * h ≤ 65535) where
   -- a span of the field
   pub in-field : (x z : ℕ) → x < w → z < h → spanAt w x z < w * h
@@ -170,10 +174,6 @@ module _ (w h : ℕ) (few : w * h ≤ 65535) where
         (λ y e. (λ _. omega arith, λ _. omega (arith, alike-at (spanAt w x z) (spanAt w x y) inner (in-field x y p (omega arith)))))
 
   -- ---------------------------------------------------------------- cells
-
-  pub open-spans : spans (openField w h) ≡ w * h
-  unfolding openField
-  open-spans = length-replicate (w * h) _
 
   pub count-at : (c : ℕ) → c < w * h → getD (openField w h .count) c 0 ≡ 1
   unfolding openField

@@ -109,20 +109,20 @@ module _ (w h : ℕ) (few : w * h ≤ 65535) where
   cells-right =
       let r = good-ones (w * h) 0 in
       let e : goodCells (openField w h .index) (openField w h .count) 0 (w * h) ≡ true = rw (zero-add (w * h)) at r in
-      let f : goodCells (openField w h .index) (openField w h .count) 0 (spans (openField w h)) ≡ true = rw (open-spans w h few) e in
+      let f : goodCells (openField w h .index) (openField w h .count) 0 (spans (openField w h)) ≡ true = rw (open-spans w h) e in
       ap not f
 
   reach-right : wrongReach (openField w h) ≡ false
   unfolding wrongReach
-  reach-right = ap not (every-is _ _ (λ s g. every-is 4 _ (λ d k. reach-good w h few s d (rw (open-spans w h few) at g) k)))
+  reach-right = ap not (every-is _ _ (λ s g. every-is 4 _ (λ d k. reach-good w h few s d (rw (open-spans w h) at g) k)))
 
   back-right : wrongBack (openField w h) ≡ false
   unfolding wrongBack
-  back-right = ap not (every-is _ _ (λ s g. every-is 4 _ (λ d k. back-good w h few s d (rw (open-spans w h few) at g) k)))
+  back-right = ap not (every-is _ _ (λ s g. every-is 4 _ (λ d k. back-good w h few s d (rw (open-spans w h) at g) k)))
 
 pub open-not-refused : (w h : ℕ) → w ≤ 256 → h ≤ 256 → w * h ≤ 32000 → refusal (openField w h) [] ≡ 0
 unfolding tooWide tooMany _or_ openField
 open-not-refused w h a b few =
     let more : w * h ≤ 65535 = omega arith in
-    not-refused (openField w h) [] (rw (le-ltb 256 w a, le-ltb 256 h b) refl) (le-ltb 32000 (spans (openField w h)) (omega (arith, open-spans w h more)))
+    not-refused (openField w h) [] (rw (le-ltb 256 w a, le-ltb 256 h b) refl) (le-ltb 32000 (spans (openField w h)) (omega (arith, open-spans w h)))
     (lengths-right w h more) (cells-right w h more) (reach-right w h more) (back-right w h more)

@@ -10,7 +10,7 @@ use borrow.Author.Tests.{ltb-true}
 use Rattle.rules.specs.Base.{_and_, _or_, if_then_else_, upto, tab, every}
 use Rattle.rules.specs.Field.{Field, cellOf, cellTo, leaves, conOf, near, areaOf}
 use Rattle.rules.specs.Refusals.{goodCells, goodCon, goodBack, tooWide, tooMany, wrongLength, wrongCells, wrongReach, wrongBack, refusal}
-use Rattle.rules.specs.Distance.{same, start, lower, pass1, pass2, raw}
+use Rattle.rules.specs.Distance.{same, startAt, start, lower, pass1, pass2, raw}
 use Rattle.laws.proofs.Basics.{every-at}
 use Rattle.meaning.specs.Moves.{Turns, left-up, up-right, right-down, down-left, Move, straight, cornering, Chain, ended, moved, Cheapest}
 use Rattle.meaning.specs.Crossed.{crossed}
@@ -21,12 +21,12 @@ crossed-not-refused = refl
 
 -- span 13 is at (3,3)
 pub crossed-raw : getD (raw crossed) 13 0 ≡ 5
-unfolding if_then_else_ upto tab cellOf cellTo conOf near areaOf same start lower pass1 pass2 raw crossed
+unfolding if_then_else_ upto tab cellOf cellTo conOf near areaOf same startAt start lower pass1 pass2 raw crossed
 crossed-raw = refl
 
 -- to (2,3), and from there to the second span of (2,4)
 pub crossed-chain : Chain crossed 13 4
-unfolding if_then_else_ tab cellOf cellTo conOf near areaOf same start crossed
+unfolding if_then_else_ tab cellOf cellTo conOf near areaOf same startAt start crossed
 crossed-chain =
     let second : Chain crossed 19 0 = ended {s = 19} (omega arith) refl in
     let down : Move crossed 11 19 2 = straight 1 (omega arith) (omega arith) in
@@ -48,18 +48,18 @@ two-moves (moved (cornering d e r i j) (ended k f)) a b c = absurd (c d e r f)
 two-moves (moved m (moved n q)) a b c = omega (arith, move-cost m, move-cost n)
 
 neighbours-high : every 4 (λ d. ltb 0 (getD (start crossed) (near crossed 13 d) 65535)) ≡ true
-unfolding _and_ if_then_else_ tab every cellOf cellTo conOf near areaOf same start crossed
+unfolding _and_ if_then_else_ tab every cellOf cellTo conOf near areaOf same startAt start crossed
 neighbours-high = refl
 
 corner-high : {d e : ℕ} → Turns d e → getD (start crossed) (near crossed (near crossed 13 d) e) 65535 ≡ 65535
-unfolding if_then_else_ tab cellOf cellTo conOf near areaOf same start crossed
+unfolding if_then_else_ tab cellOf cellTo conOf near areaOf same startAt start crossed
 corner-high left-up = refl
 corner-high up-right = refl
 corner-high right-down = refl
 corner-high down-left = refl
 
 own-high : getD (start crossed) 13 65535 ≡ 65535
-unfolding if_then_else_ tab cellOf cellTo conOf near areaOf same start crossed
+unfolding if_then_else_ tab cellOf cellTo conOf near areaOf same startAt start crossed
 own-high = refl
 
 pub crossed-cheapest : Cheapest crossed 13 4

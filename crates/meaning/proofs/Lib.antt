@@ -2,9 +2,11 @@
 -- (Chains), of the cheapest one where a cell has one span (OneSpan) but not on every field (Crossed); on an open field it is twice the way to the
 -- nearest edge (Open).
 pub mod Blurred
-pub mod Chains
+pub mod Places
 pub mod Passes
 pub mod Settled
+pub mod Sums
+pub mod Chains
 pub mod OneSpan
 pub mod Crossed
 pub mod OpenField

@@ -3,20 +3,23 @@
 -- the first span also comes to, at no more cost, by a move of pass 2 and another; a span that lacks a neighbour on that way has 0.
 use Prim.Native.Nat.{ℕ, zero, suc, _+_, _*_, _≤_, _<_}
 use native.Mathlib.Omega.{arith}
-use native.Mathlib.Decide.{decLt, ℕ-discrete}
+use native.Mathlib.Decide.{decLt}
 use mathlib.Core.Path.{_≡_}
 use mathlib.Core.List.{List}
 use lib.ListN.{getD, List·getD-eq-default}
-use Rattle.rules.specs.Field.{Field, spans, near, conOf}
+use Rattle.rules.specs.Field.{Field, spans, near, Bytes}
 use Rattle.rules.specs.Refusals.{refusal}
 use Rattle.rules.specs.Distance.{start, far, pass1, raw}
-use Rattle.laws.proofs.Basics.{if-ind, getD-any}
+use Rattle.laws.proofs.Basics.{four-ways, getD-any}
 use Rattle.laws.proofs.Lengths.{raw-length}
-use Rattle.laws.proofs.Cells.{Passed, passed, leads}
-use Rattle.meaning.specs.Moves.{Bytes, Single, Turns, left-up, up-right, right-down, down-left, Move, straight, cornering, Chain, ended, moved, Cheapest}
-use Rattle.meaning.proofs.Chains.{four-ways, cell-in, through, start-edge, start-at, raw-is-a-chain's-cost}
+use Rattle.laws.proofs.Cells.{Passed, passed}
+use Rattle.laws.proofs.Passes.{start-edge}
+use Rattle.meaning.specs.Moves.{Single, Turns, left-up, up-right, right-down, down-left, Move, straight, cornering, Chain, ended, moved, Cheapest}
+use Rattle.meaning.proofs.Places.{few, cell, cell-in, near-cases, through, cell-left, cell-down, cell-right, cell-up, back}
+use Rattle.meaning.proofs.Chains.{raw-is-a-chain's-cost}
 use Rattle.meaning.proofs.Passes.{leastOf}
-use Rattle.meaning.proofs.Settled.{cell, cell-left, cell-down, cell-right, cell-up, back, settled1, one-in-cell, settled2}
+use Rattle.meaning.proofs.Sums.{raw-low}
+use Rattle.meaning.proofs.Settled.{settled1, one-in-cell, settled2}
 
 module _ (v p r q t x : ℕ) (e : x ≡ leastOf v p r q t) where
   least-le : (x ≤ v) × (x ≤ p + 2) × (x ≤ r + 3) × (x ≤ q + 2) × (x ≤ t + 3)
@@ -63,7 +66,7 @@ module _ (F : Field) (lens : List ℕ) (ok : Passed F lens) (bytes : Bytes F) (s
   zero-stays s h e = omega (arith, fixed1 s h .0, fixed2 s h .0)
 
   low : (s : ℕ) → s < spans F → g s ≤ 65535
-  low s h = let b : far (start F) s ≤ 65535 = rw (start-at F s h) (if-ind (λ r. r ≤ 65535) _ (λ _. omega arith) (λ _. omega arith)) in omega (arith, fixed1 s h .0, fixed2 s h .0)
+  low s h = omega (arith, raw-low F lens ok bytes s h)
 
   past : (t : ℕ) → (t < spans F → ⊥) → g t ≡ 65535
   past t n = List·getD-eq-default (raw F) 65535 (omega (arith, raw-length F))
@@ -71,7 +74,7 @@ module _ (F : Field) (lens : List ℕ) (ok : Passed F lens) (bytes : Bytes F) (s
   -- a span has 0, or a neighbour in each direction
   zero-or : (P : Type 0) (s d : ℕ) → s < spans F → d < 4 → (g s ≡ 0 → P) → (near F s d < spans F → P) → P
   zero-or P s d h i a b =
-      elim (ℕ-discrete (conOf F s d) 255) [ yes e ↦ a (zero-stays s h (start-edge F lens ok bytes s d h i e)) | no e ↦ b (leads F lens ok s d h i e .inside) ]
+      near-cases F lens ok P s d h i (λ e. a (zero-stays s h (start-edge F s d (few F lens ok) h (bytes s h) i e))) b
 
   -- a bound by the value of t, where t is a span or far away
   there-or : (P : Type 0) (s t : ℕ) → s < spans F → (g s ≤ g t → P) → (t < spans F → P) → P

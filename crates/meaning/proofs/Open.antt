@@ -10,12 +10,13 @@ use mathlib.Core.List.{List}
 use lib.ListN.{length, getD, List·getD-eq-default}
 use borrow.Author.Tests.{ltb-true, ltb-false}
 use Rattle.rules.specs.Field.{Field, spans, near}
-use Rattle.rules.specs.Distance.{start, far, lower, pass1, pass2, raw}
+use Rattle.rules.specs.Open.{flat, openField}
+use Rattle.rules.specs.Distance.{startAt, start, far, lower, pass1, pass2, raw}
 use Rattle.laws.proofs.Basics.{if-ind, upto-ind, getD-set-at, getD-any}
-use Rattle.laws.proofs.Lengths.{lower-length, raw-length}
-use Rattle.laws.proofs.Passes.{same-le}
-use Rattle.meaning.specs.Open.{openField, spanAt, least}
-use Rattle.meaning.proofs.Chains.{lower-lowers, lower-near, starts, start-at, start-length}
+use Rattle.laws.proofs.Lengths.{start-length, lower-length, raw-length}
+use Rattle.laws.proofs.Passes.{same-le, start-at}
+use Rattle.meaning.specs.Open.{spanAt, least}
+use Rattle.meaning.proofs.Passes.{lower-lowers, lower-near}
 use Rattle.meaning.proofs.OpenField.{Marks, in-field, open-none, open-spans, to-left, to-down, to-right, to-up, same-left, same-down, same-right, same-up, only-span}
 
 -- ---------------------------------------------------------------- the least of four
@@ -165,7 +166,8 @@ module _ (w h : ℕ) (few : w * h ≤ 65535) where
         omega (arith, i .1 (omega arith), m .1 (omega arith), k .1 (omega arith), j .1 (omega arith))
 
   module _ (x z : ℕ) (p : x < w) (q : z < h) where
-    start-on-edge : least w h x z ≡ 0 → starts O (spanAt w x z) ≡ 0
+    start-on-edge : least w h x z ≡ 0 → startAt O (spanAt w x z) ≡ 0
+    unfolding startAt
     start-on-edge e =
         if-ind (λ r. r ≡ 0) _ (λ _. refl)
         (λ f. absurd (omega (
@@ -175,7 +177,8 @@ module _ (w h : ℕ) (few : w * h ≤ 65535) where
               (same-le O (spanAt w x z) 0) (same-le O (spanAt w x z) 1) (same-le O (spanAt w x z) 2) (same-le O (spanAt w x z) 3) e,
         )))
 
-    start-within : 2 * least w h x z ≤ starts O (spanAt w x z)
+    start-within : 2 * least w h x z ≤ startAt O (spanAt w x z)
+    unfolding startAt
     start-within =
         if-ind (λ r. 2 * least w h x z ≤ r) _
         (λ f. elim (decLt 0 (least w h x z)) [
@@ -297,7 +300,7 @@ module _ (w h : ℕ) (few : w * h ≤ 65535) where
       }
 
   after-pass2 : Pass2 (w * h) (raw O)
-  unfolding raw pass2 openField
+  unfolding raw pass2 flat openField
   after-pass2 =
       upto-ind Pass2 _ (pass1 O (start O)) (w * h) (pass2-first _ after-pass1)
       (λ k l g v. only-span w h few (Pass2 (suc k)) (w * h - 1 - k) l (lower O 2 1 1 0) (omega arith) (pass2-next k (w * h - 1 - k) l (omega arith) v))

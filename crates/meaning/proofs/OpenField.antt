@@ -6,16 +6,17 @@ use native.Mathlib.Decide.{decLt}
 use mathlib.Core.Path.{_≡_, refl, sym, ap, _∙_}
 use mathlib.Core.Bool.{true, false}
 use mathlib.Core.List.{List}
-use lib.ListN.{length, getD, replicate, getD-replicate, length-replicate, List·getD-eq-default}
+use lib.ListN.{getD, replicate, getD-replicate, List·getD-eq-default}
 use lib.Arith.{digits-lt, digits-div, digits-mod}
 use lib.Dec.{eqb}
 use borrow.Author.Tests.{eq-eqb, ne-eqb, le-leb, lt-leb}
 use Rattle.rules.specs.Base.{if_then_else_, upto}
 use Rattle.rules.specs.Field.{spans, areaOf, near, cellOf, cellTo, leaves, conOf}
+use Rattle.rules.specs.Open.{openCon, flat, openField}
 use Rattle.rules.specs.Distance.{same}
 use Rattle.laws.proofs.Basics.{if-ind, tests, tab-at, length-tab}
 use Rattle.laws.proofs.Cells.{near-none, near-is}
-use Rattle.meaning.specs.Open.{openField, openCon, spanAt}
+use Rattle.meaning.specs.Open.{spanAt}
 
 -- a, which is 0 or 1, is 1 exactly where P holds
 abbrev pub Marks : ℕ → Type 0 → Type 0
@@ -29,8 +30,8 @@ cellOf-ones (suc n) s h =
     (λ e. let r = cellOf-ones n (s - 1) (omega tests) in omega tests)
 
 pub open-spans : (w h : ℕ) → spans (openField w h) ≡ w * h
-unfolding openField
-open-spans w h = length-replicate (w * h) _
+unfolding flat openField
+open-spans w h = length-tab (w * h) 0 _
 
 module _ (w h : ℕ) (few : w * h ≤ 65535) where
   -- a span of the field
@@ -40,7 +41,7 @@ module _ (w h : ℕ) (few : w * h ≤ 65535) where
   -- ---------------------------------------------------------------- connections
 
   pub con-at : (s d : ℕ) → s < w * h → d < 4 → conOf (openField w h) s d ≡ (if leaves w h s d then 255 else 0)
-  unfolding conOf openField openCon
+  unfolding conOf flat openField openCon
   con-at s d g k =
       let a : (0 + (4 * s + d)) / 4 ≡ s = omega arith in
       let b : (0 + (4 * s + d)) % 4 ≡ d = omega arith in
@@ -48,7 +49,7 @@ module _ (w h : ℕ) (few : w * h ≤ 65535) where
 
   -- none has no neighbour
   pub open-none : (d : ℕ) → near (openField w h) 65535 d ≡ 65535
-  unfolding conOf openField
+  unfolding conOf flat openField
   open-none d = near-none (openField w h) 65535 d (List·getD-eq-default (openField w h .con) 255 (omega (arith, length-tab (4 * (w * h)) 0 (openCon w h))))
 
   missing : (s d : ℕ) → s < w * h → d < 4 → leaves w h s d ≡ true → near (openField w h) s d ≡ 65535
@@ -56,7 +57,7 @@ module _ (w h : ℕ) (few : w * h ≤ 65535) where
   missing s d g k e = near-none (openField w h) s d (con-at s d g k ∙ rw e refl)
 
   pub leading : (s d : ℕ) → s < w * h → d < 4 → leaves w h s d ≡ false → cellTo w s d < w * h → near (openField w h) s d ≡ cellTo w s d
-  unfolding if_then_else_ openField
+  unfolding if_then_else_ flat openField
   leading s d g k e i =
       let c : conOf (openField w h) s d ≡ 0 = con-at s d g k ∙ rw e refl in
       near-is (openField w h) s d (λ z. omega arith) ∙ rw (c, cellOf-ones (w * h) s g, tab-at (w * h) 0 (λ (c : ℕ). c) (cellTo w s d) 0 i) (omega arith)
@@ -122,12 +123,12 @@ module _ (w h : ℕ) (few : w * h ≤ 65535) where
   -- ---------------------------------------------------------------- neighbours of the span's own area
 
   area-at : (s : ℕ) → s < w * h → areaOf (openField w h) s ≡ 1
-  unfolding areaOf openField
-  area-at s g = getD-replicate (w * h) s 1 256 g
+  unfolding areaOf flat openField
+  area-at s g = tab-at (w * h) 0 (λ _. 1) s 256 g
 
   area-none : areaOf (openField w h) 65535 ≡ 256
-  unfolding areaOf openField
-  area-none = List·getD-eq-default (openField w h .area) 256 (let e : length (replicate (w * h) (let o : ℕ = 1 in o)) ≡ w * h = length-replicate (w * h) (let o : ℕ = 1 in o) in omega arith)
+  unfolding areaOf flat openField
+  area-none = List·getD-eq-default (openField w h .area) 256 (omega (arith, open-spans w h))
 
   -- 1 where t has the area of s
   abbrev alike : ℕ → ℕ → ℕ
@@ -176,11 +177,11 @@ module _ (w h : ℕ) (few : w * h ≤ 65535) where
   -- ---------------------------------------------------------------- cells
 
   pub count-at : (c : ℕ) → c < w * h → getD (openField w h .count) c 0 ≡ 1
-  unfolding openField
+  unfolding flat openField
   count-at c g = getD-replicate (w * h) c 1 0 g
 
   index-at : (c : ℕ) → c < w * h → getD (openField w h .index) c 0 ≡ c
-  unfolding openField
+  unfolding flat openField
   index-at c g = tab-at (w * h) 0 (λ (c : ℕ). c) c 0 g ∙ zero-add c
 
   -- a cell's only span has the cell's number

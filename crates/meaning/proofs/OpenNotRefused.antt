@@ -11,11 +11,11 @@ use lib.Dec.{ltb}
 use borrow.Author.Tests.{eq-eqb, le-ltb, lt-ltb}
 use Rattle.rules.specs.Base.{_and_, _or_, if_then_else_, tab, every}
 use Rattle.rules.specs.Field.{Field, spans, near, cellTo, leaves, conOf}
+use Rattle.rules.specs.Open.{openCon, flat, openField}
 use Rattle.rules.specs.Refusals.{goodCells, goodCon, goodBack, tooWide, tooMany, wrongLength, wrongCells, wrongReach, wrongBack, refusal}
-use Rattle.laws.proofs.Basics.{and-both, or-left, or-right, tests, length-tab}
+use Rattle.laws.proofs.Basics.{four-ways, and-both, or-left, or-right, tests, length-tab}
 use Rattle.laws.proofs.Passes.{wide-pos}
-use Rattle.meaning.specs.Open.{openField, openCon, spanAt}
-use Rattle.meaning.proofs.Chains.{four-ways}
+use Rattle.meaning.specs.Open.{spanAt}
 use Rattle.meaning.proofs.OpenField.{cellOf-ones, in-field, open-spans, con-at, count-at, leading, to-left, to-down, to-right, to-up}
 
 every-is : (n : ℕ) (p : ℕ → Bool) → ((k : ℕ) → k < n → p k ≡ true) → every n p ≡ true
@@ -50,7 +50,7 @@ module _ (w h : ℕ) (few : w * h ≤ 65535) where
       (λ _. omega arith) d k
 
   reach-good : (s d : ℕ) → s < w * h → d < 4 → goodCon (openField w h) s d ≡ true
-  unfolding goodCon openField if_then_else_
+  unfolding goodCon flat openField if_then_else_
   reach-good s d g k = by (leaves w h s d) refl
     where
       by : (b : Bool) → leaves w h s d ≡ b → goodCon (openField w h) s d ≡ true
@@ -100,12 +100,12 @@ not-refused F lens a b c d e f = rw (a, b, c, d, e, f) refl
 
 module _ (w h : ℕ) (few : w * h ≤ 65535) where
   lengths-right : wrongLength (openField w h) [] ≡ false
-  unfolding wrongLength openField every _and_
+  unfolding wrongLength flat openField every _and_
   lengths-right =
-      rw (length-tab (w * h) 0 (λ (c : ℕ). c), length-replicate (w * h) (let o : ℕ = 1 in o), length-tab (4 * (w * h)) 0 (openCon w h), eq-eqb (w * h) (w * h) refl, eq-eqb (4 * (w * h)) (4 * (w * h)) refl) refl
+      rw (length-tab (w * h) 0 (λ (c : ℕ). c), length-replicate (w * h) (let o : ℕ = 1 in o), length-tab (w * h) 0 (λ _. let o : ℕ = 1 in o), length-tab (4 * (w * h)) 0 (openCon w h), eq-eqb (w * h) (w * h) refl, eq-eqb (4 * (w * h)) (4 * (w * h)) refl) refl
 
   cells-right : wrongCells (openField w h) ≡ false
-  unfolding wrongCells openField
+  unfolding wrongCells flat openField
   cells-right =
       let r = good-ones (w * h) 0 in
       let e : goodCells (openField w h .index) (openField w h .count) 0 (w * h) ≡ true = rw (zero-add (w * h)) at r in
@@ -121,7 +121,7 @@ module _ (w h : ℕ) (few : w * h ≤ 65535) where
   back-right = ap not (every-is _ _ (λ s g. every-is 4 _ (λ d k. back-good w h few s d (rw (open-spans w h) at g) k)))
 
 pub open-not-refused : (w h : ℕ) → w ≤ 256 → h ≤ 256 → w * h ≤ 32000 → refusal (openField w h) [] ≡ 0
-unfolding tooWide tooMany _or_ openField
+unfolding tooWide tooMany _or_ flat openField
 open-not-refused w h a b few =
     let more : w * h ≤ 65535 = omega arith in
     not-refused (openField w h) [] (rw (le-ltb 256 w a, le-ltb 256 h b) refl) (le-ltb 32000 (spans (openField w h)) (omega (arith, open-spans w h)))

@@ -1,5 +1,5 @@
--- What a pass leaves, where it comes to each span once and to what the span reads before it: each value is the least of its own before the pass
--- and what the values after the pass make of its neighbours.
+-- A step of a pass only lowers. What a pass leaves, where it comes to each span once and to what the span reads before it: each value is the least
+-- of its own before the pass and what the values after the pass make of its neighbours.
 use Prim.Native.Nat.{ℕ, suc, _+_, _≤_, _<_, min}
 use native.Mathlib.Omega.{arith}
 use native.Mathlib.Decide.{decLt}
@@ -9,7 +9,21 @@ use lib.ListN.{length}
 use lib.Seq.{getD-set-same, getD-set-other}
 use Rattle.rules.specs.Field.{Field, spans, near}
 use Rattle.rules.specs.Distance.{far, lower}
+use Rattle.laws.proofs.Basics.{getD-set-at}
 use Rattle.laws.proofs.Lengths.{lower-length}
+
+-- a pass's step only lowers
+pub lower-lowers : (F : Field) (a b c e s : ℕ) (l : List ℕ) → s < length l → (t : ℕ) → far (lower F a b c e s l) t ≤ far l t
+unfolding lower
+lower-lowers F a b c e s l h t = getD-set-at l s _ 65535 t (λ r. r ≤ far l t) h (λ z. rw z (omega arith)) (λ _. omega arith)
+
+-- to at most neighbour a's value plus 2, and neighbour c's
+pub lower-near : (F : Field) (a b c e s : ℕ) (l : List ℕ) → s < length l
+    → (far (lower F a b c e s l) s ≤ far l (near F s a) + 2) × (far (lower F a b c e s l) s ≤ far l (near F s c) + 2)
+unfolding lower
+lower-near F a b c e s l h = rw (getD-set-same l s _ 65535 h) (omega arith, omega arith)
+
+-- ---------------------------------------------------------------- each span once, after what it reads
 
 unfoldable pub leastOf : ℕ → ℕ → ℕ → ℕ → ℕ → ℕ
 leastOf v p r q t = min v (min (min (p + 2) (r + 3)) (min (q + 2) (t + 3)))

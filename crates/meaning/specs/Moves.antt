@@ -2,12 +2,8 @@
 use Prim.Native.Nat.{ℕ, _+_, _≤_, _<_}
 use mathlib.Core.Path.{_≡_}
 use lib.ListN.{getD}
-use Rattle.rules.specs.Field.{Field, spans, near, areaOf}
+use Rattle.rules.specs.Field.{Field, spans, near}
 use Rattle.rules.specs.Distance.{start}
-
--- "An area is a byte"
-abbrev pub Bytes : Field → Type 0
-Bytes F = (s : ℕ) → s < spans F → areaOf F s < 256
 
 -- the corner neighbours that the passes use: "neighbour 0's neighbour 3", "neighbour 3's neighbour 2", "neighbour 2 .., its neighbour 1",
 -- "neighbour 1 .., its neighbour 0"

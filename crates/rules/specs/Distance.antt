@@ -11,8 +11,11 @@ unfoldable pub same : Field → ℕ → ℕ → ℕ
 same F s d = if eqb (areaOf F (near F s d)) (areaOf F s) then 1 else 0
 
 -- "Start at 65,535. A span with fewer than four neighbours of its own area gets 0"
+unfoldable pub startAt : Field → ℕ → ℕ
+startAt F s = if ltb (same F s 0 + same F s 1 + same F s 2 + same F s 3) 4 then 0 else 65535
+
 unfoldable pub start : Field → List ℕ
-start F = tab (spans F) 0 (λ s. if ltb (same F s 0 + same F s 1 + same F s 2 + same F s 3) 4 then 0 else 65535)
+start F = tab (spans F) 0 (startAt F)
 
 -- a span's value; where there is no span, more than any value in the list can be with the addition
 abbrev pub far : List ℕ → ℕ → ℕ

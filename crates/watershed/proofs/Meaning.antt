@@ -7,16 +7,18 @@ use mathlib.Core.List.{List, [], _∷_}
 use lib.ListN.{length, getD}
 use lib.Dec.{eqb}
 use borrow.Author.Tests.{eqb-true, eqb-false}
-use Rattle.rules.specs.Field.{Field, spans}
+use Rattle.rules.specs.Field.{Field, spans, Bytes}
+use Rattle.rules.specs.Open.{openField}
 use Rattle.rules.specs.Refusals.{refusal}
 use Rattle.rules.specs.Distance.{raw, greatest, blur}
 use Rattle.rules.specs.Outcomes.{DistanceOutcome, distanceOutcome}
 use Rattle.laws.proofs.Basics.{if-ind}
 use Rattle.laws.proofs.Cells.{passed}
-use Rattle.meaning.specs.Moves.{Bytes, Single, Chain, Cheapest}
-use Rattle.meaning.specs.Open.{openField, spanAt, least}
+use Rattle.meaning.specs.Moves.{Single, Chain, Cheapest}
+use Rattle.meaning.specs.Open.{spanAt, least}
 use Rattle.meaning.proofs.Blurred.{blurred-at-most-max-distance}
-use Rattle.meaning.proofs.Chains.{few, raw-is-a-chain's-cost, raw-not-below-cheapest}
+use Rattle.meaning.proofs.Places.{few}
+use Rattle.meaning.proofs.Chains.{raw-is-a-chain's-cost, raw-not-below-cheapest}
 use Rattle.meaning.proofs.OneSpan.{one-span-raw-is-cheapest}
 use Rattle.meaning.proofs.OpenField.{open-spans}
 use Rattle.meaning.proofs.Open.{open-raw-is-twice-the-least}

@@ -3,11 +3,11 @@
 use Prim.Native.Nat.{ℕ}
 use mathlib.Core.Path.{_≡_, sym, _∙_}
 use mathlib.Core.List.{List}
-use Rattle.rules.specs.Field.{Field}
+use Rattle.rules.specs.Field.{Field, Bytes}
 use Rattle.rules.specs.Growth.{firstId}
 use Rattle.rules.specs.Outcomes.{Sizes, regionOutcome}
 use Rattle.rooms.specs.Rooms.{Rooms}
-use Rattle.rooms.proofs.Entry.{Bytes, not-refused-gives-rooms}
+use Rattle.rooms.proofs.Entry.{not-refused-gives-rooms}
 use Rattle.watershed.specs.declared.regions.RegionAnswer.{RegionAnswer}
 use Rattle.watershed.specs.Answer.{regionsRefusedBy, maxRegionIn, AnswersRegions}
 

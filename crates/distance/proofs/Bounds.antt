@@ -13,7 +13,7 @@ use lib.ListN.{length, getD, set, length-set}
 use borrow.Author.Tests.{eqb-false}
 use Rattle.rules.specs.Base.{upto}
 use Rattle.rules.specs.Field.{Field, spans, areaOf, near, cellOf, cellTo, leaves, conOf}
-use Rattle.rules.specs.Distance.{start, far, lower}
+use Rattle.rules.specs.Distance.{start, far, leastOf, lower}
 use Rattle.laws.proofs.Basics.{tests, getD-set-at, getD-any}
 use Rattle.laws.proofs.Cells.{near-none, before, cellOf-in}
 use Rattle.laws.proofs.Lengths.{start-length}
@@ -185,7 +185,7 @@ low-set F a b c e s x l v h q =
 -- ---------------------------------------------------------------- the loops over layers, as the code has them
 
 pub lower-is : (F : Field) (a b c e s : ℕ) (l : List ℕ) → set l s (least F a b c e s l) ≡ lower F a b c e s l
-unfolding lower least side
+unfolding leastOf lower least side
 lower-is F a b c e s l = refl
 
 module _ (w h : ℕ) (is ks ar cs : List ℕ) (c i k j : ℕ) (l : List ℕ) (ok : Reached (lent w h is ks ar cs)) (p : i ≡ getD is c 0) (q : k ≡ getD ks c 0) (g : j < k) where

@@ -1,29 +1,24 @@
 -- "every raw value is the cost of some chain of moves .. ending at a span that started with 0, so no raw value is below the cheapest such chain".
 -- A step of a pass stores the least of five values that, where below 65,535, are each the cost of a chain; and no raw value is above 510.
-use Prim.Native.Nat.{ℕ, _+_, _*_, _≤_, _<_, min}
+use Prim.Native.Nat.{ℕ, _+_, _*_, _≤_, _<_}
 use native.Mathlib.Omega.{arith}
 use native.Mathlib.Decide.{decLt}
-use mathlib.Core.Path.{_≡_, _∙_}
+use mathlib.Core.Path.{_≡_, refl, _∙_}
 use mathlib.Core.Bool.{Bool, true, false}
 use mathlib.Core.List.{List}
 use lib.ListN.{length, getD, List·getD-eq-default}
 use Rattle.rules.specs.Base.{if_then_else_}
 use Rattle.rules.specs.Field.{Field, spans, near, Bytes}
 use Rattle.rules.specs.Refusals.{refusal}
-use Rattle.rules.specs.Distance.{startAt, start, far, lower, pass1, pass2, raw}
+use Rattle.rules.specs.Distance.{startAt, start, far, leastOf, lower, pass1, pass2, raw}
 use Rattle.laws.proofs.Basics.{upto-ind, getD-set-at, getD-any}
 use Rattle.laws.proofs.Lengths.{start-length, lower-length, raw-length}
 use Rattle.laws.proofs.Cells.{Passed, passed}
 use Rattle.laws.proofs.Passes.{start-at}
 use Rattle.meaning.specs.Moves.{Turns, left-up, up-right, right-down, down-left, straight, cornering, Chain, ended, moved, Cheapest}
 use Rattle.meaning.proofs.Places.{through, layer-in}
+use Rattle.meaning.proofs.Passes.{least-cases}
 use Rattle.meaning.proofs.Sums.{raw-low}
-
--- ---------------------------------------------------------------- a least value, a value that is there
-
-min-cases : (P : ℕ → Type 0) (a b : ℕ) → P a → P b → P (min a b)
-min-cases P a b p q =
-    elim (decLt a b) [ yes h ↦ let e : min a b ≡ a = omega arith in rw e p | no h ↦ let e : min a b ≡ b = omega arith in rw e q ]
 
 is-there : (l : List ℕ) (i : ℕ) → far l i < 65535 → i < length l
 is-there l i h = elim (decLt i (length l)) [ yes g ↦ g | no g ↦ let e : far l i ≡ 65535 = List·getD-eq-default l 65535 (omega arith) in absurd (omega arith) ]
@@ -39,6 +34,9 @@ turn-first down-left = omega arith
 -- v, where it is below 65,535, is the cost of a chain from s
 abbrev Costs : Field → ℕ → ℕ → Type 0
 Costs F s v = v < 65535 → Chain F s v
+
+costs-least : (F : Field) (s x v p r q t : ℕ) → x ≡ leastOf v p r q t → Costs F s v → Costs F s (p + 2) → Costs F s (r + 3) → Costs F s (q + 2) → Costs F s (t + 3) → Costs F s x
+costs-least F s x v p r q t e a b c d f = least-cases v p r q t x e (Costs F s x) (λ i. rw i a) (λ i. rw i b) (λ i. rw i c) (λ i. rw i d) (λ i. rw i f)
 
 -- a list of such costs
 record Costed (F : Field) (l : List ℕ) : Type 0 where
@@ -83,11 +81,7 @@ module _ (F : Field) (lens : List ℕ) (ok : Passed F lens) where
         record {
           size = lower-length F a b c e s l ∙ v .size;
           cost = λ t. getD-set-at l s _ 65535 t (Costs F t) (omega (arith, v .size))
-              (λ z. rw z
-              (min-cases (Costs F s) _ _ (v .cost s)
-              (min-cases (Costs F s) _ _
-              (min-cases (Costs F s) _ _ (costs-near a (turn-first p)) (costs-corner a b p))
-              (min-cases (Costs F s) _ _ (costs-near c (turn-first q)) (costs-corner c e q)))))
+              (λ z. rw z (costs-least F s _ _ _ _ _ _ refl (v .cost s) (costs-near a (turn-first p)) (costs-corner a b p) (costs-near c (turn-first q)) (costs-corner c e q)))
               (λ _. v .cost t);
         }
 

@@ -10,7 +10,7 @@ use borrow.Author.Tests.{ltb-true}
 use Rattle.rules.specs.Base.{_and_, _or_, if_then_else_, upto, tab, every}
 use Rattle.rules.specs.Field.{Field, cellOf, cellTo, leaves, conOf, near, areaOf}
 use Rattle.rules.specs.Refusals.{goodCells, goodCon, goodBack, tooWide, tooMany, wrongLength, wrongCells, wrongReach, wrongBack, refusal}
-use Rattle.rules.specs.Distance.{same, startAt, start, lower, pass1, pass2, raw}
+use Rattle.rules.specs.Distance.{same, startAt, start, leastOf, lower, pass1, pass2, raw}
 use Rattle.laws.proofs.Basics.{every-at}
 use Rattle.meaning.specs.Moves.{Turns, left-up, up-right, right-down, down-left, Move, straight, cornering, Chain, ended, moved, Cheapest}
 use Rattle.meaning.specs.Crossed.{crossed}
@@ -21,7 +21,7 @@ crossed-not-refused = refl
 
 -- span 13 is at (3,3)
 pub crossed-raw : getD (raw crossed) 13 0 ≡ 5
-unfolding if_then_else_ upto tab cellOf cellTo conOf near areaOf same startAt start lower pass1 pass2 raw crossed
+unfolding if_then_else_ upto tab cellOf cellTo conOf near areaOf same startAt start leastOf lower pass1 pass2 raw crossed
 crossed-raw = refl
 
 -- to (2,3), and from there to the second span of (2,4)

@@ -17,31 +17,9 @@ use Rattle.laws.proofs.Passes.{start-edge}
 use Rattle.meaning.specs.Moves.{Single, Turns, left-up, up-right, right-down, down-left, Move, straight, cornering, Chain, ended, moved, Cheapest}
 use Rattle.meaning.proofs.Places.{few, cell, cell-in, near-cases, through, cell-left, cell-down, cell-right, cell-up, back}
 use Rattle.meaning.proofs.Chains.{raw-is-a-chain's-cost}
-use Rattle.meaning.proofs.Passes.{leastOf}
+use Rattle.meaning.proofs.Passes.{least-le, least-cases}
 use Rattle.meaning.proofs.Sums.{raw-low}
 use Rattle.meaning.proofs.Settled.{settled1, one-in-cell, settled2}
-
-module _ (v p r q t x : ℕ) (e : x ≡ leastOf v p r q t) where
-  least-le : (x ≤ v) × (x ≤ p + 2) × (x ≤ r + 3) × (x ≤ q + 2) × (x ≤ t + 3)
-  unfolding leastOf
-  least-le = (omega arith, omega arith, omega arith, omega arith, omega arith)
-
-  least-one : x < v → x < p + 2 → x < r + 3 → x < q + 2 → x < t + 3 → ⊥
-  unfolding leastOf
-  least-one g h i j k = omega arith
-
-  least-cases : (P : Type 0) → (v ≤ x → P) → (p + 2 ≤ x → P) → (r + 3 ≤ x → P) → (q + 2 ≤ x → P) → (t + 3 ≤ x → P) → P
-  least-cases P a b c d f =
-      elim (decLt x v) [
-        | no g ↦ a (omega arith)
-        | yes g ↦ elim (decLt x (p + 2)) [
-          | no h ↦ b (omega arith)
-          | yes h ↦ elim (decLt x (r + 3)) [
-            | no i ↦ c (omega arith)
-            | yes i ↦ elim (decLt x (q + 2)) [ no j ↦ d (omega arith) | yes j ↦ elim (decLt x (t + 3)) [ no k ↦ f (omega arith) | yes k ↦ absurd (least-one g h i j k) ] ]
-          ]
-        ]
-      ]
 
 module _ (F : Field) (lens : List ℕ) (ok : Passed F lens) (bytes : Bytes F) (single : Single F) where
   -- the value after pass 1, and after both
@@ -58,8 +36,8 @@ module _ (F : Field) (lens : List ℕ) (ok : Passed F lens) (bytes : Bytes F) (s
   fixed2 s h = least-le _ _ _ _ _ _ (settled2 F lens ok single s h)
 
   -- where a value of pass 2 came from
-  came : (P : Type 0) (u : ℕ) → u < spans F → (f u ≤ g u → P) → (g (near F u 2) + 2 ≤ g u → P) → (g (near F (near F u 2) 1) + 3 ≤ g u → P)
-      → (g (near F u 1) + 2 ≤ g u → P) → (g (near F (near F u 1) 0) + 3 ≤ g u → P) → P
+  came : (P : Type 0) (u : ℕ) → u < spans F → (g u ≡ f u → P) → (g u ≡ g (near F u 2) + 2 → P) → (g u ≡ g (near F (near F u 2) 1) + 3 → P)
+      → (g u ≡ g (near F u 1) + 2 → P) → (g u ≡ g (near F (near F u 1) 0) + 3 → P) → P
   came P u h = least-cases _ _ _ _ _ _ (settled2 F lens ok single u h) P
 
   zero-stays : (s : ℕ) → s < spans F → far (start F) s ≡ 0 → g s ≡ 0

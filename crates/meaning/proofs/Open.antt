@@ -11,7 +11,7 @@ use lib.ListN.{length, getD, List·getD-eq-default}
 use borrow.Author.Tests.{ltb-true, ltb-false}
 use Rattle.rules.specs.Field.{Field, spans, near}
 use Rattle.rules.specs.Open.{flat, openField}
-use Rattle.rules.specs.Distance.{startAt, start, far, lower, pass1, pass2, raw}
+use Rattle.rules.specs.Distance.{startAt, start, far, leastOf, lower, pass1, pass2, raw}
 use Rattle.laws.proofs.Basics.{if-ind, upto-ind, getD-set-at, getD-any}
 use Rattle.laws.proofs.Lengths.{start-length, lower-length, raw-length}
 use Rattle.laws.proofs.Passes.{same-le, start-at}
@@ -123,7 +123,7 @@ module _ (w h : ℕ) (few : w * h ≤ 65535) where
       here = omega (arith, v .size)
 
       kept-pass1 : Kept (lower O 0 3 3 2 s l)
-      unfolding lower
+      unfolding leastOf lower
       kept-pass1 =
           record {
             size = lower-length O 0 3 3 2 s l ∙ v .size;
@@ -134,7 +134,7 @@ module _ (w h : ℕ) (few : w * h ≤ 65535) where
           }
 
       kept-pass2 : Kept (lower O 2 1 1 0 s l)
-      unfolding lower
+      unfolding leastOf lower
       kept-pass2 =
           record {
             size = lower-length O 2 1 1 0 s l ∙ v .size;

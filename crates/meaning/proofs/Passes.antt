@@ -1,6 +1,6 @@
 -- A step of a pass only lowers. What a pass leaves, where it comes to each span once and to what the span reads before it: each value is the least
 -- of its own before the pass and what the values after the pass make of its neighbours.
-use Prim.Native.Nat.{ℕ, suc, _+_, _≤_, _<_, min}
+use Prim.Native.Nat.{ℕ, suc, _+_, _≤_, _<_}
 use native.Mathlib.Omega.{arith}
 use native.Mathlib.Decide.{decLt}
 use mathlib.Core.Path.{_≡_, _∙_}
@@ -8,25 +8,50 @@ use mathlib.Core.List.{List}
 use lib.ListN.{length}
 use lib.Seq.{getD-set-same, getD-set-other}
 use Rattle.rules.specs.Field.{Field, spans, near}
-use Rattle.rules.specs.Distance.{far, lower}
+use Rattle.rules.specs.Distance.{far, leastOf, lower}
 use Rattle.laws.proofs.Basics.{getD-set-at}
 use Rattle.laws.proofs.Lengths.{lower-length}
 
+-- ---------------------------------------------------------------- the least of five
+
+module _ (v p r q t x : ℕ) (e : x ≡ leastOf v p r q t) where
+  pub least-le : (x ≤ v) × (x ≤ p + 2) × (x ≤ r + 3) × (x ≤ q + 2) × (x ≤ t + 3)
+  unfolding leastOf
+  least-le = (omega arith, omega arith, omega arith, omega arith, omega arith)
+
+  least-one : x < v → x < p + 2 → x < r + 3 → x < q + 2 → x < t + 3 → ⊥
+  unfolding leastOf
+  least-one g h i j k = omega arith
+
+  -- it is one of the five
+  pub least-cases : (P : Type 0) → (x ≡ v → P) → (x ≡ p + 2 → P) → (x ≡ r + 3 → P) → (x ≡ q + 2 → P) → (x ≡ t + 3 → P) → P
+  least-cases P a b c d f =
+      let l = least-le in
+      elim (decLt x v) [
+        | no g ↦ a (omega arith)
+        | yes g ↦ elim (decLt x (p + 2)) [
+          | no h ↦ b (omega arith)
+          | yes h ↦ elim (decLt x (r + 3)) [
+            | no i ↦ c (omega arith)
+            | yes i ↦ elim (decLt x (q + 2)) [ no j ↦ d (omega arith) | yes j ↦ elim (decLt x (t + 3)) [ no k ↦ f (omega arith) | yes k ↦ absurd (least-one g h i j k) ] ]
+          ]
+        ]
+      ]
+
+-- ---------------------------------------------------------------- a step
+
 -- a pass's step only lowers
 pub lower-lowers : (F : Field) (a b c e s : ℕ) (l : List ℕ) → s < length l → (t : ℕ) → far (lower F a b c e s l) t ≤ far l t
-unfolding lower
+unfolding leastOf lower
 lower-lowers F a b c e s l h t = getD-set-at l s _ 65535 t (λ r. r ≤ far l t) h (λ z. rw z (omega arith)) (λ _. omega arith)
 
 -- to at most neighbour a's value plus 2, and neighbour c's
 pub lower-near : (F : Field) (a b c e s : ℕ) (l : List ℕ) → s < length l
     → (far (lower F a b c e s l) s ≤ far l (near F s a) + 2) × (far (lower F a b c e s l) s ≤ far l (near F s c) + 2)
-unfolding lower
+unfolding leastOf lower
 lower-near F a b c e s l h = rw (getD-set-same l s _ 65535 h) (omega arith, omega arith)
 
 -- ---------------------------------------------------------------- each span once, after what it reads
-
-unfoldable pub leastOf : ℕ → ℕ → ℕ → ℕ → ℕ → ℕ
-leastOf v p r q t = min v (min (min (p + 2) (r + 3)) (min (q + 2) (t + 3)))
 
 module _ (F : Field) (a b c e : ℕ) where
   -- what the pass makes of span s: m are the values before it, l those after it
@@ -62,7 +87,7 @@ module _ (F : Field) (a b c e : ℕ) where
         other t n = getD-set-other l u t _ 65535 n
 
         own : far (lower F a b c e u l) u ≡ leastOf (far l u) (far l (near F u a)) (far l (near F (near F u a) b)) (far l (near F u c)) (far l (near F (near F u c) e))
-        unfolding lower leastOf
+        unfolding lower
         own = getD-set-same l u _ 65535 (omega (arith, v .size))
 
         -- what a span of rank at most k reads is not u

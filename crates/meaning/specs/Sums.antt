@@ -1,10 +1,10 @@
--- The sums that the two passes make, each with the list as it is at that step: what "No sum exceeds 65,535" speaks of.
+-- The sums that the two passes make, each with the list as it is at that step: what "No sum exceeds 65,535" speaks of; and those of the blur.
 use Prim.Native.Nat.{ℕ, _+_, _*_, _-_, _≤_, _<_}
 use mathlib.Core.List.{List}
 use lib.ListN.{getD}
 use Rattle.rules.specs.Base.{upto}
 use Rattle.rules.specs.Field.{Field, spans, near}
-use Rattle.rules.specs.Distance.{start, far, lower, pass1}
+use Rattle.rules.specs.Distance.{start, far, lower, pass1, term}
 
 -- the sums of one step, at span s with the list l: neighbour a "plus 2", neighbour a's neighbour b "plus 3", neighbour c "plus 2", neighbour c's
 -- neighbour e "plus 3", each where that span is there; none of them exceeds m
@@ -38,3 +38,9 @@ beforeLayer F k j = layersTo F k j (upto k (λ k l. layersTo F k (getD (F .count
 pub record NoSumExceeds (m : ℕ) (F : Field) : Type 0 where
   pub in-pass1 : (s : ℕ) → s < spans F → StepWithin m F 0 3 3 2 s (beforeSpan F s)
   pub in-pass2 : (k j : ℕ) → k < F .w * F .h → j < getD (F .count) (cellAt F k) 0 → StepWithin m F 2 1 1 0 (layerAt F k j) (beforeLayer F k j)
+
+-- the sum that the blur divides, at span s of the raw list l: "c + eight terms + 5"
+abbrev pub blurSum : Field → List ℕ → ℕ → ℕ
+blurSum F l s =
+    let c = getD l s 0 in
+    c + term F l s c 0 + term F l s c 1 + term F l s c 2 + term F l s c 3 + 5

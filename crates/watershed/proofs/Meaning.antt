@@ -3,20 +3,21 @@
 use Prim.Native.Nat.{ℕ, _*_, _≤_, _<_}
 use native.Mathlib.Omega.{arith}
 use mathlib.Core.Path.{_≡_, refl, sym, _∙_}
+use mathlib.Core.Bool.{false}
 use mathlib.Core.List.{List, [], _∷_}
 use lib.ListN.{length, getD}
 use lib.Dec.{eqb}
 use borrow.Author.Tests.{eqb-true, eqb-false}
 use Rattle.rules.specs.Field.{Field, spans, Bytes}
 use Rattle.rules.specs.Open.{openField}
-use Rattle.rules.specs.Refusals.{refusal}
+use Rattle.rules.specs.Refusals.{refusal, tooFar}
 use Rattle.rules.specs.Distance.{raw, greatest, blur}
 use Rattle.rules.specs.Outcomes.{DistanceOutcome, distanceOutcome}
 use Rattle.laws.proofs.Basics.{if-ind}
 use Rattle.laws.proofs.Cells.{passed}
 use Rattle.meaning.specs.Moves.{Single, Chain, Cheapest}
 use Rattle.meaning.specs.Open.{spanAt, least}
-use Rattle.meaning.proofs.Blurred.{blurred-at-most-max-distance}
+use Rattle.meaning.proofs.Blurred.{blurred-at-most-max-distance, distances-not-too-far}
 use Rattle.meaning.proofs.Places.{few}
 use Rattle.meaning.proofs.Chains.{raw-is-a-chain's-cost, raw-not-below-cheapest}
 use Rattle.meaning.proofs.OneSpan.{one-span-raw-is-cheapest}
@@ -51,6 +52,10 @@ module _ (F : Field) (raw₀ blurred₀ : List ℕ) (r : DistanceAnswer) (l m : 
   -- "No blurred value exceeds max_distance."
   pub call-blurred-at-most-max-distance : (s : ℕ) → getD m s 0 ≤ mostIn r
   call-blurred-at-most-max-distance s = rw (a .blurred ∙ gave .blurred, a .most ∙ gave .most) (blurred-at-most-max-distance F s)
+
+  -- so the region entry never refuses 8 what this entry gives
+  pub call-not-too-far : Bytes F → tooFar m (mostIn r) ≡ false
+  call-not-too-far bytes = rw (a .blurred ∙ gave .blurred, a .most ∙ gave .most) (distances-not-too-far F _ (gave .passes) bytes)
 
   module _ (bytes : Bytes F) (s : ℕ) (h : s < spans F) where
     -- "every raw value is the cost of some chain of moves .. ending at a span that started with 0"

@@ -13,7 +13,8 @@ fn drawings(kind: &str) -> Vec<Drawing> {
         let spans = cell.split('/').filter(|&span| span != "#");
         spans.map(|span| span.parse().expect("a value")).collect()
     };
-    let blocks = PAGE.split(&format!("```{kind}\n")).skip(1);
+    let fence = format!("```{kind}\n");
+    let blocks = PAGE.split(&fence).skip(1);
     blocks
         .map(|block| {
             let rows = block.lines().take_while(|&line| line != "```");

@@ -7,6 +7,7 @@ pub mod Settled
 pub mod Sums
 pub mod Blurred
 pub mod Chains
+pub mod Cheapest
 pub mod OneSpan
 pub mod OpenField
 pub mod OpenNotRefused

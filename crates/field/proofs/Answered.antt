@@ -18,9 +18,10 @@ use Rattle.rules.specs.Field.{Field, spans, cellOf, cellTo, leaves, conOf, near
 use Rattle.rules.specs.Refusals.{goodCon, goodBack}
 use Rattle.laws.proofs.Basics.{both, in-list, getD-any}
 use Rattle.laws.proofs.Cells.{near-none, near-is}
+use Rattle.laws.proofs.Passes.{across-in}
 use Rattle.field.specs.Lent.{Stands, Celled, Inner, Column, innerAt, consAt, goodLink, halfAt, inCell, inRow, lent}
 use Rattle.field.proofs.Loops.{every-rows, every-halt, every-end}
-use Rattle.field.proofs.Places.{room-left, room-up, layer-stands, cell-is, con-at, turned, across-in}
+use Rattle.field.proofs.Places.{room-left, room-up, layer-stands, cell-is, con-at, turned}
 use Rattle.field.proofs.Checks.{flip, every-cells}
 
 -- ---------------------------------------------------------------- there and back

@@ -13,9 +13,10 @@ use borrow.Author.Tests.{ne-eqb}
 use Rattle.rules.specs.Base.{_and_, _or_, every}
 use Rattle.rules.specs.Field.{Field, spans, cellTo, leaves}
 use Rattle.rules.specs.Refusals.{goodCells, goodCon}
+use Rattle.laws.proofs.Passes.{across-in}
 use Rattle.field.specs.Lent.{Stands, Celled, Reached, Spot, consAt, names, namesAt, reachAt, inCell, lent}
 use Rattle.field.proofs.Loops.{every-halt, every-end, every-ext, every-join}
-use Rattle.field.proofs.Places.{stands-at, con-at, firstOf, first-is, total-is, across-in, room-left, room-up}
+use Rattle.field.proofs.Places.{stands-at, con-at, firstOf, first-is, total-is, room-left, room-up}
 
 pub not-not : (b : Bool) → b ≡ not (not b)
 not-not true = refl

@@ -14,11 +14,11 @@ use borrow.Author.Tests.{eq-eqb, ne-eqb, eqb-true, eqb-false, lt-ltb, ltb-true, 
 use Rattle.rules.specs.Base.{_and_, _or_, if_then_else_, every}
 use Rattle.rules.specs.Field.{Field, spans, cellOf, cellTo, leaves, conOf, near}
 use Rattle.rules.specs.Refusals.{goodCon, goodBack}
-use Rattle.laws.proofs.Basics.{both, either, and-no, and-both, same-test, if-ind, every-at}
+use Rattle.laws.proofs.Basics.{both, either, and-no, and-both, same-test, if-ind, every-at, every-all}
 use Rattle.laws.proofs.Cells.{cellOf-in, near-none, near-is}
 use Rattle.laws.proofs.Passes.{wide-pos}
 use Rattle.field.specs.Lent.{Stands, Celled, reachAt, backAt, goodLink, halfAt, howMany, linksIn}
-use Rattle.field.proofs.Loops.{and-yes, every-all, every-ext, every-and}
+use Rattle.field.proofs.Loops.{and-yes, every-ext, every-and}
 use Rattle.field.proofs.Places.{layer-stands, cell-is, sum-is, stands-in}
 use Rattle.field.proofs.Answered.{there-back}
 use Rattle.field.proofs.Counted.{many-ext, hasLink, low-links, high-links}

@@ -112,6 +112,11 @@ every-at (suc n) p e k h =
     let a = both _ _ e in
     elim (decLt k n) [ yes g ↦ every-at n p (a .0) k g | no g ↦ let q : k ≡ n = omega arith in rw q (a .1) ]
 
+pub every-all : (n : ℕ) (p : ℕ → Bool) → ((i : ℕ) → i < n → p i ≡ true) → every n p ≡ true
+unfolding every _and_
+every-all zero p h = refl
+every-all (suc n) p h = rw (every-all n p (λ i g. h i (omega arith)), h n (omega arith))
+
 -- each direction
 pub four-ways : (P : ℕ → Type 0) → P 0 → P 1 → P 2 → P 3 → (d : ℕ) → d < 4 → P d
 four-ways P a b c e zero g = a

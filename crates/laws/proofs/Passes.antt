@@ -2,14 +2,16 @@
 -- Assumes nothing.
 use Prim.Native.Nat.{ℕ, zero, suc, _+_, _*_, _-_, _/_, _%_, _≤_, _<_}
 use native.Mathlib.Omega.{arith}
-use native.Mathlib.Nat.{zero-mul, zero-add, div-add-mod', mod-lt}
+use native.Mathlib.Nat.{zero-mul, zero-add, suc-mul, mul-comm, div-add-mod', div-lt-iff-lt-mul, mod-lt}
+use native.Mathlib.Numerals.{add-one}
 use mathlib.Core.Path.{_≡_, refl, ap, _∙_}
+use mathlib.Core.Bool.{false}
 use lib.ListN.{length, List·getD-eq-default}
-use lib.Arith.{digits-mod}
+use lib.Arith.{digits-lt, digits-mod}
 use borrow.Author.Tests.{eqb-true, ltb-false}
-use Rattle.rules.specs.Field.{Field, spans, none, areaOf, near, conOf}
+use Rattle.rules.specs.Field.{Field, spans, none, cellTo, leaves, areaOf, near, conOf}
 use Rattle.rules.specs.Distance.{same, startAt, start, far}
-use Rattle.laws.proofs.Basics.{if-ind, four-ways, tab-at}
+use Rattle.laws.proofs.Basics.{if-ind, tests, four-ways, tab-at}
 use Rattle.laws.proofs.Cells.{near-none}
 
 -- ---------------------------------------------------------------- numbers
@@ -24,6 +26,25 @@ mod-pred c w p g =
     let e : c - 1 ≡ c / w * w + (c % w - 1) = omega (arith, div-add-mod' c w) in
     let r : (c - 1) % w ≡ c % w - 1 = rw e (digits-mod (c / w) (omega arith)) in
     omega arith
+
+-- the cell across is in the grid where the way does not leave it
+pub across-in : (w h c d : ℕ) → c < w * h → d < 4 → leaves w h c d ≡ false → cellTo w c d < w * h
+unfolding leaves cellTo
+across-in w h c zero g l e = omega arith
+across-in w h c (suc zero) g l e =
+    let p = wide-pos w h c g in
+    let q : c / w + 1 < h = omega tests in
+    let z : (c / w + 1) * w + c % w < h * w = digits-lt q (mod-lt c p) in
+    let y : (c / w + 1) * w ≡ c / w * w + w = rw add-one (suc-mul (c / w) w) in
+    omega (arith, div-add-mod' c w, mul-comm h w)
+across-in w h c (suc (suc zero)) g l e =
+    let p = wide-pos w h c g in
+    let q : c % w + 1 < w = omega tests in
+    let y : c / w < h = div-lt-iff-lt-mul p .1 (rw (mul-comm h w) g) in
+    let z : c / w * w + (c % w + 1) < h * w = digits-lt y q in
+    omega (arith, div-add-mod' c w, mul-comm h w)
+across-in w h c (suc (suc (suc zero))) g l e = omega arith
+across-in w h c (suc (suc (suc (suc d)))) g l e = absurd (omega arith)
 
 -- ---------------------------------------------------------------- neighbours
 

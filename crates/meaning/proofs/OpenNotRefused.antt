@@ -1,7 +1,7 @@
 -- An open field of at most 256 by 256 cells and 32,000 spans is not refused.
 use Prim.Native.Nat.{ℕ, zero, suc, _+_, _*_, _/_, _%_, _≤_, _<_}
 use native.Mathlib.Omega.{arith}
-use native.Mathlib.Nat.{zero-add, mul-comm, suc-mul, mod-lt, div-add-mod', div-lt-iff-lt-mul}
+use native.Mathlib.Nat.{zero-add, mul-comm, mod-lt, div-add-mod', div-lt-iff-lt-mul}
 use native.Mathlib.Decide.{ℕ-discrete}
 use mathlib.Core.Path.{_≡_, refl, sym, ap, _∙_}
 use mathlib.Core.Bool.{Bool, true, false, not}
@@ -13,15 +13,10 @@ use Rattle.rules.specs.Base.{_and_, _or_, if_then_else_, tab, every}
 use Rattle.rules.specs.Field.{Field, spans, near, cellTo, leaves, conOf}
 use Rattle.rules.specs.Open.{openCon, flat, openField}
 use Rattle.rules.specs.Refusals.{goodCells, goodCon, goodBack, tooWide, tooMany, wrongLength, wrongCells, wrongReach, wrongBack, refusal}
-use Rattle.laws.proofs.Basics.{four-ways, and-both, or-left, or-right, tests, length-tab}
-use Rattle.laws.proofs.Passes.{wide-pos}
+use Rattle.laws.proofs.Basics.{every-all, four-ways, and-both, or-left, or-right, length-tab}
+use Rattle.laws.proofs.Passes.{wide-pos, across-in}
 use Rattle.meaning.specs.Open.{spanAt}
-use Rattle.meaning.proofs.OpenField.{cellOf-ones, in-field, open-spans, con-at, count-at, leading, to-left, to-down, to-right, to-up}
-
-every-is : (n : ℕ) (p : ℕ → Bool) → ((k : ℕ) → k < n → p k ≡ true) → every n p ≡ true
-unfolding every
-every-is zero p h = refl
-every-is (suc n) p h = and-both _ _ (every-is n p (λ k g. h k (omega arith))) (h n (omega arith))
+use Rattle.meaning.proofs.OpenField.{cellOf-ones, open-spans, con-at, count-at, leading, to-left, to-down, to-right, to-up}
 
 good-ones : (n b : ℕ) → goodCells (tab n b (λ c. c)) (replicate n 1) b (b + n) ≡ true
 unfolding goodCells tab _and_ _or_
@@ -38,17 +33,6 @@ module _ (w h : ℕ) (few : w * h ≤ 65535) where
       let p = wide-pos w h s g in
       (sym (div-add-mod' s w), mod-lt s p, div-lt-iff-lt-mul p .1 (omega (arith, mul-comm w h)))
 
-  -- a cell across is a cell
-  across-in : (s d : ℕ) → s < w * h → d < 4 → leaves w h s d ≡ false → cellTo w s d < w * h
-  unfolding leaves cellTo
-  across-in s d g k =
-      let r = split s g in
-      four-ways (λ d. leaves w h s d ≡ false → cellTo w s d < w * h)
-      (λ _. omega arith)
-      (λ e. omega (arith, suc-mul (s / w) w, in-field w h few (s % w) (suc (s / w)) (r .1) (omega tests)))
-      (λ e. omega (arith, in-field w h few (suc (s % w)) (s / w) (omega tests) (r .2)))
-      (λ _. omega arith) d k
-
   reach-good : (s d : ℕ) → s < w * h → d < 4 → goodCon (openField w h) s d ≡ true
   unfolding goodCon flat openField if_then_else_
   reach-good s d g k = by (leaves w h s d) refl
@@ -57,7 +41,7 @@ module _ (w h : ℕ) (few : w * h ≤ 65535) where
       by true e = or-left _ _ (eq-eqb _ _ (con-at w h few s d g k ∙ rw e refl))
       by false e =
           let c : conOf (openField w h) s d ≡ 0 = con-at w h few s d g k ∙ rw e refl in
-          let n : getD (openField w h .count) (cellTo w s d) 0 ≡ 1 = count-at w h few (cellTo w s d) (across-in s d g k e) in
+          let n : getD (openField w h .count) (cellTo w s d) 0 ≡ 1 = count-at w h few (cellTo w s d) (across-in w h s d g k e) in
           let b : ltb (conOf (openField w h) s d) (getD (openField w h .count) (cellTo w s d) 0) ≡ true = lt-ltb (conOf (openField w h) s d) (getD (openField w h .count) (cellTo w s d) 0) (omega arith) in
           or-right _ _ (rw (cellOf-ones (w * h) s g) (and-both _ _ (rw e refl) b))
 
@@ -68,7 +52,7 @@ module _ (w h : ℕ) (few : w * h ≤ 65535) where
     where
       by : (b : Bool) → leaves w h s d ≡ b → ⊥
       by true i = e (con-at w h few s d g k ∙ rw i refl)
-      by false i = let n = across-in s d g k i in omega (arith, leading w h few s d g k i n)
+      by false i = let n = across-in w h s d g k i in omega (arith, leading w h few s d g k i n)
 
   -- a neighbour that there is has the span as its neighbour the other way
   back : (x z : ℕ) → x < w → z < h → (d : ℕ) → d < 4 → (near (openField w h) (spanAt w x z) d ≡ 65535 → ⊥) → near (openField w h) (near (openField w h) (spanAt w x z) d) ((d + 2) % 4) ≡ spanAt w x z
@@ -114,11 +98,11 @@ module _ (w h : ℕ) (few : w * h ≤ 65535) where
 
   reach-right : wrongReach (openField w h) ≡ false
   unfolding wrongReach
-  reach-right = ap not (every-is _ _ (λ s g. every-is 4 _ (λ d k. reach-good w h few s d (rw (open-spans w h) at g) k)))
+  reach-right = ap not (every-all _ _ (λ s g. every-all 4 _ (λ d k. reach-good w h few s d (rw (open-spans w h) at g) k)))
 
   back-right : wrongBack (openField w h) ≡ false
   unfolding wrongBack
-  back-right = ap not (every-is _ _ (λ s g. every-is 4 _ (λ d k. back-good w h few s d (rw (open-spans w h) at g) k)))
+  back-right = ap not (every-all _ _ (λ s g. every-all 4 _ (λ d k. back-good w h few s d (rw (open-spans w h) at g) k)))
 
 pub open-not-refused : (w h : ℕ) → w ≤ 256 → h ≤ 256 → w * h ≤ 32000 → refusal (openField w h) [] ≡ 0
 unfolding tooWide tooMany _or_ flat openField

@@ -20,9 +20,9 @@ use Rattle.rules.specs.Listing.{rowText, rowsText, listing, refusedLine, ran, a
 use Rattle.laws.proofs.Basics.{if-ind}
 use Rattle.rooms.proofs.Rooms.{accepted}
 use Rattle.field.specs.Lent.{lent}
-use Rattle.field.specs.Answer.{numberOf}
-use Rattle.field.specs.declared.checker.Refusal.{Refusal}
-use Rattle.field.proofs.Refused.{reached-of}
+use Rattle.checker.specs.Answer.{numberOf}
+use Rattle.checker.specs.declared.Refusal.{Refusal}
+use Rattle.field.proofs.Passed.{reached-of}
 use Rattle.file.specs.declared.read.FileRefusal.{FileRefusal}
 use Rattle.file.specs.declared.read.Header.{Header}
 use Rattle.file.specs.declared.read.FileReading.{FileReading}

@@ -19,8 +19,7 @@ use Rattle.laws.proofs.Cells.{near-none, before, cellOf-in}
 use Rattle.laws.proofs.Lengths.{start-length}
 use Rattle.laws.proofs.Passes.{wide-pos, mod-pred, none-near, start-edge}
 use Rattle.field.specs.Lent.{Stands, Reached, Spot, lent}
-use Rattle.field.proofs.Places.{cell-is, sum-is, stands-in, reaches, near-stands}
-use Rattle.field.proofs.Checks.{layer-spot}
+use Rattle.field.proofs.Places.{cell-is, sum-is, stands-in, reaches, near-stands, layer-spot}
 use Rattle.field.proofs.Loops.{upto-go}
 use Rattle.distance.specs.Value.{side, least, Passing, Low, Room}
 

@@ -1,7 +1,3 @@
 pub mod Loops
 pub mod Places
-pub mod Checks
-pub mod Answered
-pub mod Refused
-pub mod Counted
-pub mod Halves
+pub mod Passed

@@ -4,7 +4,7 @@ use Prim.Native.Nat.{ℕ, zero, suc, _+_, _*_, _-_, _/_, _%_, _≤_, _<_}
 use native.Mathlib.Omega.{arith}
 use native.Mathlib.Nat.{mod-lt, mod-le, div-eq-of-lt}
 use native.Mathlib.Decide.{ℕ-discrete, decLt}
-use mathlib.Core.Path.{_≡_, sym, ap, _∙_}
+use mathlib.Core.Path.{_≡_, refl, sym, ap, _∙_}
 use mathlib.Core.Bool.{true, false, false≢true}
 use mathlib.Core.List.{List, [], _∷_}
 use lib.ListN.{length, getD}
@@ -14,7 +14,7 @@ use Rattle.rules.specs.Field.{Field, spans, none, near, cellOf, cellTo, leaves,
 use Rattle.rules.specs.Refusals.{goodCells, goodCon}
 use Rattle.laws.proofs.Basics.{both, either, tests, in-list, getD-any}
 use Rattle.laws.proofs.Cells.{before, before-lt, cellOf-at, cellOf-in, Cell, cells-at, cells-sum, Leads, near-none, near-is}
-use Rattle.field.specs.Lent.{Stands, Celled, Reached, Spot, Leaf, SomeSpot, SomeLeaf, consAt}
+use Rattle.field.specs.Lent.{Stands, Celled, Reached, Spot, Leaf, SomeSpot, SomeLeaf, consAt, lent}
 
 -- ---------------------------------------------------------------- the cell across, by direction
 
@@ -256,3 +256,9 @@ module _ (w : ℕ) (is cs cons : List ℕ) (c s : ℕ) (e : cons ≡ consAt cs s
 
 pub turned : (d k : ℕ) → (d + k) % 4 < 4
 turned d k = mod-lt (d + k) (omega arith)
+
+-- a layer of cell c, as a loop over the cell's layers has it
+module _ (w h : ℕ) (is ks ar cs : List ℕ) (c i k j : ℕ) (e : i ≡ getD is c 0) (f : k ≡ getD ks c 0) (g : j < k) where
+  pub layer-spot : Reached (lent w h is ks ar cs) → Spot (lent w h is ks ar cs) w is cs c (i + j)
+  layer-spot ok =
+      record { reached = ok; wide = refl; indexed = refl; linked = refl; stands = stands-at (lent w h is ks ar cs) (ok .celled) c i k j e f g }

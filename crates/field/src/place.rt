@@ -1,9 +1,9 @@
 // Spans, layers and cells: where a connection leads.
 use crate::read::at32;
 ghost use mathlib.Core.Path.{_≡_};
-ghost use Prim.Native.Nat.{ℕ, _+_, _-_, _*_, _%_, _<_, _≤_};
+ghost use Prim.Native.Nat.{ℕ, _+_, _*_, _<_, _≤_};
 ghost use lib.ListN.{length, getD};
-ghost use Rattle.rules.specs.Field.{Field, cellTo, leaves, near};
+ghost use Rattle.rules.specs.Field.{Field, cellTo, near};
 ghost use Rattle.rules.specs.Field as rules;
 ghost use Rattle.field.specs.Lent.{consAt, Leaf, SomeLeaf};
 
@@ -51,25 +51,8 @@ pub fn cell_across(w: usize, c: usize, d: usize) -> usize
     c - w
 }
 
-// There is no cell across.
-pub fn leaves_grid(w: usize, h: usize, c: usize, d: usize) -> bool
-    requires { ⌜ (0 < w) × (c < 65536) × (d < 4) ⌝ }
-    ensures { λ r. ⌜ r ≡ leaves w h c d ⌝ }
-{
-    if d == 0 {
-        return c % w == 0;
-    }
-    if d == 1 {
-        return h <= c / w + 1;
-    }
-    if d == 2 {
-        return w <= c % w + 1;
-    }
-    c / w == 0
-}
-
 // The span in a layer of cell c: the one place where a layer becomes a span.
-pub(crate) fn span_at(index: &[u32], c: usize, l: Layer) -> SpanIx
+pub fn span_at(index: &[u32], c: usize, l: Layer) -> SpanIx
     requires { ⌜ c < length (now index) ⌝ }
     ensures { λ r. ⌜ r .0 ≡ getD (now (index .entry)) c 0 + l .0 ⌝ }
 {

@@ -20,7 +20,7 @@ use Rattle.rooms.proofs.Growing.{painted-grow}
 use Rattle.space.specs.Space.{Frame}
 use Rattle.space.proofs.Laws.{getD-before, getD-after}
 use Rattle.field.specs.Lent.{lent}
-use Rattle.field.proofs.Refused.{sound-reached}
+use Rattle.field.proofs.Passed.{sound-reached}
 use Rattle.paint.specs.Paint.{Plot}
 use Rattle.flood.specs.Site.{Lent}
 use Rattle.flood.specs.Stack.{marksAt}

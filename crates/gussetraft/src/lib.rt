@@ -91,7 +91,7 @@ pub extern "C" fn gussetraft_build_regions(
 ) -> Regions
     ensures { λ r. ⌜ GivesRegions (regionOutcome (lent w h (now (index .entry)) (now (count .entry)) (now (area .entry)) (now (con .entry))) (now (dist .entry)) «max_distance» (record { border = «border_size»; least = «min_region_area»; merge = «merge_region_area» }) (now (workspace .entry)) (now (ids .entry))) r (now (workspace .exit)) (now (ids .exit)) ⌝ }
 {
-    region_numbers(build_regions(
+    let answer = build_regions(
         w,
         h,
         index,
@@ -105,5 +105,6 @@ pub extern "C" fn gussetraft_build_regions(
         merge_region_area,
         workspace,
         ids,
-    ))
+    );
+    region_numbers(answer)
 }

@@ -1,6 +1,7 @@
 // The records in the workspace: what is read of them, and their tables of parts.
 mod search;
 
+pub use crate::search::any_above;
 pub use crate::search::holds;
 pub use crate::search::place;
 ghost use mathlib.Core.Path.{_≡_};

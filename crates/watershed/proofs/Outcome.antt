@@ -15,12 +15,12 @@ use Rattle.rules.specs.Distance.{raw, greatest, blur}
 use Rattle.rules.specs.Outcomes.{DistanceOutcome, distanceOutcome}
 use Rattle.laws.proofs.Lengths.{raw-length}
 use Rattle.field.specs.Lent.{Reached, lent}
-use Rattle.field.specs.Answer.{numberOf, verdictNumber}
-use Rattle.field.specs.declared.checker.Refusal.{Refusal}
-use Rattle.field.specs.declared.checker.Refusal.the-variants.{TooWide, TooMany, WrongLength, WrongCells, WrongReach, WrongBack, TooShort, TooFar}
-use Rattle.field.specs.declared.checker.Verdict.{Verdict}
-use Rattle.field.specs.declared.checker.Verdict.the-variants as verdict
-use Rattle.field.proofs.Refused.{reached-of, own-lengths}
+use Rattle.checker.specs.Answer.{numberOf, verdictNumber}
+use Rattle.checker.specs.declared.Refusal.{Refusal}
+use Rattle.checker.specs.declared.Refusal.the-variants.{TooWide, TooMany, WrongLength, WrongCells, WrongReach, WrongBack, TooShort, TooFar}
+use Rattle.checker.specs.declared.Verdict.{Verdict}
+use Rattle.checker.specs.declared.Verdict.the-variants as verdict
+use Rattle.field.proofs.Passed.{reached-of, own-lengths}
 use Rattle.watershed.specs.declared.DistanceAnswer.{DistanceAnswer}
 use Rattle.watershed.specs.declared.DistanceAnswer.the-variants.{Refused, Done}
 use Rattle.watershed.specs.Answer.{refusedBy, mostIn, Answers}

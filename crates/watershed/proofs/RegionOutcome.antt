@@ -14,11 +14,11 @@ use Rattle.rules.specs.Growth.{grown}
 use Rattle.rules.specs.Numbering.{Regions, regions}
 use Rattle.rules.specs.Outcomes.{Sizes, RegionOutcome, regionOutcome}
 use Rattle.rooms.proofs.Rooms.{accepted}
-use Rattle.field.specs.Answer.{numberOf, verdictNumber}
-use Rattle.field.specs.declared.checker.Refusal.{Refusal}
-use Rattle.field.specs.declared.checker.Verdict.{Verdict}
-use Rattle.field.specs.declared.checker.Verdict.the-variants as verdict
-use Rattle.field.proofs.Refused.{sound-of, own-lengths}
+use Rattle.checker.specs.Answer.{numberOf, verdictNumber}
+use Rattle.checker.specs.declared.Refusal.{Refusal}
+use Rattle.checker.specs.declared.Verdict.{Verdict}
+use Rattle.checker.specs.declared.Verdict.the-variants as verdict
+use Rattle.field.proofs.Passed.{sound-of, own-lengths}
 use Rattle.watershed.specs.declared.regions.RegionAnswer.{RegionAnswer}
 use Rattle.watershed.specs.declared.regions.RegionAnswer.the-variants.{Refused, Done}
 use Rattle.watershed.specs.Answer.{regionsRefusedBy, maxRegionIn, overlapsIn, AnswersRegions}

@@ -19,7 +19,7 @@ use Rattle.laws.proofs.Lengths.{records-length, filtered-length}
 use Rattle.rooms.proofs.Joins.{plain-true}
 use Rattle.rooms.proofs.Growing.{grown-grow}
 use Rattle.field.specs.Lent.{lent}
-use Rattle.field.proofs.Refused.{sound-reached}
+use Rattle.field.proofs.Passed.{sound-reached}
 use Rattle.expand.specs.Layout.{Clear}
 use Rattle.growth.specs.Grow.{Poised, Full}
 use Rattle.table.specs.View.{recsOf}

@@ -3,7 +3,7 @@ use Prim.Native.Nat.{ℕ}
 use mathlib.Core.Path.{_≡_}
 use mathlib.Core.List.{List}
 use Rattle.rules.specs.Outcomes.{DistanceOutcome, RegionOutcome}
-use Rattle.field.specs.Answer.{numberOf}
+use Rattle.checker.specs.Answer.{numberOf}
 use Rattle.watershed.specs.declared.DistanceAnswer.{DistanceAnswer}
 use Rattle.watershed.specs.declared.DistanceAnswer.the-variants.{Refused, Done}
 use Rattle.watershed.specs.declared.regions.RegionAnswer.{RegionAnswer}

@@ -3,15 +3,15 @@ mod regions;
 
 pub use crate::regions::RegionAnswer;
 pub use crate::regions::build_regions;
+use checker::Refusal;
+use checker::Verdict;
+use checker::check;
 use distance::blur::box_blur;
 use distance::blur::greatest;
 use distance::distances::calculate_distance_field;
-use field::checker::Refusal;
-use field::checker::Verdict;
-use field::checker::check;
 ghost use mathlib.Core.Path.{_≡_};
 ghost use Rattle.rules.specs.Outcomes.{distanceOutcome};
-ghost use Rattle.field.specs.Answer.{numberOf};
+ghost use Rattle.checker.specs.Answer.{numberOf};
 ghost use Rattle.field.specs.Lent.{lent};
 ghost use Rattle.watershed.specs.Answer.{Answers};
 

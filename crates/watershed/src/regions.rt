@@ -1,13 +1,14 @@
 // The region entry.
-use field::checker::Refusal;
-use field::checker::Verdict;
-use field::checker::check;
+use checker::Refusal;
+use checker::Verdict;
+use checker::check;
 use growth::grow::clear_part;
 use growth::grow::grow;
 use merge::merge_and_filter_regions;
 use numbering::Regions;
 use records::build::build_records;
 use space::clear;
+use table::any_above;
 ghost use mathlib.Core.Path.{_≡_};
 ghost use mathlib.Core.List.{[], _∷_};
 ghost use lib.ListN.{length, replicate};
@@ -18,7 +19,7 @@ ghost use Rattle.rules.specs.Growth.{grown};
 ghost use Rattle.rules.specs.Numbering.{regions};
 ghost use Rattle.rules.specs.Outcomes.{regionOutcome};
 ghost use Rattle.field.specs.Lent.{lent};
-ghost use Rattle.field.specs.Answer.{verdictNumber};
+ghost use Rattle.checker.specs.Answer.{verdictNumber};
 ghost use Rattle.watershed.specs.Answer.{AnswersRegions};
 ghost use Rattle.watershed.specs.Stages.{Admitted, ownRefusal};
 
@@ -26,19 +27,6 @@ ghost use Rattle.watershed.specs.Stages.{Admitted, ownRefusal};
 pub enum RegionAnswer {
     Refused(Refusal),
     Done(u16, u16),
-}
-
-fn any_above(dist: &[u16], most: u16) -> bool
-    ensures { λ r. ⌜ r ≡ any (ltb most) (now (dist .entry)) ⌝ }
-{
-    let mut i = 0;
-    while i < dist.len() {
-        if most < dist[i] {
-            return true;
-        }
-        i += 1;
-    }
-    false
 }
 
 // Refusal 8.

@@ -1,0 +1,5 @@
+pub mod Checks
+pub mod Answered
+pub mod Refused
+pub mod Counted
+pub mod Halves

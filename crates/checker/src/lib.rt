@@ -1,0 +1,101 @@
+// The refusals 1 to 6 in their order: each over the whole field before the next.
+mod cells;
+mod links;
+mod reach;
+mod tally;
+
+use crate::cells::cells_ok;
+use crate::links::links_ok;
+use crate::reach::reach_ok;
+ghost use mathlib.Core.Path.{_≡_};
+ghost use mathlib.Core.List.{[], _∷_};
+ghost use mathlib.Core.Bool.{not};
+ghost use Prim.Native.Nat.{_≤_};
+ghost use lib.ListN.{length};
+ghost use Rattle.rules.specs.Refusals.{refusal, wrongLength};
+ghost use Rattle.field.specs.Lent.{lent};
+ghost use Rattle.checker.specs.Answer.{verdictNumber};
+
+// Document 01's table of refusals. The last two are the region entry's.
+pub enum Refusal {
+    TooWide,
+    TooMany,
+    WrongLength,
+    WrongCells,
+    WrongReach,
+    WrongBack,
+    TooShort,
+    TooFar,
+}
+
+pub enum Verdict {
+    Sound,
+    Refused(Refusal),
+}
+
+// The lists are as long as w, h and the number of spans say; a and b are the lengths of the entry's own two.
+fn lengths_ok(
+    w: usize,
+    h: usize,
+    index: &[u32],
+    count: &[u8],
+    area: &[u8],
+    con: &[u8],
+    a: usize,
+    b: usize,
+) -> bool
+    requires { ⌜ (w ≤ 256) × (h ≤ 256) × (length (now area) ≤ 32000) ⌝ }
+    ensures { λ r. ⌜ r ≡ not (wrongLength (lent w h (now (index .entry)) (now (count .entry)) (now (area .entry)) (now (con .entry))) (a ∷ b ∷ [])) ⌝ }
+{
+    if index.len() != w * h {
+        return false;
+    }
+    if count.len() != w * h {
+        return false;
+    }
+    if con.len() != 4 * area.len() {
+        return false;
+    }
+    if a != area.len() {
+        return false;
+    }
+    b == area.len()
+}
+
+// The first of refusals 1 to 6 that applies; a and b are the lengths of the entry's own two lists.
+pub fn check(
+    w: usize,
+    h: usize,
+    index: &[u32],
+    count: &[u8],
+    area: &[u8],
+    con: &[u8],
+    a: usize,
+    b: usize,
+) -> Verdict
+    ensures { λ r. ⌜ verdictNumber r ≡ refusal (lent w h (now (index .entry)) (now (count .entry)) (now (area .entry)) (now (con .entry))) (a ∷ b ∷ []) ⌝ }
+{
+    if 256 < w {
+        return Verdict::Refused(Refusal::TooWide);
+    }
+    if 256 < h {
+        return Verdict::Refused(Refusal::TooWide);
+    }
+    if 32000 < area.len() {
+        return Verdict::Refused(Refusal::TooMany);
+    }
+    if lengths_ok(w, h, index, count, area, con, a, b) {} else {
+        return Verdict::Refused(Refusal::WrongLength);
+    }
+    if cells_ok(index, count, area.len()) {} else {
+        return Verdict::Refused(Refusal::WrongCells);
+    }
+    if links_ok(w, h, index, count, area, con) {
+        return Verdict::Sound;
+    }
+    // One of 5 and 6 applies: a walk of its own tells which.
+    if reach_ok(w, h, index, count, area, con) {} else {
+        return Verdict::Refused(Refusal::WrongReach);
+    }
+    Verdict::Refused(Refusal::WrongBack)
+}

@@ -1,0 +1,283 @@
+// Refusals 5 and 6: a connection leads into the grid, to a span that leads back. A walk asks it of half of the directions, and two numbers tell of the others.
+// Row by row, so that no division tells where a cell stands.
+use crate::tally::links_in;
+use field::place::Layer;
+use field::place::NO_LAYER;
+use field::place::SpanIx;
+use field::place::cell_across;
+use field::place::connections;
+use field::place::span_at;
+use field::read::at8;
+use field::read::at32;
+ghost use mathlib.Core.Path.{_≡_};
+ghost use mathlib.Core.Bool.{false, not};
+ghost use Prim.Native.Nat.{_+_, _*_, _<_};
+ghost use lib.ListN.{getD};
+ghost use Rattle.rules.specs.Base.{_and_, every};
+ghost use Rattle.rules.specs.Field.{spans, leaves, conOf};
+ghost use Rattle.field.specs.Lent.{lent, Celled, consAt};
+ghost use Rattle.checker.specs.Links.{Inner, Column, innerAt, goodLink, halfAt, reachAt, backAt, inCell, inRow};
+
+// The connection k of the span in layer j of cell c, in a direction d that does not leave the grid, is none, or leads to a span that leads back.
+fn link_ok(
+    w: usize,
+    h: usize,
+    index: &[u32],
+    count: &[u8],
+    area: &[u8],
+    con: &[u8],
+    c: usize,
+    j: Layer,
+    k: Layer,
+    d: usize,
+) -> bool
+    requires { ⌜ Celled (lent w h (now index) (now count) (now area) (now con)) × (j .0 < getD (now count) c 0) × (k .0 ≡ conOf (lent w h (now index) (now count) (now area) (now con)) (getD (now index) c 0 + j .0) d) × (d < 4) × (leaves w h c d ≡ false) ⌝ }
+    ensures { λ r. ⌜ r ≡ goodLink (lent w h (now (index .entry)) (now (count .entry)) (now (area .entry)) (now (con .entry))) (getD (now (index .entry)) c 0 + j .0) d ⌝ }
+{
+    if k.0 == NO_LAYER {
+        return true;
+    }
+    let a = cell_across(w, c, d);
+    if count[a] <= k.0 {
+        return false;
+    }
+    let t = span_at(index, a, k);
+    // The answer names a layer of the cell that it comes from: there only j is the span that asked.
+    con[4 * t.0 + (d + 2) % 4] == j.0
+}
+
+// The same in any direction; inside: it does not leave the grid.
+fn side_ok(
+    w: usize,
+    h: usize,
+    index: &[u32],
+    count: &[u8],
+    area: &[u8],
+    con: &[u8],
+    c: usize,
+    j: Layer,
+    k: Layer,
+    d: usize,
+    inside: bool,
+) -> bool
+    requires { ⌜ Celled (lent w h (now index) (now count) (now area) (now con)) × (j .0 < getD (now count) c 0) × (k .0 ≡ conOf (lent w h (now index) (now count) (now area) (now con)) (getD (now index) c 0 + j .0) d) × (d < 4) × (inside ≡ not (leaves w h c d)) ⌝ }
+    ensures { λ r. ⌜ r ≡ goodLink (lent w h (now (index .entry)) (now (count .entry)) (now (area .entry)) (now (con .entry))) (getD (now (index .entry)) c 0 + j .0) d ⌝ }
+{
+    if inside {
+        return link_ok(w, h, index, count, area, con, c, j, k, d);
+    }
+    k.0 == NO_LAYER
+}
+
+// Of the connections cons those in directions 0 and 1, of the span in layer j of cell c, which has a cell on both sides. Most cells do: written out, so that no side is tested.
+fn inner_ok(
+    w: usize,
+    h: usize,
+    index: &[u32],
+    count: &[u8],
+    area: &[u8],
+    con: &[u8],
+    c: usize,
+    j: Layer,
+    cons: [u8; 4],
+) -> bool
+    requires { ⌜ Celled (lent w h (now index) (now count) (now area) (now con)) × (j .0 < getD (now count) c 0) × (cons ≡ consAt (now con) (getD (now index) c 0 + j .0)) × Inner w h c ⌝ }
+    ensures { λ r. ⌜ r ≡ halfAt (lent w h (now (index .entry)) (now (count .entry)) (now (area .entry)) (now (con .entry))) (getD (now (index .entry)) c 0 + j .0) ⌝ }
+{
+    if link_ok(w, h, index, count, area, con, c, j, Layer(cons[0]), 0) {} else {
+        return false;
+    }
+    link_ok(w, h, index, count, area, con, c, j, Layer(cons[1]), 1)
+}
+
+// The same of cell c in column x of row z, wherever that is.
+fn edge_ok(
+    w: usize,
+    h: usize,
+    index: &[u32],
+    count: &[u8],
+    area: &[u8],
+    con: &[u8],
+    c: usize,
+    j: Layer,
+    cons: [u8; 4],
+    x: usize,
+    z: usize,
+) -> bool
+    requires { ⌜ Celled (lent w h (now index) (now count) (now area) (now con)) × (j .0 < getD (now count) c 0) × (cons ≡ consAt (now con) (getD (now index) c 0 + j .0)) × Column w h c x z ⌝ }
+    ensures { λ r. ⌜ r ≡ halfAt (lent w h (now (index .entry)) (now (count .entry)) (now (area .entry)) (now (con .entry))) (getD (now (index .entry)) c 0 + j .0) ⌝ }
+{
+    if side_ok(
+        w,
+        h,
+        index,
+        count,
+        area,
+        con,
+        c,
+        j,
+        Layer(cons[0]),
+        0,
+        0 < x,
+    ) {} else {
+        return false;
+    }
+    side_ok(
+        w,
+        h,
+        index,
+        count,
+        area,
+        con,
+        c,
+        j,
+        Layer(cons[1]),
+        1,
+        z + 1 < h,
+    )
+}
+
+// The same of span s, in layer j of cell c, in column x of row z; inner: it has a cell on both sides.
+fn span_ok(
+    w: usize,
+    h: usize,
+    index: &[u32],
+    count: &[u8],
+    area: &[u8],
+    con: &[u8],
+    c: usize,
+    s: SpanIx,
+    j: Layer,
+    x: usize,
+    z: usize,
+    inner: bool,
+) -> bool
+    requires { ⌜ Celled (lent w h (now index) (now count) (now area) (now con)) × (s .0 ≡ getD (now index) c 0 + j .0) × (j .0 < getD (now count) c 0) × Column w h c x z × (inner ≡ innerAt w h x z) ⌝ }
+    ensures { λ r. ⌜ r ≡ halfAt (lent w h (now (index .entry)) (now (count .entry)) (now (area .entry)) (now (con .entry))) (s .0) ⌝ }
+{
+    let cons = connections(con, s);
+    if inner {
+        return inner_ok(w, h, index, count, area, con, c, j, cons);
+    }
+    edge_ok(w, h, index, count, area, con, c, j, cons, x, z)
+}
+
+// The spans of cell c.
+fn cell_ok(
+    w: usize,
+    h: usize,
+    index: &[u32],
+    count: &[u8],
+    area: &[u8],
+    con: &[u8],
+    c: usize,
+    x: usize,
+    z: usize,
+    inner: bool,
+) -> bool
+    requires { ⌜ Celled (lent w h (now index) (now count) (now area) (now con)) × Column w h c x z × (inner ≡ innerAt w h x z) × (c < w * h) ⌝ }
+    ensures { λ r. ⌜ r ≡ inCell (lent w h (now (index .entry)) (now (count .entry)) (now (area .entry)) (now (con .entry))) (halfAt (lent w h (now (index .entry)) (now (count .entry)) (now (area .entry)) (now (con .entry)))) c ⌝ }
+{
+    let i = at32(index, c);
+    let k = at8(count, c);
+    for j in 0..k {
+        if span_ok(
+            w,
+            h,
+            index,
+            count,
+            area,
+            con,
+            c,
+            SpanIx(i + j),
+            Layer(j as u8),
+            x,
+            z,
+            inner,
+        ) {} else {
+            return false;
+        }
+    }
+    true
+}
+
+// The cell in column x of row z has a cell across in directions 0 and 1.
+fn is_inner(w: usize, h: usize, x: usize, z: usize) -> bool
+    requires { ⌜ (x < w) × (z < h) ⌝ }
+    ensures { λ r. ⌜ r ≡ innerAt w h x z ⌝ }
+{
+    if x == 0 {
+        return false;
+    }
+    z + 1 < h
+}
+
+// The cell in column x of row z.
+fn column_ok(
+    w: usize,
+    h: usize,
+    index: &[u32],
+    count: &[u8],
+    area: &[u8],
+    con: &[u8],
+    x: usize,
+    z: usize,
+) -> bool
+    requires { ⌜ Celled (lent w h (now index) (now count) (now area) (now con)) × (x < w) × (z < h) ⌝ }
+    ensures { λ r. ⌜ r ≡ inCell (lent w h (now (index .entry)) (now (count .entry)) (now (area .entry)) (now (con .entry))) (halfAt (lent w h (now (index .entry)) (now (count .entry)) (now (area .entry)) (now (con .entry)))) (w * z + x) ⌝ }
+{
+    let inner = is_inner(w, h, x, z);
+    cell_ok(w, h, index, count, area, con, w * z + x, x, z, inner)
+}
+
+// Row z.
+fn row_ok(
+    w: usize,
+    h: usize,
+    index: &[u32],
+    count: &[u8],
+    area: &[u8],
+    con: &[u8],
+    z: usize,
+) -> bool
+    requires { ⌜ Celled (lent w h (now index) (now count) (now area) (now con)) × (z < h) ⌝ }
+    ensures { λ r. ⌜ r ≡ inRow (lent w h (now (index .entry)) (now (count .entry)) (now (area .entry)) (now (con .entry))) (halfAt (lent w h (now (index .entry)) (now (count .entry)) (now (area .entry)) (now (con .entry)))) z ⌝ }
+{
+    for x in 0..w {
+        if column_ok(w, h, index, count, area, con, x, z) {} else {
+            return false;
+        }
+    }
+    true
+}
+
+// Every row.
+fn rows_ok(w: usize, h: usize, index: &[u32], count: &[u8], area: &[u8], con: &[u8]) -> bool
+    requires { ⌜ Celled (lent w h (now index) (now count) (now area) (now con)) ⌝ }
+    ensures { λ r. ⌜ r ≡ every (spans (lent w h (now (index .entry)) (now (count .entry)) (now (area .entry)) (now (con .entry)))) (halfAt (lent w h (now (index .entry)) (now (count .entry)) (now (area .entry)) (now (con .entry)))) ⌝ }
+{
+    for z in 0..h {
+        if row_ok(w, h, index, count, area, con, z) {} else {
+            return false;
+        }
+    }
+    true
+}
+
+// Every connection. Each in directions 0 and 1 is asked. One that is good has an answer of its own in 2 or 3: where there are no others, all of these are answers, and good.
+pub(crate) fn links_ok(
+    w: usize,
+    h: usize,
+    index: &[u32],
+    count: &[u8],
+    area: &[u8],
+    con: &[u8],
+) -> bool
+    requires { ⌜ Celled (lent w h (now index) (now count) (now area) (now con)) ⌝ }
+    ensures { λ r. ⌜ r ≡ (every (spans (lent w h (now (index .entry)) (now (count .entry)) (now (area .entry)) (now (con .entry)))) (reachAt (lent w h (now (index .entry)) (now (count .entry)) (now (area .entry)) (now (con .entry)))) and every (spans (lent w h (now (index .entry)) (now (count .entry)) (now (area .entry)) (now (con .entry)))) (backAt (lent w h (now (index .entry)) (now (count .entry)) (now (area .entry)) (now (con .entry))))) ⌝ }
+{
+    if rows_ok(w, h, index, count, area, con) {} else {
+        return false;
+    }
+    links_in(con, 2) == links_in(con, 0)
+}

@@ -13,3 +13,4 @@ pub mod Numbering
 pub mod Outcomes
 pub mod File
 pub mod Listing
+pub mod Open

@@ -1,7 +1,8 @@
 // recast distance|regions|peak NUMBER.field: C++ Recast's distance field and regions on a level that `side` wrote, each in a function of its own
-// for the counter to see. It prints how many distances and ids differ from the unchanged Rust's; with `peak`, the most memory in use.
+// for the counter to see (as a shared library: side_recast_times, both timed). It prints how many distances and ids differ from the unchanged Rust's; with `peak`, the most memory in use.
 #include <recastnavigation/Recast.h>
 #include <recastnavigation/RecastAlloc.h>
+#include <chrono>
 #include <cstdio>
 #include <cstdlib>
 #include <cstring>
@@ -80,6 +81,23 @@ static void counted_free(void *p) {
     size_t *b = (size_t *)p - 2;
     in_use -= *b;
     free(b);
+}
+
+// both entries on a new heightfield of the level in a file, in nanoseconds
+extern "C" void side_recast_times(const char *path, unsigned long long *nanos) {
+    typedef std::chrono::steady_clock Clock;
+    Level l = level(file(path));
+    rcCompactHeightfield *c = heightfield(l);
+    rcContext ctx(false);
+    Clock::time_point begun = Clock::now();
+    bool ok = side_recast_distance(&ctx, c);
+    Clock::time_point between = Clock::now();
+    ok &= side_recast_regions(&ctx, c, &l);
+    Clock::time_point ended = Clock::now();
+    if (!ok) { fprintf(stderr, "%s: C++ Recast failed\n", path); exit(1); }
+    nanos[0] = std::chrono::duration_cast<std::chrono::nanoseconds>(between - begun).count();
+    nanos[1] = std::chrono::duration_cast<std::chrono::nanoseconds>(ended - between).count();
+    rcFreeCompactHeightfield(c);
 }
 
 static void mark(long id) { if (getenv("SIDE_MARKS")) syscall(0x5e1, id); }

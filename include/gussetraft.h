@@ -67,7 +67,11 @@ typedef struct {
     uint16_t max_distance;
 } gussetraft_distance_answer;
 
-/* Writes the distances to the nearest edge, raw and blurred, one a span. A length is a number of elements. */
+/* Writes raw and blurred distances, one of each a span. A length is a number of elements.
+ *
+ * A raw distance is the cost of some chain of moves to a span that has fewer than four neighbours of its own area: 2 for a move to a
+ * neighbour, 3 for one to a corner neighbour. With one span a cell it is the cost of the cheapest such chain; where cells have several
+ * spans it can be more, never less. A blurred distance is a mean of raw ones, at most max_distance. See docs/DISTANCE.md. */
 gussetraft_distance_answer gussetraft_build_distance_field(
     uint16_t w, uint16_t h,
     const uint32_t *index, size_t index_len,

@@ -31,13 +31,15 @@ const KINDS: [(&str, &str, u64); 12] = [
 /// The numbers of spans that show how cost grows.
 const STEPS: [usize; 5] = [2_000, 4_000, 8_000, 16_000, 32_000];
 
-/// Levels of some 31,000 spans, by name.
+/// Levels of some 31,000 spans, by name; the last three have their own size.
 pub fn large() -> Vec<(String, Case)> {
     let mut all: Vec<_> = KINDS
         .iter()
         .map(|&(name, kind, seed)| (name.to_owned(), large_of(kind, seed)))
         .collect();
     all.push(("passage".to_owned(), with_settings(passage(8_000))));
+    all.push(("sparse".to_owned(), with_settings(sparse())));
+    all.push(("halls, 3 layers".to_owned(), with_settings(halls())));
     all
 }
 
@@ -109,6 +111,52 @@ fn passage(n: usize) -> Field {
         let last = (2 * n).isqrt().min(256) as u16 - 1;
         !wall || x == if fold % 2 == 0 { last } else { 0 }
     })
+}
+
+/// Platforms of 8 by 8 with nothing between them: some 30 cells a span.
+fn sparse() -> Field {
+    flat(32_000, 256, |x, z| x % 44 < 8 && z % 44 < 8)
+}
+
+/// Halls of 50 by 50 with wide doors, three storeys of them: large rooms, few regions.
+fn halls() -> Field {
+    storeys(
+        3,
+        flat(10_400, 103, |x, z| {
+            let door = |along: u16| (20..30).contains(&(along % 51));
+            match (x % 51, z % 51) {
+                (50, 50) => false,
+                (50, _) => door(z),
+                (_, 50) => door(x),
+                _ => true,
+            }
+        }),
+    )
+}
+
+/// The same floor so many times over itself.
+fn storeys(layers: u8, ground: Field) -> Field {
+    let mut field = Field {
+        w: ground.w,
+        h: ground.h,
+        ..Field::default()
+    };
+    let mut span = 0;
+    for &count in &ground.count {
+        field.index.push(field.area.len() as u32);
+        field.count.push(layers * count);
+        if count == 1 {
+            for layer in 0..layers {
+                field.area.push(ground.area[span]);
+                let joined = |&con: &u8| if con == 255 { 255 } else { layer };
+                field
+                    .con
+                    .extend(ground.con[4 * span..][..4].iter().map(joined));
+            }
+            span += 1;
+        }
+    }
+    field
 }
 
 /// Rows of w cells until there are n spans, one to a cell where there is a floor, all joined.

@@ -3,3 +3,4 @@
 pub mod level;
 pub mod measured;
 pub mod run;
+pub mod timed;

@@ -105,7 +105,7 @@ pub fn side_rust_regions(heightfield: &mut CompactHeightfield, sizes: &Sizes) {
         .expect("ids don't run out");
 }
 
-fn lent(field: &Field) -> gussetraft::Field<'_> {
+pub(crate) fn lent(field: &Field) -> gussetraft::Field<'_> {
     gussetraft::Field {
         w: field.w,
         h: field.h,
@@ -116,7 +116,7 @@ fn lent(field: &Field) -> gussetraft::Field<'_> {
     }
 }
 
-fn sizes(case: &Case) -> Sizes {
+pub(crate) fn sizes(case: &Case) -> Sizes {
     Sizes {
         border_size: case.settings.border_size,
         min_region_area: case.settings.least_area,
@@ -202,7 +202,7 @@ pub fn rust(case: &Case, entries: Entries, mark: impl Fn(u64)) -> Answer {
     }
 }
 
-fn heightfield(field: &Field) -> CompactHeightfield {
+pub(crate) fn heightfield(field: &Field) -> CompactHeightfield {
     let cell = |(&index, &count)| CompactCell::new(index, count);
     CompactHeightfield {
         width: field.w,

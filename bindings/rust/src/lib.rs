@@ -185,7 +185,12 @@ pub const fn workspace_len(n: usize) -> usize {
     n.saturating_mul(128).saturating_add(4_096)
 }
 
-/// Writes the distances to the nearest edge, raw and blurred, one a span, and gives the greatest raw one.
+/// Writes raw and blurred distances, one of each a span, and gives the greatest raw one.
+///
+/// A raw distance is the cost of some chain of moves to a span that has fewer than four neighbours of its own area: 2 for a
+/// move to a neighbour, 3 for one to a corner neighbour. With one span a cell it is the cost of the cheapest such chain; where
+/// cells have several spans it can be more, never less. A blurred distance is a mean of raw ones, at most the greatest.
+/// `docs/DISTANCE.md` of the Gussetraft repository draws examples.
 ///
 /// # Errors
 ///

@@ -18,10 +18,11 @@ use Rattle.rules.specs.Field.{Field, spans, cellOf, cellTo, leaves, conOf, near
 use Rattle.rules.specs.Refusals.{goodCon, goodBack}
 use Rattle.laws.proofs.Basics.{both, in-list, getD-any}
 use Rattle.laws.proofs.Cells.{near-none, near-is}
+use Rattle.laws.proofs.Passes.{across-in}
 use Rattle.field.specs.Lent.{Stands, Celled, consAt, lent}
 use Rattle.checker.specs.Links.{Inner, Column, innerAt, goodLink, halfAt, inCell, inRow}
 use Rattle.field.proofs.Loops.{every-rows, every-halt, every-end}
-use Rattle.field.proofs.Places.{room-left, room-up, layer-stands, cell-is, con-at, turned, across-in}
+use Rattle.field.proofs.Places.{room-left, room-up, layer-stands, cell-is, con-at, turned}
 use Rattle.checker.proofs.Checks.{flip, every-cells}
 
 -- ---------------------------------------------------------------- there and back

@@ -12,11 +12,11 @@ use Rattle.rules.specs.Base.{if_then_else_, upto}
 use Rattle.rules.specs.Field.{Field, near, corner, cellTo}
 use Rattle.rules.specs.Distance.{greatest, term, blurAt}
 use Rattle.laws.proofs.Basics.{getD-any}
+use Rattle.laws.proofs.Passes.{none-near}
 use Rattle.field.specs.Lent.{Reached, Spot, SomeSpot, Leaf, SomeLeaf, consAt, lent}
 use Rattle.field.proofs.Loops.{upto-go}
 use Rattle.field.proofs.Places.{near-stands, near-spot, spot-con, spot-leaf, some-leaf, step-spot, leaf-none, turned, layer-spot}
 use Rattle.distance.specs.Value.{blurTo, Sized}
-use Rattle.distance.proofs.Values.{none-near}
 
 -- ---------------------------------------------------------------- the greatest value
 
@@ -45,7 +45,7 @@ module _ (w : ℕ) (is cs l cons : List ℕ) (c s d v : ℕ) (o : Sized w is cs 
   term-none z F u =
       let m : near F s d ≡ 65535 = sym (leaf-none w is cons c d g z F s (spot-leaf F w is cs cons c s u q)) in
       let f : getD l 65535 v ≡ v = List·getD-eq-default l v (omega (arith, few)) in
-      rw (m, none-near F (u .reached) ((d + 1) % 4) (turned d 1)) (omega arith)
+      rw (m, none-near F ((d + 1) % 4) (omega (arith, u .reached .celled .linked, u .reached .celled .few))) (omega arith)
 
   -- the neighbour t, in cell a
   module _ (t a : ℕ) (n : (F : Field) (s : ℕ) → Leaf F w is cons c s → t ≡ near F s d) (p : a ≡ cellTo w c d) (k : t ≡ 65535 → ⊥) where

@@ -1,26 +1,27 @@
--- No sum of a pass exceeds 65,535. Pass 1: a span that starts above 0 has a neighbour 0, which stands one column before it and is already passed,
--- so a span in column x comes to at most 2·x, and what a span reads stands in cells before its own. Pass 2 only lowers.
+-- The room that the code's sums need, by cells as its loops go; the law of the rules is `no-sum-exceeds-65535` (crates/meaning/proofs/Sums.antt).
+-- Pass 1: a span that starts above 0 has a neighbour 0, which stands one column before it and is already passed, so a span in column x comes to
+-- at most 2·x, and what a span reads stands in cells before its own. Pass 2 only lowers.
 use Prim.Native.Nat.{ℕ, _+_, _*_, _-_, _/_, _%_, _≤_, _<_}
 use native.Mathlib.Omega.{arith}
-use native.Mathlib.Nat.{mod-lt, mod-le, div-le-self, div-eq-of-lt, mul-suc, mul-zero, zero-add}
+use native.Mathlib.Nat.{mod-lt, mod-le, div-le-self, div-eq-of-lt, mul-suc, mul-zero}
 use native.Mathlib.Numerals.{add-one}
 use native.Mathlib.Decide.{decLt, ℕ-discrete}
 use mathlib.Core.Path.{_≡_, refl, sym, ap, _∙_}
 use mathlib.Core.Bool.{false}
 use mathlib.Core.List.{List}
-use lib.ListN.{length, getD, set, length-set, List·getD-eq-default}
-use borrow.Author.Tests.{eqb-true, eqb-false, ltb-false}
+use lib.ListN.{length, getD, set, length-set}
+use borrow.Author.Tests.{eqb-false}
 use Rattle.rules.specs.Base.{upto}
 use Rattle.rules.specs.Field.{Field, spans, areaOf, near, cellOf, cellTo, leaves, conOf}
-use Rattle.rules.specs.Distance.{same, start, far, lower}
-use Rattle.laws.proofs.Basics.{if-ind, tests, tab-at, length-tab, getD-set-at, getD-any}
+use Rattle.rules.specs.Distance.{start, far, leastOf, lower}
+use Rattle.laws.proofs.Basics.{tests, getD-set-at, getD-any}
 use Rattle.laws.proofs.Cells.{near-none, before, cellOf-in}
-use Rattle.laws.proofs.Passes.{wide-pos, mod-pred, same-le}
+use Rattle.laws.proofs.Lengths.{start-length}
+use Rattle.laws.proofs.Passes.{wide-pos, mod-pred, none-near, start-edge}
 use Rattle.field.specs.Lent.{Stands, Reached, Spot, lent}
 use Rattle.field.proofs.Places.{cell-is, sum-is, stands-in, reaches, near-stands, layer-spot}
 use Rattle.field.proofs.Loops.{upto-go}
 use Rattle.distance.specs.Value.{side, least, Passing, Low, Room}
-use Rattle.distance.proofs.Values.{none-near}
 
 -- ---------------------------------------------------------------- cells before a cell
 
@@ -53,10 +54,10 @@ module _ (F : Field) (ok : Reached F) where
       (ap (λ (x : ℕ). leaves (F .w) (F .h) x d) (sym (v .cell)) ∙ r .inner, near-stands F ok c s d v g k)
 
   -- a neighbour's neighbour is there only where the neighbour is
-  through : (s d e : ℕ) → e < 4 → near F (near F s d) e < spans F → s < spans F → d < 4 → near F s d < spans F
-  through s d e h i l g =
+  through : (s d e : ℕ) → near F (near F s d) e < spans F → s < spans F → d < 4 → near F s d < spans F
+  through s d e i l g =
       elim (ℕ-discrete (conOf F s d) 255) [
-        | yes z ↦ let m : near F (near F s d) e ≡ 65535 = rw (near-none F s d z) (none-near F ok e h) in absurd (omega (arith, ok .celled .few))
+        | yes z ↦ let m : near F (near F s d) e ≡ 65535 = rw (near-none F s d z) (none-near F e (omega (arith, ok .celled .linked, ok .celled .few))) in absurd (omega (arith, ok .celled .few))
         | no z ↦ reaches F ok s d l g z .inside
       ]
 
@@ -89,7 +90,7 @@ module _ (F : Field) (ok : Reached F) where
       room-03 : near F (near F s 0) 3 < spans F → far l (near F (near F s 0) 3) ≤ 510
       unfolding cellTo
       room-03 i =
-          let r = inner c s 0 v (omega arith) (through s 0 3 (omega arith) i (v .span) (omega arith)) in
+          let r = inner c s 0 v (omega arith) (through s 0 3 i (v .span) (omega arith)) in
           let q = inner (cellTo (F .w) c 0) (near F s 0) 3 (r .1) (omega arith) i in
           passed-low _ _ (q .1) (omega (arith, up-0 (F .w) (F .h) c (r .0)))
 
@@ -98,7 +99,7 @@ module _ (F : Field) (ok : Reached F) where
 
       room-32 : near F (near F s 3) 2 < spans F → far l (near F (near F s 3) 2) ≤ 510
       room-32 i =
-          let r = inner c s 3 v (omega arith) (through s 3 2 (omega arith) i (v .span) (omega arith)) in
+          let r = inner c s 3 v (omega arith) (through s 3 2 i (v .span) (omega arith)) in
           let q = inner (cellTo (F .w) c 3) (near F s 3) 2 (r .1) (omega arith) i in
           passed-low _ _ (q .1) (up-32 (F .w) (F .h) c in-grid (r .0) (q .0))
 
@@ -159,27 +160,14 @@ module _ (F : Field) (ok : Reached F) where
 
   -- ---------------------------------------------------------------- the start
 
-  same-zero : (s : ℕ) → s < spans F → areaOf F s < 256 → conOf F s 0 ≡ 255 → same F s 0 ≡ 0
-  unfolding same areaOf
-  same-zero s h b k =
-      if-ind (λ r. r ≡ 0) _
-      (λ e.
-      let past : areaOf F 65535 ≡ 256 = List·getD-eq-default (F .area) 256 (omega (arith, ok .celled .few)) in
-      let y : areaOf F (near F s 0) ≡ 256 = rw (near-none F s 0 k) past in
-      absurd (omega (arith, eqb-true (areaOf F (near F s 0)) (areaOf F s) e)))
-      (λ _. refl)
-
   -- the areas being bytes
   pub start-passing : ((i : ℕ) → getD (F .area) i 0 < 256) → (l : List ℕ) → l ≡ start F → Passing F 0 l
-  unfolding start areaOf
+  unfolding areaOf
   start-passing bytes l q =
       record {
-        size = rw q (length-tab (spans F) 0 _);
+        size = rw q (start-length F);
         low = λ t h g. absurd (omega arith);
-        edge = λ t h k. rw q
-            (tab-at (spans F) 0 _ t 65535 h ∙
-            if-ind (λ r. r ≡ 0) _ (λ _. refl)
-            (λ e. absurd (omega (arith, ltb-false, same-zero (0 + t) (rw zero-add h) (rw (getD-any (F .area) (0 + t) 256 0 (rw zero-add h)) (bytes (0 + t))) (rw zero-add k), same-le F (0 + t) 1, same-le F (0 + t) 2, same-le F (0 + t) 3))));
+        edge = λ t h k. rw q (start-edge F t 0 (omega (arith, ok .celled .few)) h (rw (getD-any (F .area) t 256 0 h) (bytes t)) (omega arith) (near-none F t 0 k));
       }
 
 -- ---------------------------------------------------------------- pass 2
@@ -196,7 +184,7 @@ low-set F a b c e s x l v h q =
 -- ---------------------------------------------------------------- the loops over layers, as the code has them
 
 pub lower-is : (F : Field) (a b c e s : ℕ) (l : List ℕ) → set l s (least F a b c e s l) ≡ lower F a b c e s l
-unfolding lower least side
+unfolding leastOf lower least side
 lower-is F a b c e s l = refl
 
 module _ (w h : ℕ) (is ks ar cs : List ℕ) (c i k j : ℕ) (l : List ℕ) (ok : Reached (lent w h is ks ar cs)) (p : i ≡ getD is c 0) (q : k ≡ getD ks c 0) (g : j < k) where

@@ -8,10 +8,11 @@ use lib.ListN.{length, getD, List·getD-eq-default}
 use Rattle.rules.specs.Field.{Field, spans, near, cellTo}
 use Rattle.rules.specs.Distance.{far}
 use Rattle.laws.proofs.Basics.{getD-any}
+use Rattle.laws.proofs.Passes.{none-near}
 use Rattle.field.specs.Lent.{Spot, SomeSpot, Leaf, SomeLeaf, consAt}
 use Rattle.field.proofs.Places.{near-stands, near-spot, spot-con, spot-leaf, some-leaf, step-spot, leaf-none}
 use Rattle.distance.specs.Value.{side, least, Sized, Room}
-use Rattle.distance.proofs.Values.{none-near, sized-con, sized-in, sized-leaf}
+use Rattle.distance.proofs.Values.{sized-con, sized-in, sized-leaf}
 
 module _ (w : ℕ) (is cs l : List ℕ) (c s d e : ℕ) (v : Room w is cs l c s d e) where
   room-sized : Sized w is cs l c s
@@ -35,7 +36,7 @@ module _ (w : ℕ) (is cs l : List ℕ) (c s d e : ℕ) (v : Room w is cs l c s 
     side-none best b h z F u =
         let m : near F s d ≡ 65535 = sym (leaf-none w is cons c d g z F s (spot-leaf F w is cs cons c s u q)) in
         let f : far l 65535 ≡ 65535 = List·getD-eq-default l 65535 (omega (arith, room-few)) in
-        rw (m, none-near F (u .reached) e h) (omega arith)
+        rw (m, none-near F e (omega (arith, u .reached .celled .linked, u .reached .celled .few))) (omega arith)
 
     -- neighbour t, in cell a
     module _ (t a : ℕ) (n : (F : Field) (s : ℕ) → Leaf F w is cons c s → t ≡ near F s d) (p : a ≡ cellTo w c d) (k : t ≡ 65535 → ⊥) where

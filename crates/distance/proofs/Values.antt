@@ -1,28 +1,20 @@
 -- What a stage reads at a span and at its neighbours is what the rule reads: a neighbour that is there stands in its cell and has a value,
 -- and one that is not is past the list, where the rule reads its default.
-use Prim.Native.Nat.{ℕ, zero, suc, _+_, _*_, _≤_, _<_}
+use Prim.Native.Nat.{ℕ, _+_, _*_, _≤_, _<_}
 use native.Mathlib.Omega.{arith}
 use mathlib.Core.Path.{_≡_, refl, sym, ap, _∙_}
 use mathlib.Core.List.{List}
-use lib.ListN.{length, getD, set, List·getD-eq-default}
+use lib.ListN.{length, getD, set}
 use borrow.Author.Tests.{eq-eqb, ne-eqb, lt-ltb, le-ltb}
 use Rattle.rules.specs.Base.{if_then_else_, upto}
-use Rattle.rules.specs.Field.{Field, spans, near, areaOf, conOf}
-use Rattle.rules.specs.Distance.{same}
+use Rattle.rules.specs.Field.{Field, spans, near, areaOf}
+use Rattle.rules.specs.Distance.{same, startAt}
 use Rattle.laws.proofs.Basics.{getD-any}
-use Rattle.laws.proofs.Cells.{near-none}
-use Rattle.laws.proofs.Passes.{same-le}
+use Rattle.laws.proofs.Passes.{missing-not-same, same-fewer}
 use Rattle.field.specs.Lent.{Reached, Spot, SomeSpot, Leaf, SomeLeaf, consAt, lent}
 use Rattle.field.proofs.Places.{near-stands, spot-leaf, spot-con, some-leaf, leaf-none, layer-spot}
-use Rattle.distance.specs.Value.{startAt, startTo, Sized, SizedLeaf}
+use Rattle.distance.specs.Value.{startTo, Sized, SizedLeaf}
 use Rattle.field.proofs.Loops.{upto-go}
-
--- ---------------------------------------------------------------- no span
-
--- no neighbour has no neighbour
-pub none-near : (F : Field) → Reached F → (d : ℕ) → d < 4 → near F 65535 d ≡ 65535
-unfolding conOf
-none-near F ok d h = near-none F 65535 d (List·getD-eq-default (F .con) 255 (omega (arith, ok .celled .linked, ok .celled .few)))
 
 -- ---------------------------------------------------------------- a list with a value for each span
 
@@ -62,12 +54,10 @@ module _ (w : ℕ) (is cons ar : List ℕ) (c s d : ℕ) (v : SizedLeaf w is con
 
 module _ (w : ℕ) (is cons ar : List ℕ) (c s d : ℕ) (g : d < 4) where
   pub same-none : getD cons d 0 ≡ 255 → getD ar s 0 < 256 → (F : Field) → Leaf F w is cons c s → F .area ≡ ar → 0 ≡ same F s d
-  unfolding same areaOf if_then_else_
+  unfolding areaOf
   same-none z b F u q =
-      let m : near F s d ≡ 65535 = sym (leaf-none w is cons c d g z F s u) in
-      let past : getD (F .area) (near F s d) 256 ≡ 256 = rw m (List·getD-eq-default (F .area) 256 (omega (arith, u .reached .celled .few))) in
-      let here : getD (F .area) s 256 ≡ getD ar s 0 = getD-any (F .area) s 256 0 (u .stands .span) ∙ ap (λ (x : List ℕ). getD x s 0) q in
-      rw (ne-eqb (getD (F .area) (near F s d) 256) (getD (F .area) s 256) (λ y. omega arith))
+      let here : areaOf F s ≡ getD ar s 0 = getD-any (F .area) s 256 0 (u .stands .span) ∙ ap (λ (x : List ℕ). getD x s 0) q in
+      sym (missing-not-same F s d (omega (arith, u .reached .celled .few)) (omega arith) (sym (leaf-none w is cons c d g z F s u)))
 
 module _ (w : ℕ) (is cons ar : List ℕ) (c s d t : ℕ) (g : d < 4) (n : (F : Field) (s : ℕ) → Leaf F w is cons c s → t ≡ near F s d) where
   pub four-near : SizedLeaf w is cons ar c s → (t ≡ 65535 → ⊥) → t < length ar
@@ -93,22 +83,14 @@ module _ (w : ℕ) (is cons ar : List ℕ) (c s d t : ℕ) (g : d < 4) (n : (F :
   unfolding same areaOf if_then_else_
   same-not k z F u q = rw (ne-eqb (getD (F .area) (near F s d) 256) (getD (F .area) s 256) (λ y. z (sym (there k F u q) ∙ y ∙ here k F u q)))
 
--- one that does not count is enough
-less : (F : Field) (s d : ℕ) → d < 4 → 0 ≡ same F s d → same F s 0 + same F s 1 + same F s 2 + same F s 3 < 4
-less F s zero g e = omega (arith, same-le F s 1, same-le F s 2, same-le F s 3)
-less F s (suc zero) g e = omega (arith, same-le F s 0, same-le F s 2, same-le F s 3)
-less F s (suc (suc zero)) g e = omega (arith, same-le F s 0, same-le F s 1, same-le F s 3)
-less F s (suc (suc (suc zero))) g e = omega (arith, same-le F s 0, same-le F s 1, same-le F s 2)
-less F s (suc (suc (suc (suc d)))) g e = absurd (omega arith)
-
 -- the neighbours' counts, of every field that fits what is lent
 module _ (w : ℕ) (is cs ar cons : List ℕ) (c s : ℕ) (e : cons ≡ consAt cs s) where
   pub start-none : (d x : ℕ) → d < 4 → ((F : Field) → Leaf F w is cons c s → F .area ≡ ar → x ≡ same F s d) → x ≡ 0
       → (F : Field) → Spot F w is cs c s → F .area ≡ ar → 0 ≡ startAt F s
   unfolding startAt if_then_else_
   start-none d x g n z F v q =
-      let y : 0 ≡ same F s d = sym z ∙ n F (spot-leaf F w is cs cons c s v e) q in
-      rw (lt-ltb (same F s 0 + same F s 1 + same F s 2 + same F s 3) 4 (less F s d g y))
+      let y : same F s d ≡ 0 = sym (n F (spot-leaf F w is cs cons c s v e) q) ∙ z in
+      rw (lt-ltb (same F s 0 + same F s 1 + same F s 2 + same F s 3) 4 (same-fewer F s d g y))
 
   module _ (x₀ x₁ x₂ x₃ : ℕ)
       (e₀ : (F : Field) → Leaf F w is cons c s → F .area ≡ ar → x₀ ≡ same F s 0)

@@ -10,7 +10,7 @@ use lib.ListN.{length, getD, set, length-set}
 use lib.Seq.{ext-getD}
 use Rattle.rules.specs.Base.{upto, tab}
 use Rattle.rules.specs.Field.{Field, spans}
-use Rattle.rules.specs.Distance.{lower, start, pass1, pass2, raw, blurAt, blur}
+use Rattle.rules.specs.Distance.{lower, startAt, start, pass1, pass2, raw, blurAt, blur}
 use Rattle.laws.proofs.Basics.{upto-ind, tab-at, length-tab, getD-set-at}
 use mir.Val.{Fits}
 use mir.Syntax.{w64}
@@ -18,7 +18,7 @@ use Rattle.field.specs.Lent.{Celled, Reached, lent}
 use Rattle.field.proofs.Loops.{upto-join, upto-ext, upto-go, upto-end, product-small}
 use Rattle.field.proofs.Places.{firstOf, first-is, total-is}
 use Rattle.distance.specs.Walk.{overCell, downto, column, rowUp, rowDown}
-use Rattle.distance.specs.Value.{startAt, startTo, blurTo}
+use Rattle.distance.specs.Value.{startTo, blurTo}
 
 -- ---------------------------------------------------------------- rows and columns
 
@@ -135,7 +135,7 @@ module _ (F : Field) (f : ℕ → List ℕ → List ℕ) where
   rows-end y l m ok e h g = upto-end (rowUp F f) (F .h) y l m e h g ∙ sym (rows-upto F ok f l)
 
 pub start-end : (F : Field) (y : ℕ) (l m : List ℕ) → Celled F → length l ≡ spans F → m ≡ upto y (rowUp F (startTo F)) l → y ≤ F .h → F .h ≤ y → m ≡ start F
-unfolding start startTo startAt
+unfolding start startTo
 start-end F y l m ok n e h g = rows-end F (startTo F) y l m ok e h g ∙ stored (spans F) (startAt F) l n
 
 pub blur-end : (F : Field) (y : ℕ) (l k m : List ℕ) → Celled F → length k ≡ spans F → m ≡ upto y (rowUp F (blurTo F l)) k → y ≤ F .h → F .h ≤ y → m ≡ blur F l

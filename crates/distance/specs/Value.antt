@@ -3,16 +3,11 @@ use Prim.Native.Nat.{ℕ, _+_, _*_, _%_, _≤_, _<_, min}
 use mathlib.Core.Path.{_≡_}
 use mathlib.Core.List.{List}
 use lib.ListN.{length, set}
-use lib.Dec.{ltb}
-use Rattle.rules.specs.Base.{if_then_else_}
 use Rattle.rules.specs.Field.{Field, spans, near, cellOf, conOf}
-use Rattle.rules.specs.Distance.{same, far, blurAt}
+use Rattle.rules.specs.Distance.{startAt, far, blurAt}
 use Rattle.field.specs.Lent.{Spot, Leaf}
 
--- a span's value at the start, and the list with it
-unfoldable pub startAt : Field → ℕ → ℕ
-startAt F s = if ltb (same F s 0 + same F s 1 + same F s 2 + same F s 3) 4 then 0 else 65535
-
+-- the list with a span's value at the start
 unfoldable pub startTo : Field → ℕ → List ℕ → List ℕ
 startTo F s l = set l s (startAt F s)
 

@@ -115,7 +115,7 @@ fn blur_cell(
 }
 
 // Row y.
-pub fn blur_row(
+pub(crate) fn blur_row(
     w: usize,
     h: usize,
     index: &[u32],

@@ -111,7 +111,7 @@ fn pass1_cell(
 }
 
 // Pass 1 over row y, columns upward.
-pub fn pass1_row(
+pub(crate) fn pass1_row(
     w: usize,
     h: usize,
     index: &[u32],
@@ -131,7 +131,7 @@ pub fn pass1_row(
 }
 
 // Pass 1.
-pub fn pass1(
+pub(crate) fn pass1(
     w: usize,
     h: usize,
     index: &[u32],
@@ -175,7 +175,7 @@ fn pass2_cell(
 }
 
 // Pass 2 over row y, columns downward.
-pub fn pass2_row(
+pub(crate) fn pass2_row(
     w: usize,
     h: usize,
     index: &[u32],
@@ -197,7 +197,7 @@ pub fn pass2_row(
 }
 
 // Pass 2.
-pub fn pass2(
+pub(crate) fn pass2(
     w: usize,
     h: usize,
     index: &[u32],

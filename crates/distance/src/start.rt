@@ -13,7 +13,7 @@ ghost use Rattle.rules.specs.Field.{Field};
 ghost use Rattle.rules.specs.Distance as rules;
 ghost use Rattle.field.specs.Lent.{lent, Reached, Spot, Leaf};
 ghost use Rattle.distance.specs.Walk.{overCell, rowUp};
-ghost use Rattle.distance.specs.Value.{startAt, startTo, Sized, SizedLeaf};
+ghost use Rattle.distance.specs.Value.{startTo, Sized, SizedLeaf};
 
 // 1 for a neighbour in direction d of the span's own area.
 fn same(w: usize, index: &[u32], area: &[u8], cons: [u8; 4], p: Place, d: usize) -> usize
@@ -36,7 +36,7 @@ fn same(w: usize, index: &[u32], area: &[u8], cons: [u8; 4], p: Place, d: usize)
 // The start of the span at place p: the first neighbour that is missing or of another area decides.
 fn start_span(w: usize, index: &[u32], con: &[u8], area: &[u8], p: Place) -> u16
     requires { ⌜ Sized w (now index) (now con) (now area) (p .cell) (p .span .0) ⌝ }
-    ensures { λ r. ⌜ ((F : Field) → Spot F w (now (index .entry)) (now (con .entry)) (p .cell) (p .span .0) → F .area ≡ now (area .entry) → r ≡ startAt F (p .span .0)) ⌝ }
+    ensures { λ r. ⌜ ((F : Field) → Spot F w (now (index .entry)) (now (con .entry)) (p .cell) (p .span .0) → F .area ≡ now (area .entry) → r ≡ rules.startAt F (p .span .0)) ⌝ }
 {
     let s = p.span;
     let cons = connections(con, s);
@@ -82,7 +82,7 @@ fn start_cell(
 }
 
 // Row y.
-pub fn start_row(
+pub(crate) fn start_row(
     w: usize,
     h: usize,
     index: &[u32],
@@ -102,7 +102,7 @@ pub fn start_row(
 }
 
 // Every row.
-pub fn start(
+pub(crate) fn start(
     w: usize,
     h: usize,
     index: &[u32],

@@ -27,11 +27,6 @@ every-stop zero p i h e = absurd (omega arith)
 every-stop (suc n) p i h e =
     elim (decLt i n) [ yes g ↦ rw (every-stop n p i g e) | no g ↦ let q : i ≡ n = omega arith in let z : p n ≡ false = rw q at e in rw z (and-no (every n p)) ]
 
-pub every-all : (n : ℕ) (p : ℕ → Bool) → ((i : ℕ) → i < n → p i ≡ true) → every n p ≡ true
-unfolding every _and_
-every-all zero p h = refl
-every-all (suc n) p h = rw (every-all n p (λ i g. h i (omega arith)), h n (omega arith))
-
 pub every-ext : (n : ℕ) (p q : ℕ → Bool) → ((i : ℕ) → i < n → p i ≡ q i) → every n p ≡ every n q
 unfolding every
 every-ext zero p q h = refl

@@ -2,10 +2,8 @@
 -- Then the same as the code has it: what is lent is enough to say where a connection leads in every field that fits it.
 use Prim.Native.Nat.{ℕ, zero, suc, _+_, _*_, _-_, _/_, _%_, _≤_, _<_}
 use native.Mathlib.Omega.{arith}
-use native.Mathlib.Nat.{mod-lt, mod-le, div-eq-of-lt, suc-mul, mul-comm, div-add-mod', div-lt-iff-lt-mul}
-use native.Mathlib.Numerals.{add-one}
+use native.Mathlib.Nat.{mod-lt, mod-le, div-eq-of-lt}
 use native.Mathlib.Decide.{ℕ-discrete, decLt}
-use lib.Arith.{digits-lt}
 use mathlib.Core.Path.{_≡_, refl, sym, ap, _∙_}
 use mathlib.Core.Bool.{true, false, false≢true}
 use mathlib.Core.List.{List, [], _∷_}
@@ -16,7 +14,6 @@ use Rattle.rules.specs.Field.{Field, spans, none, near, cellOf, cellTo, leaves,
 use Rattle.rules.specs.Refusals.{goodCells, goodCon}
 use Rattle.laws.proofs.Basics.{both, either, tests, in-list, getD-any}
 use Rattle.laws.proofs.Cells.{before, before-lt, cellOf-at, cellOf-in, Cell, cells-at, cells-sum, Leads, near-none, near-is}
-use Rattle.laws.proofs.Passes.{wide-pos}
 use Rattle.field.specs.Lent.{Stands, Celled, Reached, Spot, Leaf, SomeSpot, SomeLeaf, consAt, lent}
 
 -- ---------------------------------------------------------------- the cell across, by direction
@@ -259,27 +256,6 @@ module _ (w : ℕ) (is cs cons : List ℕ) (c s : ℕ) (e : cons ≡ consAt cs s
 
 pub turned : (d k : ℕ) → (d + k) % 4 < 4
 turned d k = mod-lt (d + k) (omega arith)
-
--- ---------------------------------------------------------------- the grid
-
--- the cell across is in the grid where the way does not leave it
-pub across-in : (w h c d : ℕ) → c < w * h → d < 4 → leaves w h c d ≡ false → cellTo w c d < w * h
-unfolding leaves cellTo
-across-in w h c zero g l e = omega arith
-across-in w h c (suc zero) g l e =
-    let p = wide-pos w h c g in
-    let q : c / w + 1 < h = omega tests in
-    let z : (c / w + 1) * w + c % w < h * w = digits-lt q (mod-lt c p) in
-    let y : (c / w + 1) * w ≡ c / w * w + w = rw add-one (suc-mul (c / w) w) in
-    omega (arith, div-add-mod' c w, mul-comm h w)
-across-in w h c (suc (suc zero)) g l e =
-    let p = wide-pos w h c g in
-    let q : c % w + 1 < w = omega tests in
-    let y : c / w < h = div-lt-iff-lt-mul p .1 (rw (mul-comm h w) g) in
-    let z : c / w * w + (c % w + 1) < h * w = digits-lt y q in
-    omega (arith, div-add-mod' c w, mul-comm h w)
-across-in w h c (suc (suc (suc zero))) g l e = omega arith
-across-in w h c (suc (suc (suc (suc d)))) g l e = absurd (omega arith)
 
 -- a layer of cell c, as a loop over the cell's layers has it
 module _ (w h : ℕ) (is ks ar cs : List ℕ) (c i k j : ℕ) (e : i ≡ getD is c 0) (f : k ≡ getD ks c 0) (g : j < k) where

@@ -11,7 +11,7 @@ use Rattle.rules.specs.Field.{Field, spans, cellOf, cellTo, leaves, conOf, near
 use Rattle.rules.specs.Net.{netOf, neighboursOf}
 use Rattle.rules.specs.Net as net
 use Rattle.rules.specs.Refusals.{goodCells, goodCon, goodBack, tooWide, tooMany, wrongLength, wrongCells, wrongReach, wrongBack, refusal, tooShort, tooFar, regionRefusal}
-use Rattle.rules.specs.Distance.{same, start, lower, pass1, pass2, raw, greatest, term, blurAt, blur}
+use Rattle.rules.specs.Distance.{same, startAt, start, leastOf, lower, pass1, pass2, raw, greatest, term, blurAt, blur}
 use Rattle.rules.specs.Growth.{walkable, put, paintOf, painted, firstId, blank, sorted, remains, look, takes, finds, wrote, written, round, rounds, expand, sees, orElse, objects, pushed, visit, flow, flood, floods, loaded, turn, grown}
 use Rattle.rules.specs.Contour.{across, solid, firstSolid, stride, walk, trim, contour}
 use Rattle.rules.specs.Records.{fresh, at, once, onceAll, others, counted, addSpan, records}
@@ -19,7 +19,7 @@ use Rattle.rules.specs.Filter.{seen, removed, reach, gather, total, removeAll, 
 use Rattle.rules.specs.Merge.{suits, picked, place, around, dedup, tidy, absorbed, emptied, renamed, mergeOne, merged}
 use Rattle.rules.specs.Numbering.{live, numberOf, overlaps, numbered, regions}
 use Rattle.rules.specs.Outcomes.{Sizes, DistanceOutcome, RegionOutcome, distanceOutcome, regionOutcome}
-use Rattle.figures.specs.Fields.{flat, openField}
+use Rattle.rules.specs.Open.{openCon, flat, openField}
 
 -- what document 01 says of a run; a cell is (x, z)
 pub data Claim : Type 0 where
@@ -44,12 +44,12 @@ pub record Run : Type 0 where
 unfoldable pub run : Case → Run
 unfolding _and_ _or_ if_then_else_ upto tab every any keep many cellOf cellTo leaves conOf near corner areaOf neighboursOf net.near net.corner net.areaOf
     goodCells goodCon goodBack tooWide tooMany wrongLength wrongCells wrongReach wrongBack refusal tooShort tooFar regionRefusal
-    same start lower pass1 pass2 raw greatest term blurAt blur
+    same startAt start leastOf lower pass1 pass2 raw greatest term blurAt blur
     walkable put paintOf painted firstId blank sorted remains look takes finds wrote written round rounds expand sees orElse objects pushed visit flow flood floods loaded turn grown
     across solid firstSolid stride walk trim contour fresh at once onceAll others counted addSpan records
     seen removed reach gather total removeAll filterOne filtered
     suits picked place around dedup tidy absorbed emptied renamed mergeOne merged live numberOf overlaps numbered regions
-    distanceOutcome regionOutcome flat openField
+    distanceOutcome regionOutcome openCon flat openField
 run c =
     let F = c .field in
     let zeros : List ℕ = replicate (spans F) 0 in
@@ -114,5 +114,5 @@ figures =
     []
 
 pub figures-agree : agrees figures ≡ true
-unfolding _and_ _or_ if_then_else_ every run holds allHold agrees figures flat openField
+unfolding _and_ _or_ if_then_else_ every run holds allHold agrees figures openCon flat openField
 figures-agree = refl

@@ -10,7 +10,7 @@ use Rattle.rules.specs.Field.{spans, cellOf, cellTo, leaves, conOf, near, corne
 use Rattle.rules.specs.Net.{neighboursOf}
 use Rattle.rules.specs.Net as net
 use Rattle.rules.specs.Refusals.{goodCells, goodCon, goodBack, tooWide, tooMany, wrongLength, wrongCells, wrongReach, wrongBack, refusal, tooShort, tooFar, regionRefusal}
-use Rattle.rules.specs.Distance.{same, start, lower, pass1, pass2, raw, greatest, term, blurAt, blur}
+use Rattle.rules.specs.Distance.{same, startAt, start, leastOf, lower, pass1, pass2, raw, greatest, term, blurAt, blur}
 use Rattle.rules.specs.Growth.{walkable, put, paintOf, painted, firstId, blank, sorted, remains, look, takes, finds, wrote, written, round, rounds, expand, sees, orElse, objects, pushed, visit, flow, flood, floods, loaded, turn, grown}
 use Rattle.rules.specs.Contour.{across, solid, firstSolid, stride, walk, trim, contour}
 use Rattle.rules.specs.Records.{fresh, at, once, onceAll, others, counted, addSpan, records}
@@ -72,7 +72,7 @@ pub record Print : Type 0 where
 pub prints : List Print → Bool
 unfolding _and_ _or_ if_then_else_ upto tab every any keep many cellOf cellTo leaves conOf near corner areaOf neighboursOf net.near net.corner net.areaOf
     goodCells goodCon goodBack tooWide tooMany wrongLength wrongCells wrongReach wrongBack refusal tooShort tooFar regionRefusal
-    same start lower pass1 pass2 raw greatest term blurAt blur
+    same startAt start leastOf lower pass1 pass2 raw greatest term blurAt blur
     walkable put paintOf painted firstId blank sorted remains look takes finds wrote written round rounds expand sees orElse objects pushed visit flow flood floods loaded turn grown
     across solid firstSolid stride walk trim contour fresh at once onceAll others counted addSpan records
     seen removed reach gather total removeAll filterOne filtered

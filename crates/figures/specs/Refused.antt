@@ -10,7 +10,7 @@ use Rattle.rules.specs.Base.{_and_, _or_, if_then_else_, upto, tab, every, any}
 use Rattle.rules.specs.Field.{Field, spans, cellOf, cellTo, leaves, conOf, near}
 use Rattle.rules.specs.Refusals.{goodCells, goodCon, goodBack, tooWide, tooMany, wrongLength, wrongCells, wrongReach, wrongBack, refusal, tooShort, tooFar, regionRefusal}
 use Rattle.rules.specs.Outcomes.{distanceOutcome, regionOutcome}
-use Rattle.figures.specs.Fields.{flat, openField}
+use Rattle.rules.specs.Open.{openCon, flat, openField}
 
 -- the open field of 3 by 3 with one list put in another's place
 abbrev pub good : Field
@@ -129,6 +129,6 @@ rightCalls =
 pub refusals-agree : (each refusesDistance wrongFields ≡ true) × (each refusesRegions wrongFields ≡ true) × (each refusesRegions wrongCalls ≡ true) × (each accepts rightCalls ≡ true)
 unfolding _and_ _or_ if_then_else_ upto tab every any cellOf cellTo leaves conOf near
     goodCells goodCon goodBack tooWide tooMany wrongLength wrongCells wrongReach wrongBack refusal tooShort tooFar regionRefusal
-    distanceOutcome regionOutcome flat openField each refusesDistance refusesRegions accepts sevens wrongFields wrongCalls rightCalls
+    distanceOutcome regionOutcome openCon flat openField each refusesDistance refusesRegions accepts sevens wrongFields wrongCalls rightCalls
     withIndex withCount withArea withCon bare tower
 refusals-agree = (refl, refl, refl, refl)

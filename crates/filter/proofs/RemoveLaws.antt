@@ -2,13 +2,13 @@
 -- that a group's total and lists are read after the gathering and not before makes no difference, since that writes neither.
 use Prim.Native.Nat.{ℕ, _+_, _-_, _*_, _≤_, _<_}
 use native.Mathlib.Omega.{arith}
-use native.Mathlib.Numerals.{add-one}
 use native.Mathlib.Decide.{ℕ-discrete, decLt}
 use mathlib.Core.Path.{_≡_, refl, sym, ap, _∙_}
 use mathlib.Core.Bool.{Bool, true, false}
-use mathlib.Core.List.{List, _∷_}
-use lib.ListN.{length, getD, set, drop, replicate, length-set, drop-of-length-le, length-replicate, getD-replicate}
-use lib.Seq.{getD-set-same, getD-set-other, drop-cons}
+use mathlib.Core.List.{List, [], _∷_}
+use lib.ListN.{length, getD, set, replicate, length-set, length-replicate, getD-replicate}
+use lib.Seq.{getD-set-same, getD-set-other}
+use lib.Dec.{ltb}
 use borrow.Author.Tests.{le-leb, lt-leb, lt-ltb, le-ltb}
 use borrow.Rule.Slice.PartMut.{putMid, midOf}
 use Rattle.rules.specs.Base.{if_then_else_, _and_, _or_, any}
@@ -90,22 +90,17 @@ flag-none m f k ws h e = sym (e ∙ rw (part-none (6 * m + k) (6 * m + f) ws (om
 
 -- ---- one list
 
-module _ (l : List ℕ) (i : ℕ) (e : listsFlagged l ≡ listsFlagged (drop i l)) where
-  list-more : i < length l → listsFlagged (drop i l) ≡ flagged (getD l i 0) or listsFlagged (drop (i + 1) l)
-  unfolding listsFlagged any
-  list-more h = rw (drop-cons l i 0 h, add-one i)
+above-flagged : (x : ℕ) → ltb 32767 x ≡ flagged x
+above-flagged x = elim (decLt 32767 x) [
+  | yes h ↦ lt-ltb 32767 x h ∙ sym (le-leb 32768 x (omega arith))
+  | no h ↦ le-ltb 32767 x (omega arith) ∙ sym (lt-leb 32768 x (omega arith))
+]
 
-  pub list-here : i < length l → 32768 ≤ getD l i 0 → true ≡ listsFlagged l
-  unfolding _or_
-  list-here h g = sym (e ∙ list-more h ∙ rw (le-leb 32768 (getD l i 0) g) refl)
-
-  pub list-next : i < length l → getD l i 0 < 32768 → listsFlagged l ≡ listsFlagged (drop (i + 1) l)
-  unfolding _or_
-  list-next h g = e ∙ list-more h ∙ rw (lt-leb 32768 (getD l i 0) g) refl
-
-  pub list-none : length l ≤ i → false ≡ listsFlagged l
-  unfolding listsFlagged any
-  list-none h = sym (e ∙ rw (drop-of-length-le l h) refl)
+-- an id above the last unflagged one is flagged
+pub lists-above : (l : List ℕ) → any (ltb 32767) l ≡ listsFlagged l
+unfolding listsFlagged any
+lists-above [] = refl
+lists-above (x ∷ l) = rw (above-flagged x) (ap (λ b. flagged x or b) (lists-above l))
 
 -- ---- whether it is small
 

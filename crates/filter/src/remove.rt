@@ -1,5 +1,6 @@
 // What is done with a group once it is found.
 use space::clear;
+use table::any_above;
 use table::at;
 use table::list_of;
 ghost use mathlib.Core.Path.{_≡_};
@@ -28,18 +29,14 @@ fn total(ws: &[u16], m: usize, f: usize) -> usize
     sum
 }
 
+// The flagged ids are those above.
+const LAST_UNFLAGGED: u16 = 32767;
+
 // Does the list hold a flagged id?
 fn lists_flagged(l: &[u16]) -> bool
     ensures { λ r. ⌜ r ≡ listsFlagged (now (l .entry)) ⌝ }
 {
-    let mut i = 0;
-    while i < l.len() {
-        if 32768 <= l[i] {
-            return true;
-        }
-        i += 1;
-    }
-    false
+    any_above(l, LAST_UNFLAGGED)
 }
 
 // Does one of the f found list a flagged id?

@@ -2,7 +2,10 @@
 use Prim.Native.Nat.{ℕ}
 use mathlib.Core.Path.{_≡_}
 use mathlib.Core.List.{List}
+use Rattle.rules.specs.Field.{Field}
+use Rattle.rules.specs.Growth.{firstId}
 use Rattle.rules.specs.Outcomes.{DistanceOutcome, RegionOutcome}
+use Rattle.rooms.specs.Rooms.{Rooms}
 use Rattle.gussetraft.specs.declared.Distances.{Distances}
 use Rattle.gussetraft.specs.declared.Regions.{Regions}
 
@@ -18,3 +21,7 @@ pub record GivesRegions (o : RegionOutcome) (r : Regions) (workspace ids : List 
   pub over : r .overlaps ≡ o .over
   pub cleared : workspace ≡ o .workspace
   pub numbers : ids ≡ o .ids
+
+-- demand 3 of a call that returns 0, with ids as it leaves them
+pub record LeavesRooms (F : Field) (border : ℕ) (r : Regions) (ids : List ℕ) : Type 0 where
+  pub rooms : r .refusal ≡ 0 → Rooms F (firstId border) ids (r .«max_region»)

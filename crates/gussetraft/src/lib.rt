@@ -5,10 +5,10 @@ use watershed::build_distance_field;
 use watershed::build_regions;
 use watershed::refusal_number;
 ghost use mathlib.Core.Path.{_≡_};
-ghost use Rattle.rules.specs.Outcomes.{distanceOutcome, regionOutcome};
+ghost use Rattle.rules.specs.Outcomes.{Sizes, distanceOutcome, regionOutcome};
 ghost use Rattle.field.specs.Lent.{lent};
 ghost use Rattle.watershed.specs.Answer.{refusedBy, mostIn, regionsRefusedBy, maxRegionIn, overlapsIn};
-ghost use Rattle.gussetraft.specs.Exported.{Gives, GivesRegions};
+ghost use Rattle.gussetraft.specs.Exported.{Gives, GivesRegions, LeavesRooms};
 
 // The answer of the distance entry: 0 or the refusal number, and max_distance.
 #[repr(C)]
@@ -68,7 +68,9 @@ pub extern "C" fn gussetraft_build_distance_field(
     raw: &mut [u16],
     blurred: &mut [u16],
 ) -> Distances
-    ensures { λ r. ⌜ Gives (distanceOutcome (lent w h (now (index .entry)) (now (count .entry)) (now (area .entry)) (now (con .entry))) (now (raw .entry)) (now (blurred .entry))) r (now (raw .exit)) (now (blurred .exit)) ⌝ }
+    ensures { λ r. ⌜ (let F = lent w h (now (index .entry)) (now (count .entry)) (now (area .entry)) (now (con .entry)) in
+        let o = distanceOutcome F (now (raw .entry)) (now (blurred .entry)) in
+        Gives o r (now (raw .exit)) (now (blurred .exit))) ⌝ }
 {
     numbers(build_distance_field(w, h, index, count, area, con, raw, blurred))
 }
@@ -89,9 +91,14 @@ pub extern "C" fn gussetraft_build_regions(
     workspace: &mut [u16],
     ids: &mut [u16],
 ) -> Regions
-    ensures { λ r. ⌜ GivesRegions (regionOutcome (lent w h (now (index .entry)) (now (count .entry)) (now (area .entry)) (now (con .entry))) (now (dist .entry)) «max_distance» (record { border = «border_size»; least = «min_region_area»; merge = «merge_region_area» }) (now (workspace .entry)) (now (ids .entry))) r (now (workspace .exit)) (now (ids .exit)) ⌝ }
+    ensures { λ r. ⌜ (let F = lent w h (now (index .entry)) (now (count .entry)) (now (area .entry)) (now (con .entry)) in
+        let z : Sizes = record { border = «border_size»; least = «min_region_area»; merge = «merge_region_area» } in
+        let o = regionOutcome F (now (dist .entry)) «max_distance» z (now (workspace .entry)) (now (ids .entry)) in
+        GivesRegions o r (now (workspace .exit)) (now (ids .exit))) ⌝ }
+    ensures rooms { λ r. ⌜ (let F = lent w h (now (index .entry)) (now (count .entry)) (now (area .entry)) (now (con .entry)) in
+        LeavesRooms F «border_size» r (now (ids .exit))) ⌝ }
 {
-    region_numbers(build_regions(
+    let answer = build_regions(
         w,
         h,
         index,
@@ -105,5 +112,6 @@ pub extern "C" fn gussetraft_build_regions(
         merge_region_area,
         workspace,
         ids,
-    ))
+    );
+    region_numbers(answer)
 }

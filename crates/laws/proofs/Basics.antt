@@ -112,6 +112,19 @@ every-at (suc n) p e k h =
     let a = both _ _ e in
     elim (decLt k n) [ yes g ↦ every-at n p (a .0) k g | no g ↦ let q : k ≡ n = omega arith in rw q (a .1) ]
 
+pub every-all : (n : ℕ) (p : ℕ → Bool) → ((i : ℕ) → i < n → p i ≡ true) → every n p ≡ true
+unfolding every _and_
+every-all zero p h = refl
+every-all (suc n) p h = rw (every-all n p (λ i g. h i (omega arith)), h n (omega arith))
+
+-- each direction
+pub four-ways : (P : ℕ → Type 0) → P 0 → P 1 → P 2 → P 3 → (d : ℕ) → d < 4 → P d
+four-ways P a b c e zero g = a
+four-ways P a b c e (suc zero) g = b
+four-ways P a b c e (suc (suc zero)) g = c
+four-ways P a b c e (suc (suc (suc zero))) g = e
+four-ways P a b c e (suc (suc (suc (suc d)))) g = absurd (omega arith)
+
 -- ---------------------------------------------------------------- a list by its elements
 
 pub tab-at {ℓ} : {A : Type ℓ} (n at : ℕ) (f : ℕ → A) (i : ℕ) (d : A) → i < n → getD (tab n at f) i d ≡ f (at + i)

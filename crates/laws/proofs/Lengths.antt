@@ -32,9 +32,13 @@ pass2-length F l =
     upto-ind (λ k x. length x ≡ length l) _ l (F .w * F .h) refl
     (λ k x h p. upto-ind (λ j y. length y ≡ length l) _ x _ p (λ j y g q. lower-length F 2 1 1 0 _ y ∙ q))
 
+pub start-length : (F : Field) → length (start F) ≡ spans F
+unfolding start
+start-length F = length-tab (spans F) 0 _
+
 pub raw-length : (F : Field) → length (raw F) ≡ spans F
-unfolding raw start
-raw-length F = pass2-length F _ ∙ pass1-length F _ ∙ length-tab (spans F) 0 _
+unfolding raw
+raw-length F = pass2-length F _ ∙ pass1-length F _ ∙ start-length F
 
 pub blur-length : (F : Field) (l : List ℕ) → length (blur F l) ≡ spans F
 unfolding blur

@@ -9,9 +9,9 @@ use mathlib.Core.List.{List}
 use borrow.Author.Tests.{eqb-true, not-false}
 use lib.ListN.{length, getD, List·getD-eq-default}
 use lib.Arith.{digits-div, digits-mod}
-use Rattle.rules.specs.Field.{Field, none, conOf}
+use Rattle.rules.specs.Field.{Field, Bytes, none, conOf}
 use Rattle.rules.specs.Field as field
-use Rattle.rules.specs.Net.{near, neighboursOf, netOf}
+use Rattle.rules.specs.Net.{spans, near, areaOf, neighboursOf, netOf}
 use Rattle.rules.specs.Refusals.{wrongLength}
 use Rattle.laws.proofs.Basics.{both, tab-at, length-tab}
 use Rattle.laws.proofs.Cells.{Passed, near-none}
@@ -44,3 +44,8 @@ near-net F l s d h = elim (decLt s (field.spans F)) [
 pub linked : (F : Field) (lens : List ℕ) → Passed F lens → length (F .con) ≡ 4 * field.spans F
 unfolding wrongLength
 linked F lens ok = let a = both _ _ (not-false _ (ok .lengths)) in let b = both _ _ (a .0) in eqb-true _ _ (b .1)
+
+-- and its areas
+pub net-bytes : (F : Field) → Bytes F → (s : ℕ) → s < spans (netOf F) → areaOf (netOf F) s < 256
+unfolding areaOf field.areaOf
+net-bytes F bytes = bytes

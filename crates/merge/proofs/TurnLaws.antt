@@ -5,7 +5,7 @@ use native.Mathlib.Omega.{arith}
 use mathlib.Core.Path.{_≡_, refl, sym, ap, _∙_}
 use mathlib.Core.Logic.{⊎-elim, _⊎_, inl, inr}
 use mathlib.Core.Bool.{Bool, true, false, not, true≢false, false≢true}
-use mathlib.Core.List.{List, [], _∷_}
+use mathlib.Core.List.{List, []}
 use lib.ListN.{length, getD}
 use lib.Dec.{eqb}
 use borrow.Author.Tests.{eq-eqb, ne-eqb, eqb-false, lt-ltb, le-ltb, not-true}
@@ -14,6 +14,7 @@ use Rattle.rules.specs.Records.{Rec, at, has}
 use Rattle.rules.specs.Merge.{Pick, place, Merge, mergeOne}
 use Rattle.laws.proofs.Basics.{neither, if-ind, upto-next, and-both}
 use Rattle.table.specs.View.{listAt, recAt, view, recsOf}
+use Rattle.table.proofs.SearchLaws.{place-within}
 use Rattle.table.proofs.ViewLaws.{view-at, list-length, recs-length, recs-at}
 use Rattle.filter.specs.Group.{Calm}
 use Rattle.pool.specs.Alike.{Rep, Reps, Joined}
@@ -85,11 +86,6 @@ module _ (ws : List ℕ) (m area i : ℕ) where
 pub place-is : (ws l : List ℕ) (m i r k : ℕ) → l ≡ listAt ws m (7 * m) i → k ≡ place l r → k ≡ place (listAt ws m (7 * m) i) r
 place-is ws l m i r k q e = e ∙ ap (λ (x : List ℕ). place x r) q
 
-place-le : (l : List ℕ) (r : ℕ) → place l r ≤ length l
-unfolding place
-place-le [] r = omega arith
-place-le (x ∷ l) r = if-ind (λ (k : ℕ). k ≤ suc (length l)) (eqb x r) (λ _. omega arith) (λ _. omega (arith, place-le l r))
-
 not-both : (a b : Bool) (g x : Merge) → (a ≡ false) ⊎ (b ≡ false) → g ≡ (if not (a and b) then g else x)
 unfolding _and_ if_then_else_
 not-both false b g x e = refl
@@ -140,8 +136,8 @@ module _ (m p h o i n : ℕ) (ws : List ℕ) (P : Pool m p h o ws) (hi : i < m) 
             first = hn;
             second = hi;
             apart = ne;
-            lists = omega (arith, len-of n hn, place-le (listAt ws m (7 * m) n) (getD ws i 0));
-            lists′ = omega (arith, len-of i hi, place-le (listAt ws m (7 * m) i) (getD ws n 0));
+            lists = omega (arith, len-of n hn, place-within (listAt ws m (7 * m) n) (getD ws i 0));
+            lists′ = omega (arith, len-of i hi, place-within (listAt ws m (7 * m) i) (getD ws n 0));
           };
           live = a;
           live′ = b;

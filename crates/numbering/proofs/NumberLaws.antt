@@ -7,8 +7,8 @@ use mathlib.Core.Path.{_≡_, refl, sym, ap, _∙_}
 use mathlib.Core.Logic.{⊎-elim}
 use mathlib.Core.Bool.{Bool, true, false, true≢false, false≢true}
 use mathlib.Core.List.{List, [], _∷_, _++_}
-use lib.ListN.{drop-of-length-le, length, getD, set, take, drop, length-append}
-use lib.Seq.{drop-cons, take-suc, getD-set-same, getD-set-other, getD-take}
+use lib.ListN.{length, getD, set, take, length-append}
+use lib.Seq.{take-suc, getD-set-same, getD-set-other, getD-take}
 use lib.Dec.{eqb}
 use borrow.Author.Tests.{eq-eqb, ne-eqb, le-leb, lt-leb}
 use Rattle.rules.specs.Base.{_or_, if_then_else_, any, many}
@@ -212,22 +212,13 @@ new-id m b ws r i c k f h e =
 
 -- ---- how many are not 0
 
-nonzero-by : (b : Bool) (l : List ℕ) (i k r : ℕ) → k + nonzero (drop i l) ≡ nonzero l → nonzero (drop i l) ≡ (if b then nonzero (drop (i + 1) l) else suc (nonzero (drop (i + 1) l)))
-    → r ≡ (if b then k else k + 1) → r + nonzero (drop (i + 1) l) ≡ nonzero l
-unfolding if_then_else_
-nonzero-by true l i k r e z q = omega arith
-nonzero-by false l i k r e z q = omega arith
-
-pub nonzero-go : (l : List ℕ) (i k r : ℕ) → k + nonzero (drop i l) ≡ nonzero l → i < length l → r ≡ (if eqb (getD l i 0) 0 then k else k + 1)
-    → r + nonzero (drop (i + 1) l) ≡ nonzero l
-unfolding nonzero
-nonzero-go l i k r e h q =
-    let z : nonzero (drop i l) ≡ (if eqb (getD l i 0) 0 then nonzero (drop (i + 1) l) else suc (nonzero (drop (i + 1) l))) = rw (drop-cons l i 0 h, add-one i) refl in
-    nonzero-by (eqb (getD l i 0) 0) l i k r e z q
-
-pub nonzero-end : (l : List ℕ) (i k : ℕ) → k + nonzero (drop i l) ≡ nonzero l → length l ≤ i → k ≡ nonzero l
-unfolding nonzero
-nonzero-end l i k e h = let z : nonzero (drop i l) ≡ 0 = rw (drop-of-length-le l h) refl in omega arith
+pub nonzero-is : (l : List ℕ) → many (eqb 0) l + nonzero l ≡ length l
+unfolding many nonzero if_then_else_
+nonzero-is [] = refl
+nonzero-is (x ∷ l) = elim (ℕ-discrete x 0) [
+  | yes h ↦ rw (eq-eqb 0 x (sym h), eq-eqb x 0 h) (omega (arith, nonzero-is l))
+  | no h ↦ rw (ne-eqb 0 x (λ e. h (sym e)), ne-eqb x 0 h) (omega (arith, nonzero-is l))
+]
 
 pub id-in : (m b : ℕ) (ws : List ℕ) (r : ℕ) → Column m b ws → (r < 32768 → r < m) → r < 32768 → r < length ws
 id-in m b ws r c f h = omega (arith, c .room, f h)

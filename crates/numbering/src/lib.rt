@@ -1,10 +1,9 @@
 // Numbering: live ids are numbered from 1 by lowest record.
+use pool::many;
 use table::at;
 ghost use mathlib.Core.Path.{_≡_};
 ghost use mathlib.Core.List.{List, [], map};
 ghost use Prim.Native.Nat.{ℕ, _+_, _*_, _≤_, _<_};
-ghost use lib.Dec.{eqb};
-ghost use Rattle.rules.specs.Base.{if_then_else_};
 ghost use lib.ListN.{length, getD, take};
 ghost use Rattle.space.specs.Space.{Frame};
 ghost use Rattle.rules.specs.Numbering.{numbered};
@@ -75,29 +74,12 @@ fn new_ids(ids: &mut [u16], ws: &[u16], m: usize, b: usize)
     }
 }
 
-fn one_more(k: u16, x: u16) -> u16
-    requires { ⌜ k < 65535 ⌝ }
-    ensures { λ r. ⌜ r ≡ (if eqb x 0 then k else k + 1) ⌝ }
-    ensures { λ r. ⌜ r ≤ k + 1 ⌝ }
-{
-    if x == 0 {
-        return k;
-    }
-    k + 1
-}
-
 // How many are not 0.
 fn nonzero(l: &[u16]) -> u16
     requires { ⌜ length (now l) < 65536 ⌝ }
     ensures { λ r. ⌜ r ≡ nonzero (now (l .entry)) ⌝ }
 {
-    let mut k = 0;
-    let mut i = 0;
-    while i < l.len() {
-        k = one_more(k, l[i]);
-        i += 1;
-    }
-    k
+    (l.len() - many(l, 0)) as u16
 }
 
 // The last number given, and how many records have overlap set.

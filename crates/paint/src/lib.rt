@@ -90,7 +90,7 @@ fn paint_row(
 }
 
 // The walkable spans of the cells with min_x ≤ x < max_x and min_z ≤ z < max_z.
-pub fn paint_rect_region(
+fn paint_rect_region(
     w: usize,
     index: &[u32],
     count: &[u8],

@@ -147,13 +147,13 @@ unfolding if_then_else_
 swap-not o n y h = rw (ne-eqb y o h)
 
 module _ (o n : ℕ) (nz : o ≡ 0 → ⊥) (r : Rec) where
+  swap-zero : (y : ℕ) → y ≡ 0 → (if eqb y o then n else y) ≡ y
+  swap-zero y e = swap-not o n y (λ q. nz (sym q ∙ e))
+
   ren-id : renamed o n r .id ≡ swapOne o n (r .id)
   unfolding renamed swapOne
   ren-id = if-ind (λ (z : Rec). z .id ≡ (if eqb (r .id) o then n else r .id)) (eqb (r .id) 0)
       (λ e. sym (swap-zero (r .id) (eqb-true (r .id) 0 e))) (λ _. refl)
-    where
-      swap-zero : (y : ℕ) → y ≡ 0 → (if eqb y o then n else y) ≡ y
-      swap-zero y e = swap-not o n y (λ q. nz (sym q ∙ e))
 
   ren-count : renamed o n r .count ≡ r .count
   unfolding renamed
@@ -179,9 +179,6 @@ module _ (o n : ℕ) (nz : o ≡ 0 → ⊥) (r : Rec) where
   unfolding renamedF swapOne
   renF-id = if-ind (λ (z : Rec). z .id ≡ (if eqb (r .id) o then n else r .id)) (eqb (r .id) 0)
       (λ e. sym (swap-zero (r .id) (eqb-true (r .id) 0 e))) (λ _. refl)
-    where
-      swap-zero : (y : ℕ) → y ≡ 0 → (if eqb y o then n else y) ≡ y
-      swap-zero y e = swap-not o n y (λ q. nz (sym q ∙ e))
 
   pub renF-count : renamedF o n r .count ≡ r .count
   unfolding renamedF

@@ -2,7 +2,7 @@
 ghost use mathlib.Core.Path.{_≡_};
 ghost use mathlib.Core.List.{_++_, map};
 ghost use Prim.Native.Nat.{suc, _+_, _≤_, _<_};
-ghost use lib.ListN.{length, take, drop, replicate};
+ghost use lib.ListN.{length, take, drop};
 ghost use lib.Dec.{eqb};
 ghost use Rattle.rules.specs.Base.{many, if_then_else_};
 ghost use Rattle.rules.specs.Contour.{trim};
@@ -117,15 +117,4 @@ fn swap_one(r: u16, old: u16, new: u16) -> u16
         return new;
     }
     r
-}
-
-// Every entry becomes v.
-pub(crate) fn fill(l: &mut [u16], v: u16)
-    ensures { λ _. ⌜ now (l .exit) ≡ replicate (length (now (l .entry))) v ⌝ }
-{
-    let mut i = 0;
-    while i < l.len() {
-        l[i] = v;
-        i += 1;
-    }
 }

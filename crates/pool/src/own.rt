@@ -1,5 +1,5 @@
 // Which record's list a place is in: its number stands beside the place, in the free half of the pool.
-use crate::lists::fill;
+use space::fill;
 use table::end_of;
 use table::start_of;
 ghost use Prim.Native.Nat.{_+_, _-_, _*_, _≤_, _<_};

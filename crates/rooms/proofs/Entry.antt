@@ -1,13 +1,12 @@
 -- Demand 3 of the outcome of the region entry itself: where it refuses nothing, the ids and max_region that it gives are rooms.
 -- It holds because the outcome is then that of the rules, and a field that 1 to 8 let pass is one that 1 to 6 let pass. Assumes nothing.
-use Prim.Native.Nat.{ℕ, _<_}
+use Prim.Native.Nat.{ℕ}
 use mathlib.Core.Path.{_≡_}
 use mathlib.Core.List.{List, [], _∷_}
 use lib.ListN.{length}
 use lib.Dec.{eqb}
 use borrow.Author.Tests.{eqb-true, eqb-false}
-use Rattle.rules.specs.Field.{Field}
-use Rattle.rules.specs.Net.{netOf, spans, areaOf}
+use Rattle.rules.specs.Field.{Field, Bytes}
 use Rattle.rules.specs.Refusals.{regionRefusal}
 use Rattle.rules.specs.Growth.{firstId}
 use Rattle.rules.specs.Outcomes.{Sizes, RegionOutcome, regionOutcome}
@@ -15,16 +14,12 @@ use Rattle.laws.proofs.Basics.{if-ind}
 use Rattle.rooms.specs.Rooms.{Rooms}
 use Rattle.rooms.proofs.Rooms.{entry-rooms}
 
--- the areas are bytes, as they are in a lent list
-abbrev pub Bytes : Field → Type 0
-Bytes F = (s : ℕ) → s < spans (netOf F) → areaOf (netOf F) s < 256
-
 pub not-refused-gives-rooms : (F : Field) (dist : List ℕ) (most : ℕ) (z : Sizes) (work ids : List ℕ) → Bytes F
     → regionOutcome F dist most z work ids .refused ≡ 0
-    → Rooms (netOf F) (firstId (z .border)) (regionOutcome F dist most z work ids .ids) (regionOutcome F dist most z work ids .most)
+    → Rooms F (firstId (z .border)) (regionOutcome F dist most z work ids .ids) (regionOutcome F dist most z work ids .most)
 unfolding regionOutcome
 not-refused-gives-rooms F dist most z work ids bytes =
-    if-ind (λ (o : RegionOutcome). o .refused ≡ 0 → Rooms (netOf F) (firstId (z .border)) (o .ids) (o .most))
+    if-ind (λ (o : RegionOutcome). o .refused ≡ 0 → Rooms F (firstId (z .border)) (o .ids) (o .most))
     (eqb (regionRefusal F (length dist ∷ length ids ∷ []) (length work) dist most) 0)
     (λ e _. entry-rooms F (length dist ∷ length ids ∷ []) (length work) dist most (eqb-true _ _ e) bytes (z .border) (z .least) (z .merge))
     (λ e h. absurd (eqb-false _ _ e h))

@@ -12,7 +12,8 @@ use Rattle.rules.specs.Field.{none}
 use Rattle.rules.specs.Net.{Net, spans, near, areaOf}
 use Rattle.rules.specs.Growth.{Marks, idOf, put, Taken, look, takes, finds, wrote, written, Spread, round, rounds, expand}
 use Rattle.laws.proofs.Basics.{both, if-ind, upto-ind, All, getD-set-cases, map-all}
-use Rattle.rooms.specs.Rooms.{Joined, stay, goes, Plain, Bears}
+use Rattle.rooms.specs.Rooms.{Plain, Bears}
+use Rattle.rooms.specs.Linked.{Linked, stay, goes}
 use Rattle.rooms.proofs.Joins.{joined-trans, joined-sym, joined-map, plain-true}
 
 -- ids from first on and below next are in use, each by one joined set of spans of one area
@@ -24,7 +25,7 @@ pub record Grow (N : Net) (first next : ℕ) (ids : List ℕ) : Type 0 where
   pub range : (r s : ℕ) → Plain r → Bears ids r s → (first ≤ r) × (r < next)
   pub borne : (r : ℕ) → first ≤ r → r < next → (s : ℕ) × Bears ids r s
   pub one : (r s t : ℕ) → Plain r → Bears ids r s → Bears ids r t → areaOf N s ≡ areaOf N t
-  pub join : (r s t : ℕ) → Plain r → Bears ids r s → Bears ids r t → Joined N (Bears ids r) s t
+  pub join : (r s t : ℕ) → Plain r → Bears ids r s → Bears ids r t → Linked N (Bears ids r) s t
 
 -- v, the id that span s has after a round
 pub data Step (N : Net) (ids : List ℕ) (s v : ℕ) : Type 0 where
@@ -40,10 +41,10 @@ module _ (N : Net) (first next : ℕ) (ids ids′ : List ℕ) (g : Grow N first 
       go v (took d l p o n a) = absurd (z (sym h ∙ o))
 
   -- where the id came from
-  step-from : (r s : ℕ) → Plain r → Bears ids′ r s → (t : ℕ) × Bears ids r t × (areaOf N s ≡ areaOf N t) × Joined N (Bears ids′ r) s t
+  step-from : (r s : ℕ) → Plain r → Bears ids′ r s → (t : ℕ) × Bears ids r t × (areaOf N s ≡ areaOf N t) × Linked N (Bears ids′ r) s t
   step-from r s p h = go (getD ids′ s 0) (steps s) h
     where
-      go : (v : ℕ) → Step N ids s v → v ≡ r → (t : ℕ) × Bears ids r t × (areaOf N s ≡ areaOf N t) × Joined N (Bears ids′ r) s t
+      go : (v : ℕ) → Step N ids s v → v ≡ r → (t : ℕ) × Bears ids r t × (areaOf N s ≡ areaOf N t) × Linked N (Bears ids′ r) s t
       go v (same e) k = (s, sym e ∙ k, refl, stay h)
       go v (took d l q o n a) k =
           let old : Bears ids r (near N s d) = n ∙ k in

@@ -15,7 +15,8 @@ use Rattle.rules.specs.Growth.{Marks, idOf, put, flagged, Seed, Flow, other, ob
 use Rattle.laws.proofs.Basics.{both, if-ind, upto-ind, All, All-map, getD-set-cases}
 use Rattle.laws.proofs.FloodEnds.{Same, Blank, Fine, has-area, objects-same, pushed-fine, visit-fine, own-other, flood-ends}
 use Rattle.laws.proofs.NextId.{zeros, flood-zeros, if-add}
-use Rattle.rooms.specs.Rooms.{Joined, stay, comes, Bears}
+use Rattle.rooms.specs.Rooms.{Bears}
+use Rattle.rooms.specs.Linked.{Linked, stay, comes}
 use Rattle.rooms.proofs.Joins.{joined-trans, joined-sym, joined-map}
 use Rattle.rooms.proofs.Expanding.{Grow, same, step-grow, Good}
 
@@ -31,7 +32,7 @@ Kin q o ids u = (getD ids u 0 ≡ q .id) × (o u ≡ false)
 -- t is the seed, or a neighbour of what is joined to it
 pub data Hung (N : Net) (C : ℕ → Type 0) (seed t : ℕ) : Type 0 where
   root : t ≡ seed → Hung N C seed t
-  hung : (u d : ℕ) → d < 4 → near N u d ≡ t → Joined N C u seed → Hung N C seed t
+  hung : (u d : ℕ) → d < 4 → near N u d ≡ t → Linked N C u seed → Hung N C seed t
 
 hung-map : (N : Net) {C D : ℕ → Type 0} (seed t : ℕ) → ((u : ℕ) → C u → D u) → Hung N C seed t → Hung N D seed t
 hung-map N seed t f (root e) = root e
@@ -61,17 +62,17 @@ module _ (N : Net) (dist : List ℕ) (q : Seed) (base m₀ : Marks) (seed : ℕ)
 
   -- a span on the stack that does not object
   side-joined : (ids : List ℕ) (t v : ℕ) → Side N q (objects N m₀ q) base seed ids t v → idOf base t ≡ 0 → v ≡ q .id → Kin q (objects N m₀ q) ids t
-      → Joined N (Kin q (objects N m₀ q) ids) t seed
+      → Linked N (Kin q (objects N m₀ q) ids) t seed
   side-joined ids t v (calm e) b k n = absurd (eqb-false _ _ z (sym k ∙ e ∙ b))
-  side-joined ids t v (mine b e r (root x)) _ k n = subst (λ (y : ℕ). Joined N (Kin q (objects N m₀ q) ids) t y) x (stay n)
+  side-joined ids t v (mine b e r (root x)) _ k n = subst (λ (y : ℕ). Linked N (Kin q (objects N m₀ q) ids) t y) x (stay n)
   side-joined ids t v (mine b e r (hung w d l x j)) _ k n = comes w d l x n j
 
-  pushed-pool : (c d : ℕ) (f : Flow) → d < 4 → Fine N q m₀ f → Pool N q (objects N m₀ q) base seed f → Joined N (Kin q (objects N m₀ q) (f .marks .ids)) c seed
-      → Pool N q (objects N m₀ q) base seed (pushed N dist q c d f) × Joined N (Kin q (objects N m₀ q) (pushed N dist q c d f .marks .ids)) c seed
+  pushed-pool : (c d : ℕ) (f : Flow) → d < 4 → Fine N q m₀ f → Pool N q (objects N m₀ q) base seed f → Linked N (Kin q (objects N m₀ q) (f .marks .ids)) c seed
+      → Pool N q (objects N m₀ q) base seed (pushed N dist q c d f) × Linked N (Kin q (objects N m₀ q) (pushed N dist q c d f .marks .ids)) c seed
   unfolding pushed put
   pushed-pool c d f four n h j =
       let o = objects N m₀ q in
-      if-ind (λ (g : Flow). Pool N q o base seed g × Joined N (Kin q o (g .marks .ids)) c seed) _
+      if-ind (λ (g : Flow). Pool N q o base seed g × Linked N (Kin q o (g .marks .ids)) c seed) _
       (λ e.
       let t = near N c d in
       let ids = f .marks .ids in
@@ -135,7 +136,7 @@ module _ (N : Net) (dist : List ℕ) (q : Seed) (base m₀ : Marks) (seed : ℕ)
       } in
       let fine : Fine N q m₀ start = record { same = n .same; size = n .size; blank = n .blank } in
       let j = side-joined ids c _ (h .side c) (h .rest .0) ic (ic, oc) in
-      upto-ind (λ k (g : Flow). Fine N q m₀ g × Pool N q o base seed g × Joined N (Kin q o (g .marks .ids)) c seed) (pushed N dist q c) start 4
+      upto-ind (λ k (g : Flow). Fine N q m₀ g × Pool N q o base seed g × Linked N (Kin q o (g .marks .ids)) c seed) (pushed N dist q c) start 4
       (fine, p, j)
       (λ k g l y. let r = pushed-pool c k g l (y .0) (y .1) (y .2) in (pushed-fine N dist q m₀ z u a c k g (y .0) .0, r .0, r .1)) .1)
 
@@ -157,15 +158,15 @@ pub record Leaves (N : Net) (base : List ℕ) (id s : ℕ) (f : Flow) : Type 0 w
   pub size : length (f .marks .ids) ≡ spans N
   pub lost : f .count ≡ 0 → (t : ℕ) → idOf (f .marks) t ≡ getD base t 0
   pub won : (f .count ≡ 0 → ⊥) → (w : ℕ) × (idOf (f .marks) w ≡ id)
-  pub own : (t : ℕ) → idOf (f .marks) t ≡ id → (areaOf N t ≡ areaOf N s) × Joined N (Bears (f .marks .ids) id) t s
+  pub own : (t : ℕ) → idOf (f .marks) t ≡ id → (areaOf N t ≡ areaOf N s) × Linked N (Bears (f .marks .ids) id) t s
   pub old : (r t : ℕ) → (r ≡ id → ⊥) → idOf (f .marks) t ≡ r → getD base t 0 ≡ r
   pub new : (r t : ℕ) → (r ≡ 0 → ⊥) → getD base t 0 ≡ r → idOf (f .marks) t ≡ r
 
 module _ (N : Net) (q : Seed) (o : ℕ → Bool) (base : Marks) (seed : ℕ) (z : eqb (q .id) 0 ≡ false) where
   side-own : (ids : List ℕ) (t v : ℕ) → Side N q o base seed ids t v → (idOf base t ≡ q .id → ⊥) → v ≡ q .id → Kin q o ids t
-      → (areaOf N t ≡ q .area) × Joined N (Bears ids (q .id)) t seed
+      → (areaOf N t ≡ q .area) × Linked N (Bears ids (q .id)) t seed
   side-own ids t v (calm e) n k c = absurd (n (sym e ∙ k))
-  side-own ids t v (mine b e r (root x)) n k c = (r, subst (λ (y : ℕ). Joined N (Bears ids (q .id)) t y) x (stay (c .0)))
+  side-own ids t v (mine b e r (root x)) n k c = (r, subst (λ (y : ℕ). Linked N (Bears ids (q .id)) t y) x (stay (c .0)))
   side-own ids t v (mine b e r (hung w d l x j)) n k c = (r, comes w d l x (c .0) (joined-map N (λ u h. h .0) j))
 
   side-old : (ids : List ℕ) (t v : ℕ) → Side N q o base seed ids t v → (v ≡ q .id → ⊥) → v ≡ idOf base t

@@ -14,7 +14,7 @@ use Rattle.rules.specs.Records.{Rec, at, has}
 use Rattle.rules.specs.Merge.{suits, Pick, picked, place, around, dedup, tidy, absorbed, emptied, renamed, Merge, mergeOne, merged}
 use Rattle.laws.proofs.Basics.{both, neither, if-ind, upto-ind, All, All-map, All-both, append-all, map-all, take-all}
 use Rattle.laws.proofs.MergeEnds.{renamed-fresh, at-map}
-use Rattle.rooms.specs.Rooms.{Joined, stay, goes}
+use Rattle.rooms.specs.Linked.{Linked, stay, goes}
 use Rattle.rooms.proofs.Joins.{joined-trans, joined-sym, joined-map}
 use Rattle.rooms.proofs.Expanding.{Grow}
 use Rattle.rooms.proofs.Listing.{at-set, at-past, Outer, under, Inner, outer-inner, Raw}
@@ -89,7 +89,7 @@ pub record Sound (N : Net) (first next : ℕ) (ids : List ℕ) (rs : List Rec) :
   pub rep : (j : ℕ) → (at rs j .id ≡ 0 → ⊥) → at rs (at rs j .id) .id ≡ at rs j .id
   pub area : (j s : ℕ) → (at rs j .id ≡ 0 → ⊥) → cls ids rs s ≡ at rs j .id → areaOf N s ≡ at rs j .area
   pub list : (j : ℕ) → (at rs j .id ≡ 0 → ⊥) → All (Lists N ids rs (at rs j .id)) (at rs j .list)
-  pub join : (k s t : ℕ) → (k ≡ 0 → ⊥) → cls ids rs s ≡ k → cls ids rs t ≡ k → Joined N (λ u. cls ids rs u ≡ k) s t
+  pub join : (k s t : ℕ) → (k ≡ 0 → ⊥) → cls ids rs s ≡ k → cls ids rs t ≡ k → Linked N (λ u. cls ids rs u ≡ k) s t
 
 -- a span that has a class has a record of growth
 pub cls-record : (N : Net) (first next : ℕ) (ids : List ℕ) (rs : List Rec) → Grow N first next ids → next < 0x8000
@@ -203,7 +203,7 @@ module _ (N : Net) (first next : ℕ) (ids : List ℕ) (g : Grow N first next id
       ]
 
   -- every span of the new class is joined to the far side of the meeting
-  merge-hub : (s : ℕ) → ren a b (cls ids rs s) ≡ b → Joined N (λ u. cls ids rs′ u ≡ b) s (near N (meet .span) (meet .dir))
+  merge-hub : (s : ℕ) → ren a b (cls ids rs s) ≡ b → Linked N (λ u. cls ids rs′ u ≡ b) s (near N (meet .span) (meet .dir))
   merge-hub s e =
       let t = near N (meet .span) (meet .dir) in
       let from-a : (u : ℕ) → cls ids rs u ≡ a → cls ids rs′ u ≡ b = λ u k. cls-ren u ∙ ren-hit a b (cls ids rs u) k in
@@ -213,12 +213,12 @@ module _ (N : Net) (first next : ℕ) (ids : List ℕ) (g : Grow N first next id
       (goes (meet .dir) (meet .four) (from-a (meet .span) (meet .own)) (stay (from-b t (meet .there)))))
       (λ _ x. joined-map N from-b (h .join b s t bz x (meet .there)))
 
-  merge-join : (k s t : ℕ) → (k ≡ 0 → ⊥) → cls ids rs′ s ≡ k → cls ids rs′ t ≡ k → Joined N (λ u. cls ids rs′ u ≡ k) s t
+  merge-join : (k s t : ℕ) → (k ≡ 0 → ⊥) → cls ids rs′ s ≡ k → cls ids rs′ t ≡ k → Linked N (λ u. cls ids rs′ u ≡ k) s t
   merge-join k s t z x y =
       let x2 : ren a b (cls ids rs s) ≡ k = sym (cls-ren s) ∙ x in
       let y2 : ren a b (cls ids rs t) ≡ k = sym (cls-ren t) ∙ y in
       elim (ℕ-discrete k b) [
-        | yes e ↦ subst (λ (n : ℕ). Joined N (λ u. cls ids rs′ u ≡ n) s t) (sym e)
+        | yes e ↦ subst (λ (n : ℕ). Linked N (λ u. cls ids rs′ u ≡ n) s t) (sym e)
             (joined-trans N (λ u. cls ids rs′ u ≡ b) (merge-hub s (x2 ∙ e)) (joined-sym N (λ u. cls ids rs′ u ≡ b) (merge-hub t (y2 ∙ e))))
         | no e ↦
             ren-cases a b (cls ids rs s) k _ x2 (λ _ w. absurd (e w))

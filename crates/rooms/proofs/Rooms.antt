@@ -9,7 +9,7 @@ use lib.ListN.{length, getD, length-append}
 use lib.Dec.{eqb}
 use borrow.Author.Tests.{eqb-true, eqb-false, lt-leb, leb-true, ltb-false, not-false}
 use Rattle.rules.specs.Base.{if_then_else_, upto}
-use Rattle.rules.specs.Field.{Field}
+use Rattle.rules.specs.Field.{Field, Bytes}
 use Rattle.rules.specs.Net.{Net, netOf, spans, areaOf}
 use Rattle.rules.specs.Refusals.{refusal, regionRefusal, tooMany}
 use Rattle.rules.specs.Growth.{flagged, firstId, grown}
@@ -19,9 +19,12 @@ use Rattle.rules.specs.Merge.{place, merged}
 use Rattle.rules.specs.Numbering.{live, numberOf, numbered, regions}
 use Rattle.laws.proofs.Basics.{if-ind, All-map, pigeonhole, nonzero-in, all-at}
 use Rattle.laws.proofs.Cells.{passed}
+use Rattle.laws.proofs.Nets.{net-bytes}
 use Rattle.laws.proofs.Grows.{first-few, grown-next}
-use Rattle.rooms.specs.Rooms.{Joined, Plain, Bears, Rooms}
+use Rattle.rooms.specs.Rooms.{Plain, Bears, Rooms}
+use Rattle.rooms.specs.Linked.{Linked, LinkedRooms}
 use Rattle.rooms.proofs.Joins.{joined-map}
+use Rattle.rooms.proofs.Forward.{rooms-forward}
 use Rattle.rooms.proofs.Expanding.{Grow}
 use Rattle.rooms.proofs.Growing.{grown-grow}
 use Rattle.rooms.proofs.Listing.{under, end, records-raw}
@@ -176,7 +179,7 @@ module _ (N : Net) (first next : ℕ) (ids : List ℕ) (g : Grow N first next id
   rooms-borne zero a b = absurd (omega (arith, g .some))
   rooms-borne (suc i) a b = borne-made i (omega arith) a (all-at (Made (λ j. at rs j .id) next) front i (tally .made) (omega arith))
 
-  rooms-join : (k s t : ℕ) → Plain k → Bears ends k s → Bears ends k t → Joined N (Bears ends k) s t
+  rooms-join : (k s t : ℕ) → Plain k → Bears ends k s → Bears ends k t → Linked N (Bears ends k) s t
   rooms-join k s t p x y =
       let n = numbers k s p x in
       joined-map N (λ u q. ends-at u ∙ final-class u (λ z. n .live (sym q ∙ z)) ∙ ap suc (ap (place front) q) ∙ n .is)
@@ -196,7 +199,7 @@ module _ (N : Net) (first next : ℕ) (ids : List ℕ) (g : Grow N first next id
   unfolding ends
   bears-in k s p b = rw (← g .size, ← length-map′ (final rs (live rs [])) ids) (nonzero-in ends s (λ z. let q : k ≡ 0 = sym b ∙ z in omega arith))
 
-  pub numbered-rooms : Rooms N first (numbered rs ids .ids) (numbered rs ids .most)
+  pub numbered-rooms : LinkedRooms N first (numbered rs ids .ids) (numbered rs ids .most)
   unfolding numbered ends
   numbered-rooms =
       let m : length (live rs []) ≡ suc (length front) = ap length live-is ∙ length-append front (next ∷ []) ∙ omega arith in
@@ -215,9 +218,9 @@ module _ (N : Net) (first next : ℕ) (ids : List ℕ) (g : Grow N first next id
       }
 
 -- demand 3
-pub rooms : (F : Field) (lens : List ℕ) → refusal F lens ≡ 0 → ((s : ℕ) → s < spans (netOf F) → areaOf (netOf F) s < 256)
+pub rooms : (F : Field) (lens : List ℕ) → refusal F lens ≡ 0 → Bytes F
     → (dist : List ℕ) (most b least area : ℕ)
-    → Rooms (netOf F) (firstId b) (regions F least area (grown F dist most b .ids) (grown F dist most b .next) .ids)
+    → Rooms F (firstId b) (regions F least area (grown F dist most b .ids) (grown F dist most b .next) .ids)
     (regions F least area (grown F dist most b .ids) (grown F dist most b .next) .most)
 unfolding regions tooMany
 rooms F lens ok bytes dist most b least area =
@@ -225,11 +228,12 @@ rooms F lens ok bytes dist most b least area =
     let first = firstId b in
     let ids = grown F dist most b .ids in
     let next = grown F dist most b .next in
-    let g = grown-grow F dist most b bytes few in
-    let small : next < 0x8000 = omega (arith, grown-next F dist most b bytes few, first-few b) in
+    let nets = net-bytes F bytes in
+    let g = grown-grow F dist most b nets few in
+    let small : next < 0x8000 = omega (arith, grown-next F dist most b nets few, first-few b) in
     let rs = filtered least (records F ids next) in
     let raw = filtered-raw (netOf F) first next ids g least (records F ids next) (records-raw F first next ids g) in
-    numbered-rooms (netOf F) first next ids g small (merged area (suc (length rs)) rs) (merged-sound (netOf F) first next ids g small area (suc (length rs)) rs (raw-sound (netOf F) first next ids g small rs raw))
+    rooms-forward F lens (passed F lens ok) first _ _ (numbered-rooms (netOf F) first next ids g small (merged area (suc (length rs)) rs) (merged-sound (netOf F) first next ids g small area (suc (length rs)) rs (raw-sound (netOf F) first next ids g small rs raw)))
 
 -- the first id of a room
 pub first-is : (b : ℕ) → (b ≡ 0 → firstId b ≡ 1) × (0 < b → firstId b ≡ 5)
@@ -247,7 +251,7 @@ accepted F lens work dist most =
 
 -- demand 3 for the region entry
 pub entry-rooms : (F : Field) (lens : List ℕ) (work : ℕ) (dist : List ℕ) (most : ℕ) → regionRefusal F lens work dist most ≡ 0
-    → ((s : ℕ) → s < spans (netOf F) → areaOf (netOf F) s < 256) → (b least area : ℕ)
-    → Rooms (netOf F) (firstId b) (regions F least area (grown F dist most b .ids) (grown F dist most b .next) .ids)
+    → Bytes F → (b least area : ℕ)
+    → Rooms F (firstId b) (regions F least area (grown F dist most b .ids) (grown F dist most b .next) .ids)
     (regions F least area (grown F dist most b .ids) (grown F dist most b .next) .most)
 entry-rooms F lens work dist most e bytes b least area = rooms F lens (accepted F lens work dist most e) bytes dist most b least area

@@ -3,7 +3,7 @@ use Prim.Native.Nat.{ℕ, _≤_, _<_}
 use mathlib.Core.Path.{_≡_}
 use mathlib.Core.List.{List}
 use lib.ListN.{length, getD}
-use Rattle.rules.specs.Net.{Net, spans, near, areaOf}
+use Rattle.rules.specs.Field.{Field, spans, near, areaOf}
 
 -- an id of a room: neither 0 nor flagged
 abbrev pub Plain : ℕ → Type 0
@@ -13,20 +13,19 @@ Plain r = (0 < r) × (r < 0x8000)
 abbrev pub Bears : List ℕ → ℕ → ℕ → Type 0
 Bears ids r u = getD ids u 0 ≡ r
 
--- s and t are joined by a chain of connections, each taken forward or back, through spans of the class C, s and t among them
-pub data Joined (N : Net) (C : ℕ → Type 0) : ℕ → ℕ → Type 0 where
-  stay : {s : ℕ} → C s → Joined N C s s
-  goes : {s t : ℕ} (d : ℕ) → d < 4 → C s → Joined N C (near N s d) t → Joined N C s t
-  comes : {s t : ℕ} (u d : ℕ) → d < 4 → near N u d ≡ s → C s → Joined N C u t → Joined N C s t
+-- s and t are joined by a chain of connections through spans of the class C, s and t among them
+pub data Joined (F : Field) (C : ℕ → Type 0) : ℕ → ℕ → Type 0 where
+  stay : {s : ℕ} → C s → Joined F C s s
+  goes : {s t : ℕ} (d : ℕ) → d < 4 → C s → Joined F C (near F s d) t → Joined F C s t
 
 -- the ids of all spans, and max_region; first is the first id that a room can have: 1, or 5 with a border
-pub record Rooms (N : Net) (first : ℕ) (ids : List ℕ) (maxRegion : ℕ) : Type 0 where
-  pub size : length ids ≡ spans N
+pub record Rooms (F : Field) (first : ℕ) (ids : List ℕ) (maxRegion : ℕ) : Type 0 where
+  pub size : length ids ≡ spans F
   -- (a) "area 0 has id 0"
-  pub bare : (s : ℕ) → areaOf N s ≡ 0 → Bears ids 0 s
+  pub bare : (s : ℕ) → areaOf F s ≡ 0 → Bears ids 0 s
   -- (b) "spans with one unflagged nonzero id have one area and are joined by connections through that id"
-  pub one : (k s t : ℕ) → Plain k → Bears ids k s → Bears ids k t → areaOf N s ≡ areaOf N t
-  pub join : (k s t : ℕ) → Plain k → Bears ids k s → Bears ids k t → Joined N (Bears ids k) s t
+  pub one : (k s t : ℕ) → Plain k → Bears ids k s → Bears ids k t → areaOf F s ≡ areaOf F t
+  pub join : (k s t : ℕ) → Plain k → Bears ids k s → Bears ids k t → Joined F (Bears ids k) s t
   -- (c) "the ids in use are exactly 1 (5 with a border) to max_region - 1"
   pub used : (k s : ℕ) → Plain k → Bears ids k s → (first ≤ k) × (k < maxRegion)
-  pub borne : (k : ℕ) → first ≤ k → k < maxRegion → Plain k × ((s : ℕ) × (s < spans N) × Bears ids k s)
+  pub borne : (k : ℕ) → first ≤ k → k < maxRegion → Plain k × ((s : ℕ) × (s < spans F) × Bears ids k s)

@@ -11,12 +11,19 @@ unfoldable pub same : Field → ℕ → ℕ → ℕ
 same F s d = if eqb (areaOf F (near F s d)) (areaOf F s) then 1 else 0
 
 -- "Start at 65,535. A span with fewer than four neighbours of its own area gets 0"
+unfoldable pub startAt : Field → ℕ → ℕ
+startAt F s = if ltb (same F s 0 + same F s 1 + same F s 2 + same F s 3) 4 then 0 else 65535
+
 unfoldable pub start : Field → List ℕ
-start F = tab (spans F) 0 (λ s. if ltb (same F s 0 + same F s 1 + same F s 2 + same F s 3) 4 then 0 else 65535)
+start F = tab (spans F) 0 (startAt F)
 
 -- a span's value; where there is no span, more than any value in the list can be with the addition
 abbrev pub far : List ℕ → ℕ → ℕ
 far l s = getD l s 65535
+
+-- "the least of itself, neighbour .. plus 2, neighbour .. plus 3, neighbour .. plus 2, neighbour .. plus 3": of a span's value v and four others
+unfoldable pub leastOf : ℕ → ℕ → ℕ → ℕ → ℕ → ℕ
+leastOf v p r q t = min v (min (min (p + 2) (r + 3)) (min (q + 2) (t + 3)))
 
 -- "each span takes the least of itself," neighbour a "plus 2," neighbour a's neighbour b "plus 3," neighbour c "plus 2,"
 -- neighbour c's neighbour e "plus 3"
@@ -24,7 +31,7 @@ unfoldable pub lower : Field → ℕ → ℕ → ℕ → ℕ → ℕ → List �
 lower F a b c e s l =
     let p = near F s a in
     let q = near F s c in
-    set l s (min (far l s) (min (min (far l p + 2) (far l (near F p b) + 3)) (min (far l q + 2) (far l (near F q e) + 3))))
+    set l s (leastOf (far l s) (far l p) (far l (near F p b)) (far l q) (far l (near F q e)))
 
 -- "Pass 1 goes through rows and columns upward; .. neighbour 0 plus 2, neighbour 0's neighbour 3 plus 3, neighbour 3 plus 2,
 -- neighbour 3's neighbour 2 plus 3": the spans stand in that order

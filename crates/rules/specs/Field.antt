@@ -1,5 +1,5 @@
 -- The field as lent, and where a connection leads.
-use Prim.Native.Nat.{ℕ, suc, _+_, _*_, _-_, _/_, _%_}
+use Prim.Native.Nat.{ℕ, suc, _+_, _*_, _-_, _/_, _%_, _<_}
 use mathlib.Core.Bool.{Bool, true}
 use mathlib.Core.List.{List, [], _∷_}
 use lib.ListN.{length, getD}
@@ -54,3 +54,7 @@ corner F s d = near F (near F s d) ((d + 1) % 4)
 -- the area of a span; no span has area 256
 unfoldable pub areaOf : Field → ℕ → ℕ
 areaOf F s = getD (F .area) s 256
+
+-- "An area is a byte"
+abbrev pub Bytes : Field → Type 0
+Bytes F = (s : ℕ) → s < spans F → areaOf F s < 256

@@ -14,3 +14,4 @@ pub mod Numbering
 pub mod Outcomes
 pub mod File
 pub mod Listing
+pub mod Open

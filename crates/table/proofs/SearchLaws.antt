@@ -1,4 +1,4 @@
--- Laws of an id looked for in a list: whether it is there, and its first place.
+-- Laws of an id looked for in a list, whether it is there, and its first place; and of an entry above a limit.
 use Prim.Native.Nat.{ℕ, zero, suc, _+_, _-_, _≤_, _<_}
 use native.Mathlib.Omega.{arith}
 use native.Mathlib.Decide.{ℕ-discrete}
@@ -8,11 +8,12 @@ use mathlib.Core.Bool.{Bool, true, false, false≢true}
 use mathlib.Core.List.{List, [], _∷_}
 use lib.ListN.{drop-of-length-le, length, getD, take, drop, length-drop}
 use lib.Seq.{drop-cons, drop-drop, take-length}
-use lib.Dec.{eqb}
-use borrow.Author.Tests.{eq-eqb, ne-eqb}
+use lib.Dec.{eqb, ltb}
+use borrow.Author.Tests.{eq-eqb, ne-eqb, lt-ltb, le-ltb}
 use Rattle.rules.specs.Base.{_or_, if_then_else_, any}
 use Rattle.rules.specs.Merge.{place}
 use Rattle.rules.specs.Records.{has}
+use Rattle.laws.proofs.Basics.{any-more, any-past}
 
 -- ---- by the first entry
 
@@ -101,3 +102,17 @@ place-holds (x ∷ l) r h = elim (ℕ-discrete x r) [
   | yes q ↦ rw (place-first x l r q) q
   | no q ↦ rw (place-other x l r q) (place-holds l r (omega (arith, place-other x l r q)))
 ]
+
+-- ---------------------------------------------------------------- an entry above a limit
+
+module _ (l : List ℕ) (most i : ℕ) (e : any (ltb most) l ≡ any (ltb most) (drop i l)) where
+  pub above-here : i < length l → most < getD l i 0 → true ≡ any (ltb most) l
+  unfolding _or_
+  above-here h g = sym (e ∙ any-more (ltb most) l i h ∙ rw (lt-ltb most (getD l i 0) g) refl)
+
+  pub above-next : i < length l → getD l i 0 ≤ most → any (ltb most) l ≡ any (ltb most) (drop (i + 1) l)
+  unfolding _or_
+  above-next h g = e ∙ any-more (ltb most) l i h ∙ rw (le-ltb most (getD l i 0) g) refl
+
+  pub above-none : length l ≤ i → false ≡ any (ltb most) l
+  above-none h = sym (e ∙ any-past (ltb most) l i h)

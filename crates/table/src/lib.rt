@@ -1,6 +1,7 @@
 // The records in the workspace: what is read of them, and their tables of parts.
 mod search;
 
+pub use crate::search::any_above;
 pub use crate::search::holds;
 pub use crate::search::place;
 ghost use mathlib.Core.Path.{_≡_};
@@ -17,7 +18,7 @@ pub fn at(l: &[u16], i: usize) -> usize
 }
 
 // A number in two halves, low at a, high m further on.
-pub fn wide(ws: &[u16], m: usize, a: usize) -> usize
+fn wide(ws: &[u16], m: usize, a: usize) -> usize
     requires { ⌜ a + m < length (now ws) ⌝ }
     ensures { λ r. ⌜ (r ≡ wide (now (ws .entry)) m a) × (r < 4294967296) ⌝ }
 {
@@ -56,7 +57,7 @@ pub fn list_of(ws: &[u16], m: usize, s: usize, r: usize) -> &[u16]
 }
 
 // A number in two halves is stored.
-pub fn set_wide(ws: &mut [u16], m: usize, a: usize, v: usize)
+fn set_wide(ws: &mut [u16], m: usize, a: usize, v: usize)
     requires { ⌜ a + m < length (now ws) ⌝ }
     requires { ⌜ v < 4294967296 ⌝ }
     ensures { λ _. ⌜ now (ws .exit) ≡ set (set (now (ws .entry)) a (v % 65536)) (a + m) (v / 65536) ⌝ }

@@ -1,9 +1,9 @@
-// An id looked for in a list.
+// An id, or a number above a limit, looked for in a list.
 ghost use mathlib.Core.Path.{_≡_};
 ghost use Prim.Native.Nat.{_+_, _≤_};
 ghost use lib.ListN.{length, drop};
-ghost use lib.Dec.{eqb};
-ghost use Rattle.rules.specs.Base.{_or_};
+ghost use lib.Dec.{eqb, ltb};
+ghost use Rattle.rules.specs.Base.{_or_, any};
 ghost use Rattle.rules.specs.Merge.{place};
 ghost use Rattle.rules.specs.Records.{has};
 
@@ -64,4 +64,18 @@ pub fn place(l: &[u16], r: u16) -> usize
 {
     let k = pass_over(l, r);
     k + scan(&l[k..l.len()], r)
+}
+
+// Is an entry above most?
+pub fn any_above(l: &[u16], most: u16) -> bool
+    ensures { λ r. ⌜ r ≡ any (ltb most) (now (l .entry)) ⌝ }
+{
+    let mut i = 0;
+    while i < l.len() {
+        if most < l[i] {
+            return true;
+        }
+        i += 1;
+    }
+    false
 }

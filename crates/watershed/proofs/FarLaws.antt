@@ -1,18 +1,15 @@
--- Refusals 7 and 8 as the code tests for them: a list of distances read to its end, and the order of the tests.
+-- Refusals 7 and 8 as the code tests for them, and the order of the tests.
 -- Each test that fails gives its number, after those before it have passed.
 use Prim.Native.Nat.{ℕ, _+_, _*_, _≤_, _<_}
 use native.Mathlib.Omega.{arith}
-use mathlib.Core.Path.{_≡_, refl, sym, ap, _∙_}
+use mathlib.Core.Path.{_≡_, sym, ap, _∙_}
 use mathlib.Core.Bool.{Bool, true, false}
 use mathlib.Core.List.{List}
-use lib.ListN.{length, getD, drop, drop-of-length-le}
-use lib.Seq.{drop-cons}
 use lib.Dec.{ltb, eqb}
 use borrow.Author.Tests.{lt-ltb, le-ltb, eq-eqb, ne-eqb}
 use Rattle.rules.specs.Base.{_or_, if_then_else_, any}
 use Rattle.rules.specs.Field.{Field, spans}
 use Rattle.rules.specs.Refusals.{refusal, tooShort, tooFar, regionRefusal}
-use native.Mathlib.Numerals.{add-one}
 use Rattle.checker.specs.Answer.{numberOf, verdictNumber}
 use Rattle.checker.specs.declared.Refusal.{Refusal}
 use Rattle.checker.specs.declared.Verdict.{Verdict}
@@ -20,25 +17,6 @@ use Rattle.checker.specs.declared.Verdict.the-variants as verdict
 use Rattle.field.proofs.Passed.{reached-of}
 use Rattle.watershed.specs.Stages.{ownRefusal}
 use Rattle.watershed.proofs.Outcome.{number-pos}
-
--- ---------------------------------------------------------------- a distance above
-
-module _ (l : List ℕ) (most i : ℕ) (e : any (ltb most) l ≡ any (ltb most) (drop i l)) where
-  above-more : i < length l → any (ltb most) (drop i l) ≡ (ltb most (getD l i 0) or any (ltb most) (drop (i + 1) l))
-  unfolding any
-  above-more h = rw (drop-cons l i 0 h, add-one i)
-
-  pub above-here : i < length l → most < getD l i 0 → true ≡ any (ltb most) l
-  unfolding _or_
-  above-here h g = sym (e ∙ above-more h ∙ rw (lt-ltb most (getD l i 0) g) refl)
-
-  pub above-next : i < length l → getD l i 0 ≤ most → any (ltb most) l ≡ any (ltb most) (drop (i + 1) l)
-  unfolding _or_
-  above-next h g = e ∙ above-more h ∙ rw (le-ltb most (getD l i 0) g) refl
-
-  pub above-none : length l ≤ i → false ≡ any (ltb most) l
-  unfolding any
-  above-none h = sym (e ∙ rw (drop-of-length-le l h) refl)
 
 module _ (dist : List ℕ) (most : ℕ) where
   pub far-most : 510 < most → true ≡ tooFar dist most

@@ -1,5 +1,6 @@
 pub mod FarLaws
 pub mod Handover
+pub mod Meaning
 pub mod Outcome
 pub mod RegionOutcome
 pub mod Rooms

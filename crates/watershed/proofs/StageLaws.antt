@@ -7,7 +7,7 @@ use mathlib.Core.Path.{_≡_, refl, sym, ap, _∙_}
 use mathlib.Core.List.{List}
 use lib.ListN.{length, getD, replicate, length-replicate, getD-replicate}
 use lib.Seq.{ext-getD}
-use Rattle.rules.specs.Field.{spans, areaOf}
+use Rattle.rules.specs.Field.{Bytes, areaOf}
 use Rattle.rules.specs.Growth.{grown}
 use Rattle.rules.specs.Records.{records}
 use Rattle.rules.specs.Filter.{filtered}
@@ -35,6 +35,11 @@ all-clear k ws e z =
     ext-getD 0 ws (replicate k 0) (e ∙ sym (length-replicate k (let o : ℕ = 0 in o)))
     (λ i h. z .blank i (omega arith) (omega (arith, e, h)) ∙ sym (getD-replicate k i (let o : ℕ = 0 in o) 0 (omega (arith, e, h))))
 
+-- what is lent as areas is bytes
+pub areas-are-bytes : (w h : ℕ) (is ks ar cs : List ℕ) → ((i : ℕ) → getD ar i 0 < 256) → Bytes (lent w h is ks ar cs)
+unfolding areaOf
+areas-are-bytes w h is ks ar cs bytes s l = rw (getD-any ar s 256 0 l) (bytes s)
+
 module _ (w h : ℕ) (is ks ar cs dist ws ids : List ℕ) (a : Admitted (lent w h is ks ar cs) dist ws ids) where
   few : length ar ≤ 32000
   few = sound-reached (lent w h is ks ar cs) (a .sound) .celled .few
@@ -54,9 +59,8 @@ module _ (w h : ℕ) (is ks ar cs dist ws ids : List ℕ) (a : Admitted (lent w 
   -- after growth
   module _ (bytes : (i : ℕ) → getD ar i 0 < 256) (most border : ℕ) (ws₁ : List ℕ) (n₁ : length ws₁ ≡ length ws) (next : ℕ) (ids₂ ws₂ : List ℕ)
       (f : Full (lent w h is ks ar cs) dist most border (85 * length ar + 90) ws₁ next ids₂ ws₂) (n₂ : length ws₂ ≡ length ws₁) where
-    byte : (s : ℕ) → s < spans (lent w h is ks ar cs) → areaOf (lent w h is ks ar cs) s < 256
-    unfolding areaOf
-    byte s l = rw (getD-any ar s 256 0 l) (bytes s)
+    byte : Bytes (lent w h is ks ar cs)
+    byte = areas-are-bytes w h is ks ar cs bytes
 
     size : length ids₂ ≡ length ar
     size = ap length (f .ids) ∙ grown-grow (lent w h is ks ar cs) dist most border byte few .size

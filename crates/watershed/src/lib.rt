@@ -48,7 +48,9 @@ pub fn build_distance_field(
     raw: &mut [u16],
     blurred: &mut [u16],
 ) -> DistanceAnswer
-    ensures { λ r. ⌜ Answers (distanceOutcome (lent w h (now (index .entry)) (now (count .entry)) (now (area .entry)) (now (con .entry))) (now (raw .entry)) (now (blurred .entry))) r (now (raw .exit)) (now (blurred .exit)) ⌝ }
+    ensures { λ r. ⌜ (let F = lent w h (now (index .entry)) (now (count .entry)) (now (area .entry)) (now (con .entry)) in
+        let o = distanceOutcome F (now (raw .entry)) (now (blurred .entry)) in
+        Answers o r (now (raw .exit)) (now (blurred .exit))) ⌝ }
 {
     let width = w as usize;
     let height = h as usize;

@@ -8,37 +8,26 @@ use merge::merge_and_filter_regions;
 use numbering::Regions;
 use records::build::build_records;
 use space::clear;
+use table::any_above;
 ghost use mathlib.Core.Path.{_≡_};
 ghost use mathlib.Core.List.{[], _∷_};
 ghost use lib.ListN.{length, replicate};
 ghost use lib.Dec.{ltb};
 ghost use Rattle.rules.specs.Base.{any};
+ghost use Rattle.rules.specs.Field.{Bytes};
 ghost use Rattle.rules.specs.Refusals.{tooFar, regionRefusal};
 ghost use Rattle.rules.specs.Growth.{grown};
 ghost use Rattle.rules.specs.Numbering.{regions};
-ghost use Rattle.rules.specs.Outcomes.{regionOutcome};
+ghost use Rattle.rules.specs.Outcomes.{Sizes, regionOutcome};
 ghost use Rattle.field.specs.Lent.{lent};
 ghost use Rattle.checker.specs.Answer.{verdictNumber};
-ghost use Rattle.watershed.specs.Answer.{AnswersRegions};
+ghost use Rattle.watershed.specs.Answer.{AnswersRegions, GivesRooms};
 ghost use Rattle.watershed.specs.Stages.{Admitted, ownRefusal};
 
 // What the region entry gives: the refusal, or max_region and the overlap count.
 pub enum RegionAnswer {
     Refused(Refusal),
     Done(u16, u16),
-}
-
-fn any_above(dist: &[u16], most: u16) -> bool
-    ensures { λ r. ⌜ r ≡ any (ltb most) (now (dist .entry)) ⌝ }
-{
-    let mut i = 0;
-    while i < dist.len() {
-        if most < dist[i] {
-            return true;
-        }
-        i += 1;
-    }
-    false
 }
 
 // Refusal 8.
@@ -77,7 +66,8 @@ fn check_regions(
     work: usize,
     own: usize,
 ) -> Verdict
-    ensures { λ r. ⌜ verdictNumber r ≡ regionRefusal (lent w h (now (index .entry)) (now (count .entry)) (now (area .entry)) (now (con .entry))) (length (now (dist .entry)) ∷ own ∷ []) work (now (dist .entry)) «max_distance» ⌝ }
+    ensures { λ r. ⌜ (let F = lent w h (now (index .entry)) (now (count .entry)) (now (area .entry)) (now (con .entry)) in
+        verdictNumber r ≡ regionRefusal F (length (now (dist .entry)) ∷ own ∷ []) work (now (dist .entry)) «max_distance») ⌝ }
 {
     match check(w, h, index, count, area, con, dist.len(), own) {
         Verdict::Refused(r) => Verdict::Refused(r),
@@ -107,7 +97,12 @@ fn find_regions(
     ids: &mut [u16],
 ) -> Regions
     requires { ⌜ Admitted (lent w h (now index) (now count) (now area) (now con)) (now dist) (now ws) (now ids) ⌝ }
-    ensures { λ r. ⌜ (let g = grown (lent w h (now (index .entry)) (now (count .entry)) (now (area .entry)) (now (con .entry))) (now (dist .entry)) «max_distance» «border_size» in record { ids = now (ids .exit); most = r .«max_region»; over = r .overlaps } ≡ regions (lent w h (now (index .entry)) (now (count .entry)) (now (area .entry)) (now (con .entry))) «min_region_area» «merge_region_area» (g .ids) (g .next)) × (now (ws .exit) ≡ replicate (length (now (ws .entry))) 0) ⌝ }
+    ensures { λ r. ⌜ (let F = lent w h (now (index .entry)) (now (count .entry)) (now (area .entry)) (now (con .entry)) in
+        let g = grown F (now (dist .entry)) «max_distance» «border_size» in
+        record { ids = now (ids .exit); most = r .«max_region»; over = r .overlaps }
+        ≡ regions F «min_region_area» «merge_region_area» (g .ids) (g .next)) ⌝ }
+    ensures { λ _. ⌜ now (ws .exit) ≡ replicate (length (now (ws .entry))) 0 ⌝ }
+    ensures bytes { λ _. ⌜ Bytes (lent w h (now (index .entry)) (now (count .entry)) (now (area .entry)) (now (con .entry))) ⌝ }
 {
     let n = area.len();
     let b = 85 * n + 90;
@@ -150,7 +145,12 @@ pub fn build_regions(
     workspace: &mut [u16],
     ids: &mut [u16],
 ) -> RegionAnswer
-    ensures { λ r. ⌜ AnswersRegions (regionOutcome (lent w h (now (index .entry)) (now (count .entry)) (now (area .entry)) (now (con .entry))) (now (dist .entry)) «max_distance» (record { border = «border_size»; least = «min_region_area»; merge = «merge_region_area» }) (now (workspace .entry)) (now (ids .entry))) r (now (workspace .exit)) (now (ids .exit)) ⌝ }
+    ensures { λ r. ⌜ (let F = lent w h (now (index .entry)) (now (count .entry)) (now (area .entry)) (now (con .entry)) in
+        let z : Sizes = record { border = «border_size»; least = «min_region_area»; merge = «merge_region_area» } in
+        let o = regionOutcome F (now (dist .entry)) «max_distance» z (now (workspace .entry)) (now (ids .entry)) in
+        AnswersRegions o r (now (workspace .exit)) (now (ids .exit))) ⌝ }
+    ensures rooms { λ r. ⌜ (let F = lent w h (now (index .entry)) (now (count .entry)) (now (area .entry)) (now (con .entry)) in
+        GivesRooms F «border_size» r (now (ids .exit))) ⌝ }
 {
     let width = w as usize;
     let height = h as usize;

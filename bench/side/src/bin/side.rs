@@ -1,13 +1,14 @@
 //! side levels|growing FOLDER: writes the levels. side gussetraft|checker|rust distance|regions FILE: runs the distance entry, or both, on one.
+//! side time FILE [LIBRARY]: the least times of all on one, C++ Recast being in that library.
 
 use side::{
     measured::{compare, mark, read_level, write_levels},
     run::{self, Entries},
+    timed::{self, Recast},
 };
 use std::env;
 
-const USAGE: &str =
-    "side levels|growing FOLDER, or side gussetraft|checker|rust distance|regions FILE";
+const USAGE: &str = "side levels|growing FOLDER, side gussetraft|checker|rust distance|regions FILE, or side time FILE [LIBRARY]";
 
 fn main() {
     let words: Vec<_> = env::args().skip(1).collect();
@@ -15,6 +16,17 @@ fn main() {
     match words[..] {
         ["levels", folder] => write_levels(folder, false),
         ["growing", folder] => write_levels(folder, true),
+        ["time", path] => println!(
+            "{}",
+            timed::line(&timed::times(&read_level(path), path, None))
+        ),
+        ["time", path, library] => {
+            let recast = Recast::load(library);
+            println!(
+                "{}",
+                timed::line(&timed::times(&read_level(path), path, Some(&recast)))
+            );
+        }
         [who, entries, path] => {
             let entries = match entries {
                 "distance" => Entries::Distance,

@@ -1,6 +1,6 @@
 -- The entry's answer is the outcome, and its numbers are taken apart unchanged.
 -- Assumes nothing.
-use Rattle.gussetraft.proofs.Apart.{gives-regions}
+use Rattle.gussetraft.proofs.Apart.{gives-regions, leaves-rooms}
 use borrow.Author.Needs.{needs}
 use Rattle.gussetraft.proofs.gussetraft_build_regions.Statement.{statement}
 use Rattle.gussetraft.proofs.gussetraft_build_regions.Tie as tie
@@ -18,7 +18,7 @@ same-length-2 : tie.Need-same-length-2
 same-length-2 c = search needs
 
 returns : tie.Need-returns
-returns c = search gives-regions
+returns c = (search gives-regions, search leaves-rooms)
 
 pub gussetraft-build-regions-spec : {M : Type 1} → statement M
 gussetraft-build-regions-spec =

@@ -1,6 +1,8 @@
 -- The two arms are the two cases of the outcome. A sound verdict gives what the stages require; a refusal is given before anything is written.
 -- Assumes nothing.
+use denote.Ref.{now}
 use Rattle.watershed.proofs.RegionOutcome.{regions-refused, admitted, regions-done}
+use Rattle.watershed.proofs.Rooms.{refused-no-rooms, done-gives-rooms}
 use borrow.Author.Needs.{needs}
 use Rattle.watershed.proofs.regions.build_regions.Statement.{statement}
 use Rattle.watershed.proofs.regions.build_regions.Tie as tie
@@ -20,7 +22,7 @@ find-regions-requires c κs =
     admitted _ _ _ _ _ (t .before .before .check-regions .result) (t .before .before .check-regions .ensures) (t .enum-told .given .1)
 
 returns : tie.Need-returns
-returns c = search (needs, regions-refused)
+returns c = (search (needs, regions-refused), search (needs, refused-no-rooms))
 
 same-length : tie.Need-same-length
 same-length c = search needs
@@ -29,7 +31,12 @@ same-length-2 : tie.Need-same-length-2
 same-length-2 c = search needs
 
 returns-2 : tie.Need-returns-2
-returns-2 c = search (needs, regions-done)
+returns-2 c =
+    let f = c .before .before .before .before in
+    let t = f .before .before .before in
+    let e = f .find-regions .ensures in
+    let s = t .before .before .before .before .before .before .before .before .before .before in
+    (search (needs, regions-done), done-gives-rooms _ _ _ (now (s .args .workspace)) (now (s .args .ids)) _ (t .before .before .check-regions .ensures) (t .enum-told .given .1) _ _ _ _ _ (e .0) (e .1 .0) (e .1 .1))
 
 pub build-regions-spec : {M : Type 1} → statement M
 build-regions-spec =

@@ -6,7 +6,7 @@ use mathlib.Core.Path.{_∙_, ap}
 use borrow.Author.Needs.{needs}
 use lib.ListN.{getD, replicate}
 use denote.Ref.{now}
-use Rattle.watershed.proofs.StageLaws.{poised, some-given, blank, ready, whole, all-clear}
+use Rattle.watershed.proofs.StageLaws.{areas-are-bytes, poised, some-given, blank, ready, whole, all-clear}
 use Rattle.watershed.proofs.regions.find_regions.Statement.{statement}
 use Rattle.watershed.proofs.regions.find_regions.Tie as tie
 
@@ -110,8 +110,11 @@ returns c =
     let s = S (i .before) in (
       whole _ _ _ _ _ _ _ _ _ (s .pre) (bytes (i .before)) _ _ _ (k .clear-part .kept .0) _ _ _ (g .grow .ensures) (g .grow .kept .1 .1 .1 .1 .1 .1 .1 .1 .0) _ (r .build-records .ensures) _ _ _
           (m .merge-and-filter-regions .ensures),
-      all-clear _ _ (x .clear-part2 .kept .0) (x .clear-part2 .ensures .0)
-          ∙ ap (λ (l : ℕ). replicate l 0) (m .merge-and-filter-regions .kept .0 ∙ r .build-records .ensures .size ∙ g .grow .kept .1 .1 .1 .1 .1 .1 .1 .1 .0 ∙ k .clear-part .kept .0),
+      (
+        all-clear _ _ (x .clear-part2 .kept .0) (x .clear-part2 .ensures .0)
+            ∙ ap (λ (l : ℕ). replicate l 0) (m .merge-and-filter-regions .kept .0 ∙ r .build-records .ensures .size ∙ g .grow .kept .1 .1 .1 .1 .1 .1 .1 .1 .0 ∙ k .clear-part .kept .0),
+        areas-are-bytes _ _ _ _ _ _ (bytes (i .before)),
+      ),
     )
 
 pub find-regions-spec : {M : Type 1} → statement M

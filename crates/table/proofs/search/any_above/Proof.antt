@@ -1,20 +1,20 @@
--- `watershed::regions::any_above` meets its contract. The loop's invariant: the rest of the list answers for the whole, since no distance so far is above.
+-- `table::search::any_above` meets its contract. The loop's invariant: the rest of the list answers for the whole, since no entry so far is above.
 -- Assumes nothing.
 use Prim.Native.Nat.{_≤_, _-_}
 use mathlib.Core.Path.{_≡_, refl}
 use lib.ListN.{length, drop}
 use lib.Dec.{ltb}
 use Rattle.rules.specs.Base.{any}
-use Rattle.watershed.proofs.FarLaws.{above-here, above-next, above-none}
+use Rattle.table.proofs.SearchLaws.{above-here, above-next, above-none}
 use borrow.Author.Needs.{needs}
-use Rattle.watershed.proofs.regions.any_above.Statement.{statement}
-use Rattle.watershed.proofs.regions.any_above.Tie as tie
+use Rattle.table.proofs.search.any_above.Statement.{statement}
+use Rattle.table.proofs.search.any_above.Tie as tie
 
 abbrev Inv-loop : tie.InvT-loop
-Inv-loop dist most i₀ i = (i ≤ length dist) × (any (ltb most) dist ≡ any (ltb most) (drop i dist))
+Inv-loop l most i₀ i = (i ≤ length l) × (any (ltb most) l ≡ any (ltb most) (drop i l))
 
 abbrev μ-loop : tie.MeasureT-loop
-μ-loop dist most i₀ i = length dist - i
+μ-loop l most i₀ i = length l - i
 
 loop-holds : tie.Need-loop-holds Inv-loop μ-loop
 loop-holds c = (search needs, refl)

@@ -1,4 +1,4 @@
--- `pool::lists::fill` meets its contract. The loop's invariant: v up to i, then the list as it was. At the end i is the length.
+-- `space::fill` meets its contract. The loop's invariant: v up to i, then the list as it was. At the end i is the length.
 use lib.Seq.{drop-length}
 use borrow.Author.Fill.{fill-none, fill-more}
 use denote.Ref.{now}
@@ -8,8 +8,8 @@ use mathlib.Core.Path.{_≡_, refl, ap, _∙_}
 use Prim.Native.Nat.{ℕ, _+_, _-_, _≤_}
 use borrow.Author.Needs.{needs}
 use native.Mathlib.Omega.{arith}
-use Rattle.pool.proofs.lists.fill.Statement.{statement}
-use Rattle.pool.proofs.lists.fill.Tie as tie
+use Rattle.space.proofs.fill.Statement.{statement}
+use Rattle.space.proofs.fill.Tie as tie
 
 abbrev Inv-loop : tie.InvT-loop
 Inv-loop l₀ v i₀ l i = (i ≤ length l₀) × (length l ≡ length l₀) × (l ≡ replicate i v ++ drop i l₀)

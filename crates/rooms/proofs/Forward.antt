@@ -4,15 +4,14 @@ use Prim.Native.Nat.{ℕ, _+_, _%_, _<_}
 use native.Mathlib.Omega.{arith}
 use mathlib.Core.Path.{_≡_, sym, _∙_}
 use mathlib.Core.List.{List}
-use lib.ListN.{length, getD}
 use Rattle.rules.specs.Field.{Field, none}
 use Rattle.rules.specs.Field as field
 use Rattle.rules.specs.Net.{netOf, near, areaOf}
 use Rattle.laws.proofs.Basics.{nonzero-in}
 use Rattle.laws.proofs.Cells.{Passed}
 use Rattle.laws.proofs.Nets.{near-net, linked}
-use Rattle.laws.proofs.Strides.{Answered, answered}
-use Rattle.rooms.specs.Rooms.{Plain, Bears, Joined, Rooms}
+use Rattle.laws.proofs.Strides.{answered}
+use Rattle.rooms.specs.Rooms.{Bears, Joined, Rooms}
 use Rattle.rooms.specs.Rooms as room
 use Rattle.rooms.specs.Linked.{Linked, stay, goes, comes, LinkedRooms}
 

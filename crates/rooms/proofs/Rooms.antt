@@ -10,7 +10,7 @@ use lib.Dec.{eqb}
 use borrow.Author.Tests.{eqb-true, eqb-false, lt-leb, leb-true, ltb-false, not-false}
 use Rattle.rules.specs.Base.{if_then_else_, upto}
 use Rattle.rules.specs.Field.{Field, Bytes}
-use Rattle.rules.specs.Net.{Net, netOf, spans, areaOf}
+use Rattle.rules.specs.Net.{Net, netOf, spans}
 use Rattle.rules.specs.Refusals.{refusal, regionRefusal, tooMany}
 use Rattle.rules.specs.Growth.{flagged, firstId, grown}
 use Rattle.rules.specs.Records.{Rec, at, has, records}

@@ -1,5 +1,5 @@
 -- The net as it is lent: areas as a list of their own, and the table of neighbours in the workspace, from a place on.
-use Prim.Native.Nat.{ℕ, _+_, _*_, _≤_, _<_}
+use Prim.Native.Nat.{ℕ, _+_, _*_, _%_, _≤_, _<_}
 use mathlib.Core.Path.{_≡_}
 use mathlib.Core.List.{List}
 use lib.ListN.{length, getD}
@@ -23,6 +23,11 @@ mostSpans = 32000
 pub record Closed (N : Net) : Type 0 where
   pub few : spans N ≤ mostSpans
   pub inside : (s d : ℕ) → s < spans N → d < 4 → (near N s d ≡ none → ⊥) → near N s d < spans N
+
+-- connections are mutual: back from a neighbour, two directions on, is where it is a neighbour of
+pub record Mutual (N : Net) : Type 0 where
+  pub closed : Closed N
+  pub back : (s d : ℕ) → s < spans N → d < 4 → (near N s d ≡ none → ⊥) → near N (near N s d) ((d + 2) % 4) ≡ s
 
 -- the four connections of span s, of which those are none where it has no neighbour
 pub record Opens (N : Net) (s : ℕ) (cons : List ℕ) : Type 0 where

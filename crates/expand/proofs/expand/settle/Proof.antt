@@ -1,12 +1,12 @@
 -- Flags are zeroed while the entries stand, then the stack is marked, and the changes are zeroed (Ends).
 -- Assumes nothing.
 use borrow.Author.Needs.{needs}
-use Rattle.expand.proofs.Ends.{dim-part, dim-entries, settled}
+use Rattle.expand.proofs.Ends.{dim-flags, dim-apart, dim-part, dim-entries, settled}
 use Rattle.expand.proofs.expand.settle.Statement.{statement}
 use Rattle.expand.proofs.expand.settle.Tie as tie
 
 flag-all-requires : tie.Need-flag-all-requires
-flag-all-requires c κs = search needs
+flag-all-requires c κs = (search (needs, dim-flags), search (needs, dim-apart), search needs)
 
 use-up-requires : tie.Need-use-up-requires
 use-up-requires c κs = (search (needs, dim-part), search (needs, dim-entries))

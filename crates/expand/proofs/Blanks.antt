@@ -11,12 +11,11 @@ use native.Mathlib.Decide.{ℕ-discrete, decLt}
 use lib.ListN.{length, getD, set, drop, replicate, length-set, length-drop, length-replicate}
 use lib.Seq.{ext-getD, getD-drop, getD-set-same, getD-set-other, take-set-le}
 use borrow.Author.Tests.{eq-eqb, ne-eqb}
-use borrow.Rule.Slice.PartMut.{putMid, midOf, same-len-mid}
 use Rattle.rules.specs.Base.{_and_, if_then_else_, tab, keep}
 use Rattle.rules.specs.Growth.{walkable, Spread, expand, blank}
 use Rattle.laws.proofs.Basics.{and-no, getD-any}
-use Rattle.space.specs.Space.{sec, Frame}
-use Rattle.space.proofs.Laws.{cases, frame-put, getD-after, length-sec, zeroed}
+use Rattle.space.specs.Space.{sec, Frame, Clear}
+use Rattle.space.proofs.Laws.{cases, getD-after}
 use Rattle.net.specs.Table.{netAt, Mutual}
 use Rattle.net.proofs.Tables.{net-same}
 use Rattle.flood.specs.Stack.{marksAt}
@@ -190,23 +189,8 @@ module _ (ar : List ℕ) (e b : ℕ) (ids ws ws₁ : List ℕ) (fill : ℕ) (v :
     filled-room : length ar + fill ≤ length ws₁
     filled-room = omega (arith, v .few, v .size, g .sizes .apart, g .sizes .past, g .sizes .room)
 
-    module _ (ids₂ ws₂ ys : List ℕ) (k : Kept (length ar) (length ar) fill ws₁ ws₂)
-        (q : ys ≡ replicate (length (midOf (length ar) (length ar + fill - length ar) ws₂)) 0) where
-      abbrev ws₃ : List ℕ
-      ws₃ = putMid (length ar) (length ar + fill - length ar) ws₂ ys
-
-      cleared-size : length ar + fill ≤ length ws₂
-      cleared-size = omega (arith, filled-room, k .size)
-
-      cleared-by : ys ≡ replicate (length ar + fill - length ar) 0
-      cleared-by = q ∙ ap (λ (x : ℕ). replicate x 0) (length-sec (length ar) (length ar + fill - length ar) ws₂ (omega (arith, cleared-size)))
-
-      cleared-length : length ys ≡ length ar + fill - length ar
-      cleared-length = ap length cleared-by ∙ length-replicate (length ar + fill - length ar) (let z : ℕ = 0 in z)
-
-      cleared : Frame (length ar) (length ar + fill) ws₂ ws₃
-      cleared = frame-put (length ar) (length ar + fill) ws₂ ys (omega arith) cleared-size cleared-length
-
+    module _ (ids₂ ws₂ : List ℕ) (k : Kept (length ar) (length ar) fill ws₁ ws₂) (ws₃ : List ℕ) (size : length ws₃ ≡ length ws₂)
+        (q : Clear (length ar) (length ar + fill) ws₃) (cleared : Frame (length ar) (length ar + fill) ws₂ ws₃) where
       cleared-marks : marksAt (length ar) ids₂ ws₃ ≡ marksAt (length ar) ids₂ ws₂
       cleared-marks = marks-same (length ar) ids₂ ws₂ ws₃ (cleared .before)
 
@@ -219,13 +203,8 @@ module _ (ar : List ℕ) (e b : ℕ) (ids ws ws₁ : List ℕ) (fill : ℕ) (v :
       pub last-low : Given (length ar) (length ar) e b fill ids₂ ws₂ → Low (length ar) (marksAt (length ar) ids₂ ws₃)
       last-low r = rw cleared-marks (r .low)
 
-      cleared-at : (x : ℕ) → length ar ≤ x → x < length ar + fill → getD ws₃ x 0 ≡ 0
-      cleared-at x l u = rw cleared-by (zeroed (length ar) (length ar + fill - length ar) x ws₂ (omega (arith, cleared-size)) l (omega arith))
-
-      pub last-size : length ws₃ ≡ length ws
-      last-size =
-          same-len-mid (length ar) (length ar + fill - length ar) ws₂ ys (cleared-length ∙ sym (length-sec (length ar) (length ar + fill - length ar) ws₂ (omega (arith, cleared-size))))
-          ∙ k .size ∙ v .size
+      last-size : length ws₃ ≡ length ws
+      last-size = size ∙ k .size ∙ v .size
 
       pub last-kept : drop (length ar) ws₃ ≡ drop (length ar) ws
       last-kept =
@@ -234,6 +213,6 @@ module _ (ar : List ℕ) (e b : ℕ) (ids ws ws₁ : List ℕ) (fill : ℕ) (v :
         where
           at : (x : ℕ) → length ar ≤ x → getD ws₃ x 0 ≡ getD ws x 0
           at x l = elim (decLt x (length ar + fill)) [
-            | yes u ↦ cleared-at x l u ∙ sym (g .stack .blank x l (omega (arith, v .few)))
+            | yes u ↦ q .blank x l u ∙ sym (g .stack .blank x l (omega (arith, v .few)))
             | no u ↦ getD-after x cleared (omega arith) ∙ k .same x l (inr (omega arith)) ∙ v .unseen x (omega arith)
           ]

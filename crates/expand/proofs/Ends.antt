@@ -7,21 +7,20 @@ use Prim.Native.Nat.{ℕ, _+_, _-_, _*_, _≤_, _<_}
 use native.Mathlib.Omega.{arith}
 use native.Mathlib.Numerals.{add-one}
 use native.Mathlib.Decide.{ℕ-discrete, decLt}
-use lib.ListN.{length, getD, take, replicate, length-replicate}
+use lib.ListN.{length, getD, take}
 use lib.Seq.{ext-getD, getD-take, length-take-le}
 use borrow.Author.Tests.{eq-eqb, ne-eqb}
-use borrow.Rule.Slice.PartMut.{putMid, midOf, same-len-mid}
 use Rattle.rules.specs.Base.{if_then_else_}
 use Rattle.rules.specs.Field.{none}
 use Rattle.rules.specs.Net.{Net}
 use Rattle.rules.specs.Growth.{rounds, expand}
 use Rattle.laws.proofs.Basics.{All, map-all}
-use Rattle.space.specs.Space.{sec, Frame}
-use Rattle.space.proofs.Laws.{frame-put, getD-after, length-sec, zeroed}
+use Rattle.space.specs.Space.{sec, Frame, Clear}
+use Rattle.space.proofs.Laws.{getD-before, getD-after}
 use Rattle.net.specs.Table.{netAt, Mutual}
 use Rattle.net.proofs.Tables.{net-same}
 use Rattle.flood.specs.Stack.{marksAt}
-use Rattle.expand.specs.Layout.{fresh, mostAt, listAt, Sizes, Past, Entries, Low, Clear, Kept, Given, Unheld, Ok, Using}
+use Rattle.expand.specs.Layout.{fresh, mostAt, listAt, Sizes, Past, Entries, Low, Kept, Given, Unheld, Ok, Using}
 use Rattle.expand.specs.Front.{Up, Entry, Flagging, frontOf, Lit, Gone, Settled}
 use Rattle.expand.proofs.Lists.{listAt-cong, length-listAt, listAt-sec, all-at, all-of, marks-same}
 use Rattle.expand.proofs.Sources.{fresh-unheld}
@@ -192,40 +191,22 @@ module _ (n a e fill k : ℕ) (ids ws ws₁ : List ℕ) (i : length ids ≡ n) (
     pub dim-end : e + 3 * k ≤ length ws₂
     dim-end = omega (arith, o .room, dimmed .size, y .size)
 
-    module _ (ys : List ℕ) (q : ys ≡ replicate (length (midOf e (e + 3 * k - e) ws₂)) 0) where
-      abbrev ws₃ : List ℕ
-      ws₃ = putMid e (e + 3 * k - e) ws₂ ys
-
-      wiped : ys ≡ replicate (e + 3 * k - e) 0
-      wiped = q ∙ ap (λ (x : ℕ). replicate x 0) (length-sec e (e + 3 * k - e) ws₂ (omega (arith, dim-end)))
-
-      wiped-length : length ys ≡ e + 3 * k - e
-      wiped-length = ap length wiped ∙ length-replicate (e + 3 * k - e) (let z : ℕ = 0 in z)
-
-      wiped-frame : Frame e (e + 3 * k) ws₂ ws₃
-      wiped-frame = frame-put e (e + 3 * k) ws₂ ys (omega arith) dim-end wiped-length
-
-      before : (x : ℕ) → x < e → getD ws₃ x 0 ≡ getD ws₂ x 0
-      before x l = sym (getD-take e ws₃ x 0 l) ∙ ap (λ (t : List ℕ). getD t x 0) (wiped-frame .before) ∙ getD-take e ws₂ x 0 l
-
-      after : (x : ℕ) → e + 3 * k ≤ x → getD ws₃ x 0 ≡ getD ws₂ x 0
-      after x l = getD-after x wiped-frame l
-
+    module _ (ws₃ : List ℕ) (size : length ws₃ ≡ length ws₂) (q : Clear e (e + 3 * k) ws₃) (wiped : Frame e (e + 3 * k) ws₂ ws₃) where
       flag-is : (x : ℕ) → getD ws₃ (e + 3 * n + x) 0 ≡ getD ws₁ (e + 3 * n + x) 0
-      flag-is x = after (e + 3 * n + x) (omega arith) ∙ y .unseen (e + 3 * n + x) (inr (omega (arith, es .filled)))
+      flag-is x = getD-after (e + 3 * n + x) wiped (omega arith) ∙ y .unseen (e + 3 * n + x) (inr (omega (arith, es .filled)))
 
       size₃ : length ws₃ ≡ length ws
-      size₃ = same-len-mid e (e + 3 * k - e) ws₂ ys (wiped-length ∙ sym (length-sec e (e + 3 * k - e) ws₂ (omega (arith, dim-end)))) ∙ y .size ∙ dimmed .size
+      size₃ = size ∙ y .size ∙ dimmed .size
 
       pub settled : Settled n a e fill k ids ws ws₃
       settled = record {
         size = size₃;
         marks = take-same n ws ws₃ (omega (arith, p .low, p .room)) size₃
-            (λ x l. before x (omega (arith, o .low)) ∙ y .unseen x (inl (omega (arith, p .low))) ∙ dimmed .same x (inl (omega (arith, o .low))));
-        stack = listAt-cong ws₂ ws₃ a fill (λ x l u. before x (omega (arith, es .filled))) ∙ used-stack (length ids) a fill ids ws₁ ws₂ y
+            (λ x l. getD-before x wiped (omega (arith, o .low)) ∙ y .unseen x (inl (omega (arith, p .low))) ∙ dimmed .same x (inl (omega (arith, o .low))));
+        stack = listAt-cong ws₂ ws₃ a fill (λ x l u. getD-before x wiped (omega (arith, es .filled))) ∙ used-stack (length ids) a fill ids ws₁ ws₂ y
             ∙ ap (λ (t : List ℕ). map (fresh ids) t) (listAt-cong ws ws₁ a fill dim-stack);
-        queue = λ x l u. rw wiped (zeroed e (e + 3 * k - e) x ws₂ (omega (arith, dim-end)) l (omega arith));
-        rest = λ x s t u. ⊎-elim (λ (l : x < e). before x l) (λ (l : e + 3 * k ≤ x). after x l) t ∙ y .unseen x s ∙ dimmed .same x (⊎-elim (λ (l : x < e + 3 * n). inl l) (λ (l : e + 4 * n ≤ x). inr (omega arith)) u);
+        queue = q .blank;
+        rest = λ x s t u. ⊎-elim (λ (l : x < e). getD-before x wiped l) (λ (l : e + 3 * k ≤ x). getD-after x wiped l) t ∙ y .unseen x s ∙ dimmed .same x (⊎-elim (λ (l : x < e + 3 * n). inl l) (λ (l : e + 4 * n ≤ x). inr (omega arith)) u);
         down = λ j l u. flag-is (getD ws (a + j) 0) ∙ dimmed .done j l u;
         else = λ x l. ⊎-elim (λ (t : getD ws₁ (e + 3 * n + x) 0 ≡ getD ws (e + 3 * n + x) 0). inl (flag-is x ∙ t)) (λ (t : Entry ws a fill x). inr t) (dimmed .else x l);
       }

@@ -247,7 +247,7 @@ module _ (ar : List ℕ) (a e b fill : ℕ) (ids ws : List ℕ) (lo hi : ℕ) (N
       tried d g z =
           let c = change-queued N (length ar) a e fill ids ws lo hi v o room few (near N s d) z in
           let q = c .1 in
-          let r = x .back s d (rw sized h) g (λ p. omega (arith, c .0)) in
+          let r = x .answered .back s d (rw sized h) g (λ p. omega (arith, c .0)) in
           let j : getD ws₁ (e + 3 * q .at) 0 ≡ near N s d = u .kept (e + 3 * q .at) (omega arith) ∙ q .is in
           (rw (j, q₁, r) at (t .tried (q .at) (q .from) (q .to) .tried ((d + 2) % 4) (omega arith) .cold)) h y
 

@@ -13,6 +13,7 @@ use Rattle.rules.specs.Net.{Net}
 use Rattle.rules.specs.Growth.{Marks, Taken, put, walkable, finds, Spread}
 use Rattle.laws.proofs.Basics.{All}
 use Rattle.laws.proofs.NextId.{zeros}
+use Rattle.space.specs.Space.{Clear}
 use Rattle.net.specs.Table.{netAt, lastPlace, mostSpans, Closed}
 use Rattle.flood.specs.Stack.{marksAt}
 use Rattle.expand.specs.declared.look.Taken as code
@@ -105,10 +106,6 @@ pub record Entries (n a fill : ℕ) (ws : List ℕ) : Type 0 where
 -- no source distance passes twice the number of spans that have an id; so it and 2 more stay in 16 bits
 pub record Low (n : ℕ) (m : Marks) : Type 0 where
   pub bound : (x : ℕ) → getD (m .src) x 0 + 2 * zeros (m .ids) ≤ 2 * n
-
--- zeros at i .. z
-pub record Clear (i z : ℕ) (ws : List ℕ) : Type 0 where
-  pub blank : (x : ℕ) → i ≤ x → x < z → getD ws x 0 ≡ 0
 
 -- but for source distances and the stack all is as it was
 pub record Kept (n a fill : ℕ) (ws ws′ : List ℕ) : Type 0 where

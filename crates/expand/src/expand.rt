@@ -6,7 +6,7 @@ use field::place::NO_SPAN;
 use field::read::at8;
 use field::read::at16;
 use net::Sections;
-use space::clear;
+use space::clear_part;
 ghost use mathlib.Core.Path.{_≡_};
 ghost use Prim.Native.Nat.{_+_, _*_, _<_, _≤_};
 ghost use lib.ListN.{length, getD, set, drop};
@@ -72,10 +72,9 @@ fn settle(ids: &[u16], ws: &mut [u16], n: usize, at: Sections, stack: Stack, k: 
     requires { ⌜ Entries n (stack .at) (stack .fill) (now ws) ⌝ }
     ensures { λ _. ⌜ Settled n (stack .at) (at .changes) (stack .fill) k (now (ids .entry)) (now (ws .entry)) (now (ws .exit)) ⌝ }
 {
-    let changes = at.changes;
     flag_all(ws, n, at.stack, stack, 0);
     use_up(ids, ws, stack);
-    clear(&mut ws[changes..changes + 3 * k]);
+    clear_part(ws, at.changes, at.changes + 3 * k);
 }
 
 // Expands the stack at a level.
@@ -152,6 +151,6 @@ pub fn expand_last(area: &[u8], ids: &mut [u16], ws: &mut [u16], at: Sections) -
     let n = area.len();
     let fill = fill_stack(area, ids, ws);
     expand_regions(area, ids, ws, at, Stack { at: n, fill }, 0);
-    clear(&mut ws[n..n + fill]);
+    clear_part(ws, n, n + fill);
     fill
 }

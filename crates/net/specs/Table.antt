@@ -1,10 +1,11 @@
 -- The net as it is lent: areas as a list of their own, and the table of neighbours in the workspace, from a place on.
-use Prim.Native.Nat.{ℕ, _+_, _*_, _%_, _≤_, _<_}
+use Prim.Native.Nat.{ℕ, _+_, _*_, _≤_, _<_}
 use mathlib.Core.Path.{_≡_}
 use mathlib.Core.List.{List}
 use lib.ListN.{length, getD}
 use Rattle.rules.specs.Field.{none}
 use Rattle.rules.specs.Net.{Net, spans, near}
+use Rattle.laws.proofs.Strides.{Answered}
 use Rattle.field.specs.Lent.{consAt}
 use Rattle.space.specs.Space.{sec}
 
@@ -24,10 +25,10 @@ pub record Closed (N : Net) : Type 0 where
   pub few : spans N ≤ mostSpans
   pub inside : (s d : ℕ) → s < spans N → d < 4 → (near N s d ≡ none → ⊥) → near N s d < spans N
 
--- connections are mutual: back from a neighbour, two directions on, is where it is a neighbour of
+-- and connections are mutual
 pub record Mutual (N : Net) : Type 0 where
   pub closed : Closed N
-  pub back : (s d : ℕ) → s < spans N → d < 4 → (near N s d ≡ none → ⊥) → near N (near N s d) ((d + 2) % 4) ≡ s
+  pub answered : Answered N
 
 -- the four connections of span s, of which those are none where it has no neighbour
 pub record Opens (N : Net) (s : ℕ) (cons : List ℕ) : Type 0 where

@@ -11,23 +11,11 @@ fill-stack-requires c κs = search needs
 expand-regions-requires : tie.Need-expand-regions-requires
 expand-regions-requires c κs = ((search (needs, filled-mutual), search needs), search (needs, filled-given))
 
-add-clear : tie.Need-add-clear
-add-clear c = search needs
+add-clear-part : tie.Need-add-clear-part
+add-clear-part c = search needs
 
-mul-clear : tie.Need-mul-clear
-mul-clear c = search needs
-
-sub-clear : tie.Need-sub-clear
-sub-clear c = search needs
-
-part-clear-start : tie.Need-part-clear-start
-part-clear-start c = search needs
-
-part-clear-end : tie.Need-part-clear-end
-part-clear-end c = search needs
-
-clear-requires : tie.Need-clear-requires
-clear-requires c κs = search needs
+clear-part-requires : tie.Need-clear-part-requires
+clear-part-requires c κs = search needs
 
 same-length : tie.Need-same-length
 same-length c = search needs
@@ -43,13 +31,14 @@ returns c =
     let s = f .before .before .before .before .before .before in
     let q = r .expand-regions .ensures in
     let v = f .fill-stack .ensures in
-    let k = l .clear .ensures in (
-      last-view _ _ _ _ _ _ _ v (s .pre .1) _ _ _ (q .1 .0) k (q .0),
+    let z = l .clear-part .kept .0 in
+    let k = l .clear-part .ensures in (
+      last-view _ _ _ _ _ _ _ v (s .pre .1) _ _ (q .1 .0) _ z (k .0) (k .1) (q .0),
       (
         last-count _ (s .args .at .changes) (s .args .at .table) _ _ _ _ v,
         (
-          last-kept _ _ _ _ _ _ _ v (s .pre .1) (r .expand-regions .last .1 .0) _ _ (q .1 .0) k,
-          last-low _ _ _ _ _ _ _ v (s .pre .1) _ _ _ (q .1 .0) k (q .1 .1),
+          last-kept _ _ _ _ _ _ _ v (s .pre .1) (r .expand-regions .last .1 .0) _ (q .1 .0) _ z (k .0) (k .1),
+          last-low _ _ _ _ _ _ _ v (s .pre .1) _ _ (q .1 .0) _ z (k .0) (k .1) (q .1 .1),
         ),
       ),
     )
@@ -57,15 +46,4 @@ returns c =
 pub expand-last-spec : {M : Type 1} → statement M
 expand-last-spec =
     tie.close
-    (tie.spec
-    fill-stack-requires
-    expand-regions-requires
-    add-clear
-    mul-clear
-    sub-clear
-    part-clear-start
-    part-clear-end
-    clear-requires
-    same-length
-    same-length-2
-    returns)
+    (tie.spec fill-stack-requires expand-regions-requires add-clear-part clear-part-requires same-length same-length-2 returns)

@@ -7,7 +7,7 @@ use native.Mathlib.Numerals.{add-one}
 use native.Mathlib.Decide.{ℕ-discrete}
 use mathlib.Core.Path.{_≡_, refl, sym, ap, _∙_}
 use mathlib.Core.Logic.{⊎-elim, _⊎_, inl}
-use mathlib.Core.List.{List}
+use mathlib.Core.List.{List, []}
 use lib.ListN.{length, getD, set, length-set}
 use borrow.Author.Tests.{eq-eqb}
 use lib.Seq.{getD-set-same, getD-set-other, ext-getD}
@@ -18,12 +18,14 @@ use Rattle.rules.specs.Net as net
 use Rattle.rules.specs.Base.{if_then_else_}
 use Rattle.laws.proofs.Basics.{tab-at}
 use Rattle.laws.proofs.Nets.{neighbours-length, near-net}
-use Rattle.laws.proofs.Cells.{near-none}
-use Rattle.field.specs.Lent.{Celled, Reached, Stands, Leaf, SomeLeaf, lent, consAt}
+use Rattle.laws.proofs.Cells.{near-none, passed}
+use Rattle.laws.proofs.Strides.{answered}
+use Rattle.field.specs.Lent.{Sound, Celled, Reached, Stands, Leaf, SomeLeaf, lent, consAt}
+use Rattle.field.proofs.Passed.{sound-reached}
 use Rattle.field.proofs.Places.{con-at, reaches, near-stands, firstOf, first-is, total-is}
 use Rattle.space.specs.Space.{sec, Frame}
 use Rattle.space.proofs.Laws.{length-sec, getD-sec, frame-none, frame-then, frame-set, frame-wider}
-use Rattle.net.specs.Table.{netAt, lastPlace, Closed, Opens, Lent}
+use Rattle.net.specs.Table.{netAt, lastPlace, Closed, Mutual, Opens, Lent}
 use Rattle.net.specs.Fill.{leadAt, filledAt, filled}
 
 -- ---------------------------------------------------------------- one span
@@ -168,6 +170,10 @@ module _ (F : Field) (ok : Reached F) where
   -- the field's net, where it lies, and its connections are what a flood is lent
   pub net-lent : (table : ℕ) (ws : List ℕ) → netAt table (F .area) ws ≡ netOf F → table + 4 * length (F .area) ≤ length ws → table ≤ lastPlace → Lent table (F .area) (F .con) ws
   net-lent table ws e r p = record { closed = rw e closed-of; opens = rw e opens-of; linked = ok .celled .linked; room = r; place = p }
+
+-- refusals 1 to 6 leave such a net, in which connections are mutual
+pub mutual-of : (F : Field) → Sound F → Mutual (netOf F)
+mutual-of F e = record { closed = closed-of F (sound-reached F e); answered = answered F [] (passed F [] e) }
 
 -- ---------------------------------------------------------------- as the code fills it
 

@@ -5,6 +5,7 @@ use mathlib.Core.List.{List}
 use lib.ListN.{length, getD}
 use Rattle.rules.specs.Field.{none}
 use Rattle.rules.specs.Net.{Net, spans, near}
+use Rattle.laws.proofs.Strides.{Answered}
 use Rattle.field.specs.Lent.{consAt}
 use Rattle.space.specs.Space.{sec}
 
@@ -23,6 +24,11 @@ mostSpans = 32000
 pub record Closed (N : Net) : Type 0 where
   pub few : spans N ≤ mostSpans
   pub inside : (s d : ℕ) → s < spans N → d < 4 → (near N s d ≡ none → ⊥) → near N s d < spans N
+
+-- and connections are mutual
+pub record Mutual (N : Net) : Type 0 where
+  pub closed : Closed N
+  pub answered : Answered N
 
 -- the four connections of span s, of which those are none where it has no neighbour
 pub record Opens (N : Net) (s : ℕ) (cons : List ℕ) : Type 0 where

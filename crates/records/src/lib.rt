@@ -3,4 +3,4 @@ pub mod build;
 mod cell;
 mod fresh;
 mod grow;
-mod map;
+pub mod map;

@@ -1,16 +1,13 @@
 -- A contour reads no area: two nets with the same neighbours have the same edges and contours.
 -- It holds because each reads the net by `near` alone.
-use Prim.Native.Nat.{ℕ, zero, suc, _*_}
-use mathlib.Core.Path.{_≡_, refl, sym, ap}
+use Prim.Native.Nat.{ℕ, zero, suc}
+use mathlib.Core.Path.{_≡_, refl, ap}
 use mathlib.Core.List.{List}
 use lib.ListN.{length}
-use lib.Dec.{eqb}
-use Rattle.rules.specs.Base.{_and_, if_then_else_}
 use Rattle.rules.specs.Net.{Net, near}
 use Rattle.rules.specs.Contour.{across, solid, firstSolid, Walker, stride, walk, trim, contour}
-use Rattle.space.specs.Space.{sec}
-use Rattle.net.specs.Table.{netAt, Closed, Opens, Lent}
-use Rattle.contour.specs.Ways.{Mutual, Ways}
+use Rattle.net.specs.Table.{netAt}
+use Rattle.contour.specs.Ways.{Ways}
 
 module _ (l a b ids : List ℕ) where
   abbrev N : Net
@@ -18,10 +15,6 @@ module _ (l a b ids : List ℕ) where
 
   abbrev M : Net
   M = record { neighbours = l; areas = b }
-
-  pub solid-areas : (s d : ℕ) → solid N ids s d ≡ solid M ids s d
-  unfolding near across solid
-  solid-areas s d = refl
 
   pub first-areas : (s : ℕ) → firstSolid N ids s ≡ firstSolid M ids s
   unfolding near across solid firstSolid

@@ -5,12 +5,12 @@ use native.Mathlib.Omega.{arith}
 use mathlib.Core.Path.{_≡_, refl, sym, ap, _∙_}
 use mathlib.Core.Bool.{Bool, true, false, not}
 use mathlib.Core.List.{List}
-use lib.ListN.{length, getD, List·getD-eq-default}
+use lib.ListN.{getD, List·getD-eq-default}
 use lib.Dec.{eqb, ltb}
 use borrow.Author.Tests.{eq-eqb, ne-eqb, lt-ltb, le-ltb, ltb-true, ltb-false}
 use Rattle.rules.specs.Base.{_and_, if_then_else_}
 use Rattle.rules.specs.Field.{none}
-use Rattle.rules.specs.Net.{Net, near}
+use Rattle.rules.specs.Net.{Net}
 use Rattle.rules.specs.Contour.{across, solid, firstSolid}
 use Rattle.laws.proofs.Basics.{if-ind}
 use Rattle.net.specs.Table.{netAt, Closed, AtSpan}
@@ -89,8 +89,8 @@ module _ (N : Net) (ids : List ℕ) (s d : ℕ) (h : d ≤ 4) (e : firstSolid N 
         sym y
 
     pub found-edge : At d ≡ edgeOf (edgeNumber (At d))
-    unfolding edgeNumber edgeOf if_then_else_
-    found-edge = rw (lt-ltb d 4 (omega (arith, g)))
+    unfolding edgeNumber
+    found-edge = edge-number (At d) h (λ e. g (ap edgeNumber e))
 
     pub first-more : b ≡ false → firstSolid N ids s ≡ firstFrom N ids s (4 - (d + 1)) (d + 1)
     unfolding firstFrom if_then_else_

@@ -14,7 +14,7 @@ use Rattle.rules.specs.Contour.{stride, walk, trim, contour, Walker as RWalker}
 use Rattle.laws.proofs.Strides.{Answered}
 use Rattle.space.specs.Space.{sec}
 use Rattle.space.proofs.Laws.{length-sec}
-use Rattle.net.specs.Table.{netAt, lastPlace, Lent}
+use Rattle.net.specs.Table.{netAt, lastPlace}
 use Rattle.net.proofs.Tables.{spans-at, lent-same}
 use Rattle.contour.specs.Ways.{Ways}
 use Rattle.contour.specs.Walks.{mostStrides, first, backAt, Been}

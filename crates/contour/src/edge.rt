@@ -1,4 +1,4 @@
-// Solid edges.
+// Solid edges. No area is read here, so in promises the ids stand where a net has its areas.
 use field::place::NO_LAYER;
 use field::place::SpanIx;
 use net::neighbour;

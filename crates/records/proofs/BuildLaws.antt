@@ -20,7 +20,7 @@ use Rattle.rules.specs.Records.{Rec, fresh, at, has, others, onceAll, counted, 
 use Rattle.laws.proofs.Basics.{upto-next, tab-at, length-tab}
 use Rattle.laws.proofs.Cells.{passed}
 use Rattle.laws.proofs.Strides.{answered}
-use Rattle.field.specs.Lent.{Celled, Reached, Stands}
+use Rattle.field.specs.Lent.{Celled, Stands}
 use Rattle.field.proofs.Passed.{sound-reached}
 use Rattle.field.proofs.Places.{cell-is, layer-stands, stands-at, firstOf, first-is, total-is}
 use Rattle.net.specs.Table.{netAt, mostSpans}
@@ -31,7 +31,7 @@ use Rattle.contour.proofs.Areas.{ways-areas}
 use Rattle.contour.proofs.WalkLaws.{ways-same}
 use Rattle.table.specs.View.{part, startOf, endOf, listAt, recAt, recsOf, Held}
 use Rattle.table.proofs.ViewLaws.{view-by, part-none, rec-eq, recs-at}
-use Rattle.records.specs.Cell.{twins, othersFrom, Within}
+use Rattle.records.specs.Cell.{twins, othersFrom}
 use Rattle.records.specs.Rows.{mine, Row, Keeping, Step, plusOne, overlaid, floored, celled, contoured, traced}
 use Rattle.records.specs.Fresh.{Renewed}
 use Rattle.records.specs.Stock.{Given, Reach, Blank, Built}

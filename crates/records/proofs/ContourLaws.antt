@@ -11,14 +11,13 @@ use lib.Dec.{eqb}
 use borrow.Author.Tests.{eq-eqb, ne-eqb}
 use Rattle.rules.specs.Base.{if_then_else_}
 use Rattle.rules.specs.Net.{Net, areaOf}
-use Rattle.rules.specs.Contour.{firstSolid, contour}
+use Rattle.rules.specs.Contour.{firstSolid}
 use Rattle.rules.specs.Growth.{plain}
 use Rattle.rules.specs.Records.{Rec, at, fresh, onceAll}
 use Rattle.laws.proofs.Basics.{many-le}
 use Rattle.space.specs.Space.{sec}
 use Rattle.net.specs.Table.{netAt}
 use Rattle.net.proofs.Tables.{area-at, net-same}
-use Rattle.contour.specs.Ways.{Ways}
 use Rattle.contour.specs.Pool.{Start}
 use Rattle.contour.proofs.Areas.{first-areas, contour-areas}
 use Rattle.contour.proofs.WalkLaws.{ways-same}
@@ -28,8 +27,6 @@ use Rattle.records.specs.Cell.{twins, othersFrom}
 use Rattle.records.specs.Rows.{Keeping, Step, Slack, traced, marked, plusOne, overlaid, floored, celled, withArea, withList, contoured}
 use Rattle.records.specs.Map.{poolIn}
 use Rattle.records.specs.Stock.{Reach}
-use Rattle.records.specs.declared.grow.Plan.{Plan}
-use Rattle.records.specs.declared.cell.Spans.{Spans}
 use Rattle.records.proofs.CellLaws.{twins-alone, others-alone}
 use Rattle.records.proofs.RowLaws.{list-parts, floor-parts, count-room, step-then, store-start, store-end}
 use Rattle.records.proofs.StepLaws.{step-none, overlaid-not, step-one, step-area, step-marked}

@@ -2,14 +2,14 @@
 use mathlib.Core.Path.{_≡_}
 use mathlib.Core.Bool.{Bool, true}
 use mathlib.Core.List.{List, []}
-use Prim.Native.Nat.{ℕ, suc, _+_, _-_, _*_, _≤_, _<_}
+use Prim.Native.Nat.{ℕ, suc, _+_, _*_, _≤_, _<_}
 use lib.ListN.{length, getD, set, take}
 use lib.Dec.{eqb, ltb}
 use Rattle.rules.specs.Base.{_and_, _or_, if_then_else_, many}
 use Rattle.rules.specs.Net.{Net, areaOf}
 use Rattle.rules.specs.Growth.{plain}
 use Rattle.rules.specs.Contour.{firstSolid, contour}
-use Rattle.rules.specs.Records.{Rec, at, has, onceAll}
+use Rattle.rules.specs.Records.{Rec, at, onceAll}
 use Rattle.net.specs.Table.{mostSpans}
 use Rattle.contour.specs.Pool.{pooled}
 use Rattle.table.specs.View.{startOf, endOf, listAt, recsOf}

@@ -46,13 +46,13 @@ fn renew_one(ids: &[u16], ws: &mut [u16], m: usize, i: usize, lower: usize) -> u
     requires { ⌜ (m < border) × (length (now ids) ≤ mostSpans) × (recordsEnd m (length (now ids)) ≤ length (now ws)) ⌝ }
     ensures { λ r. ⌜ Renewed (now (ids .entry)) m (i + 1) (now (ws .entry)) (now (ws .exit)) × (r ≡ many (eqb i) (now (ids .entry))) ⌝ }
 {
-    let k = at(ws, m + i);
-    let q = POOL * m + HALVES * ids.len() + FLOOR_ROOM * lower;
+    let spans = at(ws, m + i);
+    let floors = POOL * m + HALVES * ids.len() + FLOOR_ROOM * lower;
     ws[i] = i as u16;
     ws[m + i] = 0;
     set_part(ws, m, LISTS * m, i, POOL * m, POOL * m);
-    set_part(ws, m, FLOORS * m, i, q, q);
-    k
+    set_part(ws, m, FLOORS * m, i, floors, floors);
+    spans
 }
 
 // New records 0 to m - 1.

@@ -56,17 +56,17 @@ fn add_floors(
     ensures { λ b. ⌜ (let own = getD (now (ids .entry)) (span .0) 0 in
         b ≡ twins (now (ids .entry)) (span .0) own (cell .size) (cell .from)) ⌝ }
 {
-    let a = start_of(ws, m, FLOORS * m, r);
-    let e = end_of(ws, m, FLOORS * m, r);
-    let z = a + FLOOR_ROOM * at(ws, m + r);
-    let len = e - a;
-    let t = join(ids, &mut ws[a..z], span, cell, len);
-    let n = t.len;
-    if n == len {
-        return t.twin;
+    let start = start_of(ws, m, FLOORS * m, r);
+    let end = end_of(ws, m, FLOORS * m, r);
+    let limit = start + FLOOR_ROOM * at(ws, m + r);
+    let len = end - start;
+    let taken = join(ids, &mut ws[start..limit], span, cell, len);
+    let listed = taken.len;
+    if listed == len {
+        return taken.twin;
     }
-    set_part(ws, m, FLOORS * m, r, a, a + n);
-    t.twin
+    set_part(ws, m, FLOORS * m, r, start, start + listed);
+    taken.twin
 }
 
 // The contour from the span is listed in the pool from top on, if the span has a solid edge. Gives the end.
@@ -110,9 +110,9 @@ fn add_list(
         at: POOL * m,
         table: plan.table,
     };
-    let t = trace(con, ids, ws, pool, span, top);
-    set_part(ws, m, LISTS * m, r, POOL * m + top, POOL * m + t);
-    t
+    let end = trace(con, ids, ws, pool, span, top);
+    set_part(ws, m, LISTS * m, r, POOL * m + top, POOL * m + end);
+    end
 }
 
 // While record r has no list it takes the span's area, and its contour. Gives the pool's new end.

@@ -2,7 +2,6 @@
 -- The records lie before the table, so the net stays.
 use Rattle.records.proofs.BuildLaws.{own-below, own-some, reach-then, added-one}
 use borrow.Author.Needs.{needs}
-use native.Mathlib.Omega.{arith}
 use Rattle.records.proofs.build.count_span.Statement.{statement}
 use Rattle.records.proofs.build.count_span.Tie as tie
 

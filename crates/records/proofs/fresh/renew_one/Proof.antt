@@ -26,20 +26,20 @@ add-at c = search needs
 at-requires : tie.Need-at-requires
 at-requires c κs = search needs
 
-mul-q : tie.Need-mul-q
-mul-q c = search needs
+mul-floors : tie.Need-mul-floors
+mul-floors c = search needs
 
-mul-q-2 : tie.Need-mul-q-2
-mul-q-2 c = search needs
+mul-floors-2 : tie.Need-mul-floors-2
+mul-floors-2 c = search needs
 
-add-q : tie.Need-add-q
-add-q c = search needs
+add-floors : tie.Need-add-floors
+add-floors c = search needs
 
-mul-q-3 : tie.Need-mul-q-3
-mul-q-3 c = omega (arith, lower-few c)
+mul-floors-3 : tie.Need-mul-floors-3
+mul-floors-3 c = omega (arith, lower-few c)
 
-add-q-2 : tie.Need-add-q-2
-add-q-2 c = omega (arith, lower-few c, S c .pre .1 .0, S c .pre .1 .1)
+add-floors-2 : tie.Need-add-floors-2
+add-floors-2 c = omega (arith, lower-few c, S c .pre .1 .0, S c .pre .1 .1)
 
 cast-ws : tie.Need-cast-ws
 cast-ws c = search needs
@@ -98,11 +98,11 @@ renew-one-spec =
     (tie.spec
     add-at
     at-requires
-    mul-q
-    mul-q-2
-    add-q
-    mul-q-3
-    add-q-2
+    mul-floors
+    mul-floors-2
+    add-floors
+    mul-floors-3
+    add-floors-2
     cast-ws
     mul-ws
     slice-write-ws

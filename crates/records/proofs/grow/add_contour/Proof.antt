@@ -1,6 +1,5 @@
 -- `add_contour` is the rule's `contoured`: a record with a list stays; one without takes the area and the traced list.
 -- The store of the area leaves the tables, the pool and the net alone.
-use Prim.Native.Nat.{_*_}
 use mathlib.Core.Path.{_≡_, _∙_}
 use lib.ListN.{length-set}
 use denote.Ref.{now}

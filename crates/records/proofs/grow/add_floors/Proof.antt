@@ -45,11 +45,11 @@ add-at c = search needs
 at-requires : tie.Need-at-requires
 at-requires c κs = search needs
 
-mul-z : tie.Need-mul-z
-mul-z c = search needs
+mul-limit : tie.Need-mul-limit
+mul-limit c = search needs
 
-add-z : tie.Need-add-z
-add-z c = search needs
+add-limit : tie.Need-add-limit
+add-limit c = search needs
 
 sub-len : tie.Need-sub-len
 sub-len c = room-order _ _ _ _ _ (S c .pre .0) _ (S c .pre .1) _ _ _ (ea c) (ee c) (ez c)
@@ -113,8 +113,8 @@ add-floors-spec =
     end-of-requires
     add-at
     at-requires
-    mul-z
-    add-z
+    mul-limit
+    add-limit
     sub-len
     mul-join
     sub-join

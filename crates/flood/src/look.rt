@@ -50,7 +50,8 @@ fn bears(area: &[u8], ids: &[u16], span: SpanIx, seed: Seed) -> bool
     if area[u] != seed.area {
         return false;
     }
-    other(ids[u], seed.id)
+    let region = ids[u];
+    other(region, seed.id)
 }
 
 // What a span that has the connections cons sees in direction d.

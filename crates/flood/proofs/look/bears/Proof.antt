@@ -21,11 +21,11 @@ shared-slice-read-if2 c = inside (c .before)
 returns-2 : tie.Need-returns-2
 returns-2 c = bears-other-area _ _ _ _ (inside (c .before .before .before)) (c .if2 .taken)
 
-mul-other : tie.Need-mul-other
-mul-other c = omega (arith, inside (c .before .before .before))
+mul-region : tie.Need-mul-region
+mul-region c = omega (arith, inside (c .before .before .before))
 
-shared-slice-read-other : tie.Need-shared-slice-read-other
-shared-slice-read-other c = omega (arith, inside (c .before .before .before .before))
+shared-slice-read-region : tie.Need-shared-slice-read-region
+shared-slice-read-region c = omega (arith, inside (c .before .before .before .before))
 
 other-requires : tie.Need-other-requires
 other-requires c κs = search needs
@@ -34,4 +34,4 @@ returns-3 : tie.Need-returns-3
 returns-3 c = bears-same-area _ _ _ _ _ (inside (c .before .before .before .before .before)) (c .before .before .if2 .left) (c .other .ensures)
 
 pub bears-spec : {M : Type 1} → statement M
-bears-spec = tie.close (tie.spec returns shared-slice-read-if2 returns-2 mul-other shared-slice-read-other other-requires returns-3)
+bears-spec = tie.close (tie.spec returns shared-slice-read-if2 returns-2 mul-region shared-slice-read-region other-requires returns-3)

@@ -1,4 +1,5 @@
--- Rounds by their frontier. A flag is up for each span that stands in the stack with no id and is not noted as a change; changes of all rounds stand in one queue.
+-- Rounds by their frontier. A flag is up for each span that stands in the stack with no id and is not noted as a change; changes of all rounds stand
+-- in one queue.
 use mathlib.Core.Path.{_≡_}
 use mathlib.Core.Bool.{true, false}
 use mathlib.Core.Logic.{_⊎_}

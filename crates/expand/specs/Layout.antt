@@ -87,7 +87,7 @@ pub record Past (n i z : ℕ) (ws : List ℕ) : Type 0 where
 -- source distances to which 2 can be added
 pub record Calm (n : ℕ) (ws : List ℕ) : Type 0 where
   pub fits : n ≤ length ws
-  pub most : (x : ℕ) → x < n → getD ws x 0 ≤ 64000
+  pub most : (x : ℕ) → x < n → getD ws x 0 ≤ 2 * mostSpans
 
 -- what span s is lent to look around: a net, and source distances to which 2 can be added
 pub record Sight (b : ℕ) (areas ids ws : List ℕ) (s : ℕ) : Type 0 where

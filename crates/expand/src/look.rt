@@ -5,10 +5,10 @@ use field::read::at8;
 use net::neighbour;
 use region::RegionId;
 ghost use mathlib.Core.Path.{_≡_};
-ghost use Prim.Native.Nat.{_+_, _<_, _≤_};
+ghost use Prim.Native.Nat.{_+_, _*_, _<_, _≤_};
 ghost use lib.ListN.{length, getD};
 ghost use Rattle.rules.specs.Growth.{look, takes};
-ghost use Rattle.net.specs.Table.{netAt};
+ghost use Rattle.net.specs.Table.{netAt, mostSpans};
 ghost use Rattle.flood.specs.Stack.{marksAt};
 ghost use Rattle.expand.specs.Layout.{takenOf, Sight};
 
@@ -31,7 +31,7 @@ fn id_at(ids: &[u16], t: usize) -> u16
 
 // The source distance of span t, plus 2.
 fn farther(ws: &[u16], t: usize) -> u16
-    requires { ⌜ (t < length (now ws)) × (getD (now ws) t 0 ≤ 64000) ⌝ }
+    requires { ⌜ (t < length (now ws)) × (getD (now ws) t 0 ≤ 2 * mostSpans) ⌝ }
     ensures { λ r. ⌜ r ≡ getD (now (ws .entry)) t 0 + 2 ⌝ }
 {
     ws[t] + 2

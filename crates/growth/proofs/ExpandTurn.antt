@@ -22,7 +22,7 @@ use Rattle.levels.specs.Levels.{Stacked}
 use Rattle.levels.proofs.LevelLaws.{slots}
 use Rattle.levels.proofs.CarryLaws.{stacked-used}
 use Rattle.levels.proofs.TurnLaws.{expand-stack}
-use Rattle.growth.specs.Floods.{IdsBelowNext, Held}
+use Rattle.growth.specs.Floods.{IdsBelowNext, EntriesAt}
 use Rattle.growth.specs.Turns.{stacksAt, stackOf, Ready, Expanded}
 use Rattle.growth.proofs.SpreadLaws.{expand-ids-below}
 use Rattle.growth.proofs.StackLaws.{stack-at, stacks-changed}
@@ -130,7 +130,7 @@ module _ (ar con : List ℕ) (at : Sections) (next : ℕ) (fs : List ℕ) (j : �
     pub given-as : Given (length ar) a (at .changes) (at .table) fill ids ws
     given-as = rw (ea, ef) ready-given
 
-    pub held-as : Held (length ar) a fill ws
+    pub held-as : EntriesAt (length ar) a fill ws
     held-as = rw (ea, ef) (record { entries = stack-entries; past = omega arith; room = stack-ends; close = omega (arith, section, few) })
 
     pub expanded-as : (level : ℕ) (ids′ ws′ : List ℕ)

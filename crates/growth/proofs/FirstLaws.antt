@@ -25,7 +25,7 @@ use Rattle.net.proofs.Tables.{net-same}
 use Rattle.net.proofs.Fills.{net-lent, mutual-of}
 use Rattle.flood.specs.Stack.{marksAt}
 use Rattle.growth.specs.Floods.{IdsBelowNext}
-use Rattle.growth.specs.Turns.{Laid, Between, turnsOf}
+use Rattle.growth.specs.Turns.{SectionsFor, Between, turnsOf}
 use Rattle.growth.specs.Grow.{turnsFor, Grew, Poised, Full}
 use Rattle.growth.proofs.LowLaws.{painted-low}
 
@@ -86,7 +86,7 @@ module _ (w h : ℕ) (is ks ar cs dist : List ℕ) (b most border : ℕ) (ids ws
         room = omega (arith, r, first-few border, zeros-le ids₁, n, few);
       }
 
-  pub between-first : (at : Sections) → Laid (length ar) at → at .table ≡ b → Between ar cs at first [] 7 ids₁ ws₁
+  pub between-first : (at : Sections) → SectionsFor (length ar) at → at .table ≡ b → Between ar cs at first [] 7 ids₁ ws₁
   between-first at la e =
       let room : at .table + 4 * length ar ≤ length ws₁ = omega (arith, p .room, size) in
       let net : netAt (at .table) ar ws₁ ≡ netOf G = rw e m in

@@ -23,7 +23,7 @@ use Rattle.flood.specs.Stack.{marksAt, Begins, Blank}
 use lib.Seq.{getD-drop, drop-cons}
 use Rattle.space.specs.Space.{sec}
 use Rattle.space.proofs.Laws.{tally-none, sec-drop}
-use Rattle.growth.specs.Floods.{floodOne, IdsBelowNext, Held}
+use Rattle.growth.specs.Floods.{floodOne, IdsBelowNext, EntriesAt}
 
 -- the next id is borne by no span
 pub next-begins : (n next e : ℕ) (ids : List ℕ) → IdsBelowNext n next ids → e < n → getD ids e 0 ≡ 0 → Begins next e ids
@@ -153,7 +153,7 @@ pub record FloodedTo (ar dist : List ℕ) (b a fill level next : ℕ) (ids₀ ws
   pub same : floods (netAt b ar ws₀) dist level (sec a fill ws₀) (marksAt (length ar) ids₀ ws₀) next
       ≡ floods (netAt b ar ws₀) dist level (sec (a + j) (fill - j) ws) (marksAt (length ar) ids ws) id
 
-module _ (ar con dist : List ℕ) (b a fill level next : ℕ) (ids₀ ws₀ : List ℕ) (l : Lent b ar con ws₀) (en : Held (length ar) a fill ws₀) (ro : length ar ≤ b) where
+module _ (ar con dist : List ℕ) (b a fill level next : ℕ) (ids₀ ws₀ : List ℕ) (l : Lent b ar con ws₀) (en : EntriesAt (length ar) a fill ws₀) (ro : length ar ≤ b) where
   pub flooded-start : IdsBelowNext (length ar) next ids₀ → FloodedTo ar dist b a fill level next ids₀ ws₀ ids₀ ws₀ 0 next
   flooded-start v =
       let z : a + 0 ≡ a = omega arith in

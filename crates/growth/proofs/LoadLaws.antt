@@ -12,7 +12,7 @@ use Rattle.space.specs.Space.{sec}
 use Rattle.space.proofs.Laws.{length-sec, sec-put, frame-put, getD-after}
 use Rattle.net.specs.declared.Sections.{Sections}
 use Rattle.levels.specs.Levels.{levelsAt, Fills, StackPart, SortLists, appended, Kept, Stacked}
-use Rattle.growth.specs.Turns.{Laid, stacksAt, after, Left, Loaded}
+use Rattle.growth.specs.Turns.{SectionsFor, stacksAt, after, Left, Loaded}
 
 -- the number before the next turn's is this one's, where the stacks are not thrown away
 before-after : (j : ℕ) → j < 8 → (after j ≡ 0 → ⊥) → after j - 1 ≡ j
@@ -44,7 +44,7 @@ module _ (n e : ℕ) (ws : List ℕ) (le : e ≡ 9 * n) (room : 9 * n ≤ length
     kept-after : (x : ℕ) → 9 * n ≤ x → getD (putMid n (e - n) ws ys) x 0 ≡ getD ws x 0
     kept-after x h = getD-after x (frame-put n e ws ys (omega arith) (omega arith) (omega (arith, ys-length))) (omega arith)
 
-module _ (ar dist ids : List ℕ) (at : Sections) (level : ℕ) (fs : List ℕ) (j : ℕ) (ws : List ℕ) (la : Laid (length ar) at) (room : at .table ≤ length ws) where
+module _ (ar dist ids : List ℕ) (at : Sections) (level : ℕ) (fs : List ℕ) (j : ℕ) (ws : List ℕ) (la : SectionsFor (length ar) at) (room : at .table ≤ length ws) where
   wide : 9 * length ar ≤ length ws
   wide = omega (arith, la .past)
 

@@ -14,7 +14,7 @@ use Rattle.flood.specs.Stack.{marksAt}
 use Rattle.expand.proofs.Lists.{marks-same}
 use Rattle.levels.specs.Levels.{appended}
 use Rattle.levels.proofs.TurnLaws.{loaded-first, loaded-next}
-use Rattle.growth.specs.Turns.{after, stacksAt, stackOf, Loaded, Ready, Expanded, Flooded, Between, Stands, Turned, turnAt}
+use Rattle.growth.specs.Turns.{after, stacksAt, stackOf, Loaded, Ready, Expanded, Flooded, Between, TurnIs, Turned, turnAt}
 use Rattle.growth.proofs.KeptLaws.{kept-net, kept-between}
 
 turn-eq : {a a′ : Marks} {s s′ : List (List ℕ)} {n n′ : ℕ} → a ≡ a′ → s ≡ s′ → n ≡ n′ → _≡_ {A = Turn} (record { marks = a; stacks = s; next = n }) (record { marks = a′; stacks = s′; next = n′ })
@@ -22,7 +22,7 @@ turn-eq p q r = rw (p, q, r)
 
 -- what is loaded is the rule's, for the rule's turn that stands there
 module _ (b : ℕ) (ar dist ids : List ℕ) (level : ℕ) (fs : List ℕ) (j : ℕ) (ws fs′ : List ℕ) (j′ : ℕ) (ws₁ : List ℕ) (next : ℕ) (t : Turn) (small : j < 8)
-    (l : Loaded ar dist ids level fs j ws fs′ j′ ws₁) (o : Stands (length ar) next fs j ids ws t) where
+    (l : Loaded ar dist ids level fs j ws fs′ j′ ws₁) (o : TurnIs (length ar) next fs j ids ws t) where
   ids-are : t .marks .ids ≡ ids
   ids-are = ap (λ (m : Marks). m .ids) (o .marks)
 
@@ -70,7 +70,7 @@ module _ (ar con dist : List ℕ) (at : Sections) (next : ℕ) (fs : List ℕ) (
     net₂ : netAt (at .table) ar ws₂ ≡ N
     net₂ = kept-net ar con at next fs j ids ws v ws₂ (x .size ∙ size₁) (λ z h. x .past z h ∙ l .past z h)
 
-    rule : (t : Turn) → Stands (length ar) next fs j ids ws t
+    rule : (t : Turn) → TurnIs (length ar) next fs j ids ws t
         → record { marks = marksAt (length ar) ids₃ ws₃; stacks = stacksAt (length ar) ws₃ fs′; next = next′ } ≡ turnAt N dist level j′ t
     unfolding turnAt
     rule t o =

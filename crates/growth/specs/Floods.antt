@@ -29,7 +29,7 @@ pub record IdsBelowNext (n next : ℕ) (ids : List ℕ) : Type 0 where
   pub room : next + zeros ids < 0x8000
 
 -- a stack past the n source distances: its entries are spans, or used
-pub record Held (n a fill : ℕ) (ws : List ℕ) : Type 0 where
+pub record EntriesAt (n a fill : ℕ) (ws : List ℕ) : Type 0 where
   pub entries : Entries n a fill ws
   pub past : n ≤ a
   pub room : a + fill ≤ length ws

@@ -16,7 +16,7 @@ use Rattle.growth.specs.Floods.{IdsBelowNext}
 
 -- Where the sections of growth lie with n spans: source distances at 0 .. n, the eight level stacks at n .. 9n, changes at 9n .. 12n, the flood's stack at
 -- 12n .. 13n, where the expansion has its flags, the table of neighbours past that.
-pub record Laid (n : ℕ) (at : Sections) : Type 0 where
+pub record SectionsFor (n : ℕ) (at : Sections) : Type 0 where
   pub changes : at .changes ≡ 9 * n
   pub stack : at .stack ≡ 12 * n
   pub past : 13 * n ≤ at .table
@@ -61,7 +61,7 @@ turnAt N dist level j t =
 pub record Between (area con : List ℕ) (at : Sections) (next : ℕ) (fills : List ℕ) (j : ℕ) (ids ws : List ℕ) : Type 0 where
   pub lent : Lent (at .table) area con ws
   pub both-ways : Mutual (netAt (at .table) area ws)
-  pub laid : Laid (length area) at
+  pub laid : SectionsFor (length area) at
   pub turn : j < 8
   pub ids-below : IdsBelowNext (length area) next ids
   pub low : Low (length area) (marksAt (length area) ids ws)
@@ -99,7 +99,7 @@ pub record Bytes (area : List ℕ) : Type 0 where
   pub byte : (s : ℕ) → s < length area → getD area s 0 < 256
 
 -- the rule's turn is what is there
-pub record Stands (n next : ℕ) (fills : List ℕ) (j : ℕ) (ids ws : List ℕ) (t : Turn) : Type 0 where
+pub record TurnIs (n next : ℕ) (fills : List ℕ) (j : ℕ) (ids ws : List ℕ) (t : Turn) : Type 0 where
   pub marks : t .marks ≡ marksAt n ids ws
   pub id : t .next ≡ next
   pub stacks : (after j ≡ 0 → ⊥) → t .stacks ≡ stacksAt n ws fills
@@ -111,7 +111,7 @@ pub record Turned (area con dist : List ℕ) (at : Sections) (next : ℕ) (fills
   pub between : Between area con at next′ fills′ j′ ids′ ws′
   pub size : length ws′ ≡ length ws
   pub past : (x : ℕ) → 9 * length area ≤ x → getD ws′ x 0 ≡ getD ws x 0
-  pub same : (t : Turn) → Stands (length area) next fills j ids ws t
+  pub same : (t : Turn) → TurnIs (length area) next fills j ids ws t
       → record { marks = marksAt (length area) ids′ ws′; stacks = stacksAt (length area) ws′ fills′; next = next′ }
       ≡ turnAt (netAt (at .table) area ws) dist level (after j) t
 
@@ -126,7 +126,7 @@ pub record SomeTurns (area con dist : List ℕ) (at : Sections) (count next : �
   pub between : Between area con at next′ fills′ j′ ids′ ws′
   pub size : length ws′ ≡ length ws
   pub past : (x : ℕ) → 9 * length area ≤ x → getD ws′ x 0 ≡ getD ws x 0
-  pub same : Stands (length area) next′ fills′ j′ ids′ ws′ (turnsOf (netAt (at .table) area ws) dist count (length area) ids ws next k)
+  pub same : TurnIs (length area) next′ fills′ j′ ids′ ws′ (turnsOf (netAt (at .table) area ws) dist count (length area) ids ws next k)
 
 -- what all turns leave
 pub record AllTurns (area dist : List ℕ) (table count next : ℕ) (ids ws : List ℕ) (next′ : ℕ) (ids′ ws′ : List ℕ) : Type 0 where

@@ -14,7 +14,7 @@ ghost use Rattle.rules.specs.Growth.{floods};
 ghost use Rattle.space.specs.Space.{sec};
 ghost use Rattle.net.specs.Table.{netAt, Lent};
 ghost use Rattle.flood.specs.Stack.{marksAt, Placed, Blank};
-ghost use Rattle.growth.specs.Floods.{floodOne, IdsBelowNext, Held};
+ghost use Rattle.growth.specs.Floods.{floodOne, IdsBelowNext, EntriesAt};
 
 // Floods from an entry, if it is unused and has no id. Gives the next id: only success advances it.
 fn flood_one(
@@ -65,7 +65,7 @@ pub(crate) fn flood_all(
 ) -> u16
     requires { ⌜ Lent (at .table) (now area) (now con) (now ws) × Placed (length (now area)) at (now dist) (now ids) ⌝ }
     requires { ⌜ Blank (length (now area)) (at .stack) 0 (now ws) × IdsBelowNext (length (now area)) next (now ids) ⌝ }
-    requires { ⌜ Held (length (now area)) (stack .at) (stack .fill) (now ws) ⌝ }
+    requires { ⌜ EntriesAt (length (now area)) (stack .at) (stack .fill) (now ws) ⌝ }
     ensures { λ r. ⌜ (let n = length (now (area .entry)) in
         let net = netAt (at .table) (now (area .entry)) (now (ws .entry)) in
         let entries = sec (stack .at) (stack .fill) (now (ws .entry)) in

@@ -11,13 +11,13 @@ ghost use Prim.Native.Nat.{_*_, _≤_};
 ghost use lib.ListN.{length};
 ghost use Rattle.field.specs.Lent.{lent};
 ghost use Rattle.net.specs.Table.{mostSpans};
-ghost use Rattle.growth.specs.Turns.{Laid, Bytes, Between};
+ghost use Rattle.growth.specs.Turns.{SectionsFor, Bytes, Between};
 ghost use Rattle.growth.specs.Grow.{Grew, Poised, Full};
 
 // Where the sections begin, with n spans: past the source distances and the eight level stacks.
 fn sections(n: usize, table: usize) -> Sections
     requires { ⌜ (n ≤ mostSpans) × (13 * n ≤ table) ⌝ }
-    ensures { λ r. ⌜ Laid n r × (r .table ≡ table) ⌝ }
+    ensures { λ r. ⌜ SectionsFor n r × (r .table ≡ table) ⌝ }
 {
     Sections {
         changes: 9 * n,

@@ -11,7 +11,7 @@ ghost use mathlib.Core.List.{[]};
 ghost use Prim.Native.Nat.{_+_, _*_, _<_, _≤_};
 ghost use lib.ListN.{length, getD};
 ghost use Rattle.net.specs.Table.{mostSpans};
-ghost use Rattle.growth.specs.Turns.{Laid, Left, Loaded, Bytes, Between, Turned, AllTurns};
+ghost use Rattle.growth.specs.Turns.{SectionsFor, Left, Loaded, Bytes, Between, Turned, AllTurns};
 
 // The stacks of the turn after l's: at turn number 0 all is sorted anew; at another, what remains of the stack before is appended to this turn's.
 fn load(
@@ -24,7 +24,7 @@ fn load(
     level: u16,
 ) -> LevelStacks
     requires { ⌜ (length (now area) ≤ mostSpans) × (length (now dist) ≡ length (now area)) × (length (now ids) ≡ length (now area)) ⌝ }
-    requires { ⌜ Laid (length (now area)) at × (at .table ≤ length (now ws)) × (l .turn < 8) × Left (length (now area)) (l .fills) (l .turn) (now ws) ⌝ }
+    requires { ⌜ SectionsFor (length (now area)) at × (at .table ≤ length (now ws)) × (l .turn < 8) × Left (length (now area)) (l .fills) (l .turn) (now ws) ⌝ }
     ensures { λ r. ⌜ (let fills = l .fills in let j = l .turn in
         Loaded (now (area .entry)) (now (dist .entry)) (now (ids .entry)) level fills j (now (ws .entry)) (r .fills) (r .turn) (now (ws .exit))) ⌝ }
 {
@@ -91,7 +91,7 @@ pub(crate) fn turns(
     next: u16,
 ) -> u16
     requires { ⌜ Between (now area) (now con) at next [] 7 (now ids) (now ws) × (length (now dist) ≡ length (now area)) × Bytes (now area) ⌝ }
-    requires { ⌜ count ≤ 32768 ⌝ }
+    requires { ⌜ 2 * count ≤ 65536 ⌝ }
     ensures { λ r. ⌜ (let ids₀ = now (ids .entry) in let ws₀ = now (ws .entry) in
         AllTurns (now (area .entry)) (now (dist .entry)) (at .table) count next ids₀ ws₀ r (now (ids .exit)) (now (ws .exit))) ⌝ }
 {

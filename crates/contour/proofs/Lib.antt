@@ -1,4 +1,5 @@
 pub mod Room
+pub mod Areas
 pub mod EdgeLaws
 pub mod PoolLaws
 pub mod WalkLaws

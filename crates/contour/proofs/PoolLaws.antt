@@ -1,179 +1,245 @@
 -- The list in the pool through a stride, the start and the trimming: what the code leaves there is the rule's walker and list.
--- What is past the list's end stays zero, and a step keeps the walker on a span: across an open edge there is one, since its id is not 0.
+-- What is past the list's end stays zero, and what is written lies in the pool, before the table: so the net stays.
 use Prim.Native.Nat.{ℕ, zero, suc, _+_, _*_, _-_, _≤_, _<_}
 use native.Mathlib.Omega.{arith}
-use native.Mathlib.Decide.{ℕ-discrete}
+use native.Mathlib.Decide.{ℕ-discrete, decLt}
 use mathlib.Core.Path.{_≡_, refl, sym, ap, _∙_}
 use mathlib.Core.Bool.{Bool, true, false}
 use mathlib.Core.List.{List, [], _∷_, _++_}
-use lib.ListN.{length, getD, set, take, drop, replicate, length-set, length-drop, length-replicate, getD-replicate, take-append-drop, List·getD-eq-default}
-use lib.Seq.{take-suc-set, drop-set-add, take-set-le, getD-set-other, getD-set-same, getD-drop, drop-drop, ext-getD, take-take}
+use lib.ListN.{length, getD, set, take, drop, replicate, length-set, length-drop, length-append, length-replicate, getD-replicate}
+use lib.Seq.{take-suc-set, drop-set-add, take-set-le, getD-set-other, getD-set-same, ext-getD, take-take, getD-append-add, length-take-le, take-at, drop-at}
 use lib.Dec.{eqb, ltb}
-use borrow.Author.Tests.{eqb-true, eq-eqb, ne-eqb, lt-ltb, not-false}
+use borrow.Author.Tests.{eqb-true, eq-eqb, ne-eqb, lt-ltb}
+use borrow.Rule.Slice.PartMut.{putMid, midOf, same-len-mid}
 use Rattle.rules.specs.Base.{_and_, if_then_else_, many}
-use Rattle.rules.specs.Field.{Field, near, none, cellTo}
+use Rattle.rules.specs.Net.{near}
 use Rattle.rules.specs.Contour.{across, solid, stride, trim}
 use Rattle.laws.proofs.Basics.{if-ind, both, tests, and-both}
-use Rattle.space.specs.Space.{sec}
-use Rattle.space.proofs.Laws.{length-sec, getD-sec}
-use Rattle.field.specs.Lent.{Leaf, SomeLeaf, consAt}
-use Rattle.field.specs.declared.place.Place.{Place}
-use Rattle.field.proofs.Places.{spot-leaf, spot-con, spot-none, step-spot}
-use Rattle.contour.specs.Ways.{Edged, SomeEdged, Ways}
+use Rattle.space.specs.Space.{sec, Frame}
+use Rattle.space.proofs.Laws.{length-sec, getD-sec, sec-put, sec-take, sec-mid, frame-put, getD-before, getD-after}
+use Rattle.field.specs.Lent.{consAt}
+use Rattle.field.specs.declared.place.SpanIx.{SpanIx}
+use Rattle.net.specs.Table.{netAt, AtSpan}
+use Rattle.net.proofs.Tables.{lent-span, near-is, net-same}
 use Rattle.contour.specs.Walks.{first}
-use Rattle.contour.specs.Pool.{turned, stepped, noted, view, Laid, lay, Standing, Start, Stridden, Begun, Trimmed}
+use Rattle.contour.specs.Pool.{turned, stepped, noted, view, Laid, lay, pooled, Standing, Start, Stridden, Begun, Trimmed}
 use Rattle.contour.specs.declared.walker.Walker.{Walker}
-use Rattle.contour.proofs.EdgeLaws.{edged-leaf, ways-edged}
+use Rattle.contour.specs.declared.walk.Pool.{Pool}
 
 -- ---------------------------------------------------------------- the list in the pool
 
 -- one more at its end
-pub sec-push : (pool : List ℕ) (start e v : ℕ) → start ≤ e → e < length pool → sec start (e + 1 - start) (set pool e v) ≡ sec start (e - start) pool ++ (v ∷ [])
-sec-push pool start e v h g =
-    let q : e ≡ start + (e - start) = omega arith in
+pub sec-push : (ws : List ℕ) (at start e v : ℕ) → start ≤ e → at + e < length ws
+    → sec (at + start) (e + 1 - start) (set ws (at + e) v) ≡ sec (at + start) (e - start) ws ++ (v ∷ [])
+sec-push ws at start e v h g =
+    let a = at + start in
+    let q : at + e ≡ a + (e - start) = omega arith in
     let p : e + 1 - start ≡ suc (e - start) = omega arith in
-    let l : e - start < length (drop start pool) = rw (length-drop start pool) (omega arith) in
-    rw p (ap (λ (i : ℕ). take (suc (e - start)) (drop start (set pool i v))) q ∙ ap (take (suc (e - start))) (drop-set-add start pool (e - start) v) ∙ take-suc-set (drop start pool) (e - start) v l)
-
-pub laid-push : (pool₀ pool : List ℕ) (start e v : ℕ) → Laid pool₀ start e pool → e < length pool → Laid pool₀ start (e + 1) (set pool e v)
-laid-push pool₀ pool start e v l h = record {
-  order = omega (arith, l .order);
-  within = rw (length-set pool e v) (omega arith);
-  size = length-set pool e v ∙ l .size;
-  kept = take-set-le start pool e v (l .order) ∙ l .kept;
-  blank = λ i g. getD-set-other pool e i v 0 (λ z. omega arith) ∙ l .blank i (omega arith);
-}
+    let l : e - start < length (drop a ws) = rw (length-drop a ws) (omega arith) in
+    rw p (ap (λ (i : ℕ). take (suc (e - start)) (drop a (set ws i v))) q ∙ ap (take (suc (e - start))) (drop-set-add a ws (e - start) v)
+    ∙ take-suc-set (drop a ws) (e - start) v l)
 
 -- its last one dropped
-pub laid-pop : (pool₀ pool : List ℕ) (start e : ℕ) → Laid pool₀ start e pool → start < e → Laid pool₀ start (e - 1) (set pool (e - 1) 0)
-laid-pop pool₀ pool start e l h = record {
-  order = omega arith;
-  within = rw (length-set pool (e - 1) 0) (omega (arith, l .within));
-  size = length-set pool (e - 1) 0 ∙ l .size;
-  kept = take-set-le start pool (e - 1) 0 (omega arith) ∙ l .kept;
-  blank = λ i g. elim (ℕ-discrete i (e - 1)) [
-    | yes z ↦ rw z (getD-set-same pool (e - 1) 0 0 (omega (arith, l .within)))
-    | no z ↦ getD-set-other pool (e - 1) i 0 0 z ∙ l .blank i (omega arith)
-  ];
-}
-
-pub sec-pop : (pool : List ℕ) (start e v : ℕ) → start < e → e ≤ length pool → sec start (e - 1 - start) (set pool (e - 1) v) ≡ take (length (sec start (e - start) pool) - 1) (sec start (e - start) pool)
-sec-pop pool start e v h g =
-    let n : length (sec start (e - start) pool) ≡ e - start = length-sec start (e - start) pool (omega arith) in
-    let q : e - 1 ≡ start + (e - 1 - start) = omega arith in
+pub sec-pop : (ws : List ℕ) (at start e v : ℕ) → start < e → at + e ≤ length ws
+    → sec (at + start) (e - 1 - start) (set ws (at + (e - 1)) v) ≡ take (length (sec (at + start) (e - start) ws) - 1) (sec (at + start) (e - start) ws)
+sec-pop ws at start e v h g =
+    let a = at + start in
+    let n : length (sec a (e - start) ws) ≡ e - start = length-sec a (e - start) ws (omega arith) in
+    let q : at + (e - 1) ≡ a + (e - 1 - start) = omega arith in
     let p : e - start - 1 ≡ e - 1 - start = omega arith in
     rw (n, p)
-    (ap (λ (i : ℕ). take (e - 1 - start) (drop start (set pool i v))) q ∙ ap (take (e - 1 - start)) (drop-set-add start pool (e - 1 - start) v)
-    ∙ take-set-le (e - 1 - start) (drop start pool) (e - 1 - start) v (omega arith) ∙ sym (take-take (e - 1 - start) (e - start) (drop start pool) (omega arith)))
+    (ap (λ (i : ℕ). take (e - 1 - start) (drop a (set ws i v))) q ∙ ap (take (e - 1 - start)) (drop-set-add a ws (e - 1 - start) v)
+    ∙ take-set-le (e - 1 - start) (drop a ws) (e - 1 - start) v (omega arith) ∙ sym (take-take (e - 1 - start) (e - start) (drop a ws) (omega arith)))
 
--- zeros from e on
-blank-drop : (pool : List ℕ) (e : ℕ) → ((i : ℕ) → e ≤ i → getD pool i 0 ≡ 0) → drop e pool ≡ replicate (length pool - e) 0
-blank-drop pool e b =
-    ext-getD 0 (drop e pool) (replicate (length pool - e) 0)
-    (length-drop e pool ∙ sym (length-replicate (length pool - e) 0))
-    (λ i h.
-    let g : i < length pool - e = rw (length-drop e pool) at h in
-    getD-drop e pool i 0 ∙ b (e + i) (omega arith) ∙ sym (getD-replicate (length pool - e) i 0 0 g))
+module _ (ws₀ ws : List ℕ) (at size start e : ℕ) (l : Laid ws₀ at size start e ws) where
+  pub laid-push : (v : ℕ) → e < size → Laid ws₀ at size start (e + 1) (set ws (at + e) v)
+  laid-push v h = record {
+    order = omega (arith, l .order);
+    within = omega arith;
+    inside = rw (length-set ws (at + e) v) (l .inside);
+    same = length-set ws (at + e) v ∙ l .same;
+    before = λ i g. getD-set-other ws (at + e) i v 0 (λ z. omega (arith, l .order)) ∙ l .before i g;
+    blank = λ i g k. getD-set-other ws (at + e) (at + i) v 0 (λ z. omega arith) ∙ l .blank i (omega arith) k;
+    after = λ i g. getD-set-other ws (at + e) i v 0 (λ z. omega arith) ∙ l .after i g;
+  }
 
--- the pool whole
-pub laid-whole : (pool₀ pool : List ℕ) (start e : ℕ) → Laid pool₀ start e pool → pool ≡ lay pool₀ start (sec start (e - start) pool)
-unfolding lay
-laid-whole pool₀ pool start e l =
-    let n : length (sec start (e - start) pool) ≡ e - start = length-sec start (e - start) pool (omega (arith, l .order, l .within)) in
-    let m : start + (e - start) ≡ e = omega (arith, l .order) in
-    let z : drop (e - start) (drop start pool) ≡ replicate (length pool₀ - (start + length (sec start (e - start) pool))) 0 =
-    drop-drop (e - start) start pool ∙ rw (n, m, ← l .size) (blank-drop pool e (l .blank)) in
-    sym (take-append-drop start pool)
-    ∙ ap (λ (x : List ℕ). x ++ drop start pool) (l .kept)
-    ∙ ap (λ (x : List ℕ). take start pool₀ ++ x) (sym (take-append-drop (e - start) (drop start pool)) ∙ ap (λ (x : List ℕ). sec start (e - start) pool ++ x) z)
+  pub laid-pop : start < e → Laid ws₀ at size start (e - 1) (set ws (at + (e - 1)) 0)
+  laid-pop h = record {
+    order = omega arith;
+    within = omega (arith, l .within);
+    inside = rw (length-set ws (at + (e - 1)) 0) (l .inside);
+    same = length-set ws (at + (e - 1)) 0 ∙ l .same;
+    before = λ i g. getD-set-other ws (at + (e - 1)) i 0 0 (λ z. omega arith) ∙ l .before i g;
+    blank = λ i g k. elim (ℕ-discrete i (e - 1)) [
+      | yes z ↦ rw z (getD-set-same ws (at + (e - 1)) 0 0 (omega (arith, l .within, l .inside)))
+      | no z ↦ getD-set-other ws (at + (e - 1)) (at + i) 0 0 (λ y. z (omega arith)) ∙ l .blank i (omega arith) k
+    ];
+    after = λ i g. getD-set-other ws (at + (e - 1)) i 0 0 (λ z. omega (arith, l .within)) ∙ l .after i g;
+  }
+
+-- ---------------------------------------------------------------- the pool after a list
+
+module _ (ws : List ℕ) (base size top : ℕ) (l : List ℕ) (h : base + size ≤ length ws) (g : top + length l ≤ size) where
+  mid-length : length (midOf base size ws) ≡ size
+  mid-length = length-sec base size ws h
+
+  front : length (take top (midOf base size ws)) ≡ top
+  front = length-take-le top (midOf base size ws) (omega (arith, mid-length))
+
+  lay-length : length (lay (midOf base size ws) top l) ≡ size
+  unfolding lay
+  lay-length =
+      let z = length-replicate (length (midOf base size ws) - (top + length l)) (let o : ℕ = 0 in o) in
+      length-append (take top (midOf base size ws)) _ ∙ rw (length-append l _) (omega (arith, front, mid-length, z))
+
+  pub pooled-length : length (pooled ws base size top l) ≡ length ws
+  unfolding pooled
+  pooled-length = same-len-mid base size ws (lay (midOf base size ws) top l) (lay-length ∙ sym mid-length)
+
+  pub pooled-frame : Frame base (base + size) ws (pooled ws base size top l)
+  unfolding pooled
+  pooled-frame =
+      let q : base + size - base ≡ size = omega arith in
+      rw q at (frame-put base (base + size) ws (lay (midOf base size ws) top l) (omega arith) h (rw q lay-length))
+
+  pub pooled-list : sec (base + top) (length l) (pooled ws base size top l) ≡ l
+  unfolding pooled lay
+  pooled-list =
+      sec-put base size top (length l) ws (lay (midOf base size ws) top l) (omega arith) (omega (arith, lay-length))
+      ∙ ap (take (length l)) (drop-at (take top (midOf base size ws)) _ top front) ∙ take-at l _ (length l) refl
+
+  -- a list before it
+  pub pooled-before : (a b : ℕ) → a ≤ b → b ≤ top → sec (base + a) (b - a) (pooled ws base size top l) ≡ sec (base + a) (b - a) ws
+  unfolding pooled lay
+  pooled-before a b k j =
+      let m = midOf base size ws in
+      sec-put base size a (b - a) ws (lay m top l) (omega arith) (omega (arith, lay-length))
+      ∙ sym (sec-take a (b - a) top (lay m top l) (omega arith)) ∙ ap (sec a (b - a)) (take-at (take top m) _ top front)
+      ∙ sec-take a (b - a) top m (omega arith) ∙ sec-mid base size a (b - a) ws (omega arith)
+
+  pub pooled-blank : (i : ℕ) → top + length l ≤ i → i < size → getD (pooled ws base size top l) (base + i) 0 ≡ 0
+  unfolding pooled lay
+  pooled-blank i k j =
+      let m = midOf base size ws in
+      let z = replicate (length m - (top + length l)) (let o : ℕ = 0 in o) in
+      let q : base + 0 ≡ base = omega arith in
+      let s : sec base size (putMid base size ws (lay m top l)) ≡ sec 0 size (lay m top l) = rw q at (sec-put base size 0 size ws (lay m top l) (omega arith) (omega (arith, lay-length))) in
+      let e : i ≡ top + (length l + (i - top - length l)) = omega arith in
+      let f : length l + (i - top - length l) ≡ i - top = omega arith in
+      sym (getD-sec base size i (putMid base size ws (lay m top l)) j) ∙ ap (λ (x : List ℕ). getD x i 0) s
+      ∙ getD-sec 0 size i (lay m top l) j
+      ∙ ap (λ (x : ℕ). getD (lay m top l) x 0) (let y : 0 + i ≡ length (take top m) + (length l + (i - top - length l)) = omega (arith, front) in y)
+      ∙ getD-append-add (take top m) (l ++ z) (length l + (i - top - length l)) 0 ∙ getD-append-add l z (i - top - length l) 0
+      ∙ getD-replicate (length m - (top + length l)) (i - top - length l) 0 0 (omega (arith, mid-length))
+
+  pub pooled-at : (i : ℕ) → i < top → getD (pooled ws base size top l) (base + i) 0 ≡ getD ws (base + i) 0
+  pooled-at i k =
+      let y : base + 0 + i ≡ base + i = omega arith in
+      let z : i < top - 0 = omega arith in
+      let e = pooled-before 0 top (omega arith) (omega arith) in
+      rw y at (sym (getD-sec (base + 0) (top - 0) i (pooled ws base size top l) z) ∙ ap (λ (x : List ℕ). getD x i 0) e ∙ getD-sec (base + 0) (top - 0) i ws z)
+
+-- the workspace whole
+module _ (ws₀ ws : List ℕ) (at size start e : ℕ) (l : Laid ws₀ at size start e ws) where
+  abbrev listed : List ℕ
+  listed = sec (at + start) (e - start) ws
+
+  listed-length : length listed ≡ e - start
+  listed-length = length-sec (at + start) (e - start) ws (omega (arith, l .order, l .within, l .inside))
+
+  there : at + size ≤ length ws₀
+  there = omega (arith, l .inside, l .same)
+
+  fits : start + length listed ≤ size
+  fits = omega (arith, listed-length, l .order, l .within)
+
+  listed-at : (i : ℕ) → at + start ≤ i → i < at + e → getD ws i 0 ≡ getD (pooled ws₀ at size start listed) i 0
+  listed-at i a b =
+      let j = i - (at + start) in
+      let q : at + start + j ≡ i = omega arith in
+      let m : j < e - start = omega arith in
+      let k : j < length listed = omega (arith, listed-length) in
+      rw (← q) (sym (getD-sec (at + start) (e - start) j ws m) ∙ sym (ap (λ (x : List ℕ). getD x j 0) (pooled-list ws₀ at size start listed there fits))
+      ∙ getD-sec (at + start) (length listed) j (pooled ws₀ at size start listed) k)
+
+  each : (i : ℕ) → getD ws i 0 ≡ getD (pooled ws₀ at size start listed) i 0
+  each i =
+      let f = pooled-frame ws₀ at size start listed there fits in
+      elim (decLt i at) [
+        | yes a ↦ l .before i (omega arith) ∙ sym (getD-before i f a)
+        | no a ↦ elim (decLt i (at + start)) [
+          | yes b ↦ (let q : at + (i - at) ≡ i = omega arith in l .before i b ∙ sym (rw q at (pooled-at ws₀ at size start listed there fits (i - at) (omega arith))))
+          | no b ↦ elim (decLt i (at + e)) [
+            | yes c ↦ listed-at i (omega arith) c
+            | no c ↦ elim (decLt i (at + size)) [
+              | yes d ↦ (let q : at + (i - at) ≡ i = omega arith in rw q at (l .blank (i - at) (omega arith) (omega arith)
+                  ∙ sym (pooled-blank ws₀ at size start listed there fits (i - at) (omega (arith, listed-length, l .order)) (omega arith))))
+              | no d ↦ l .after i (omega arith) ∙ sym (getD-after i f (omega arith))
+            ]
+          ]
+        ]
+      ]
+
+  pub laid-whole : ws ≡ pooled ws₀ at size start listed
+  laid-whole = ext-getD 0 ws (pooled ws₀ at size start listed) (l .same ∙ sym (pooled-length ws₀ at size start listed there fits)) (λ i _. each i)
 
 -- ---------------------------------------------------------------- a stride
 
--- across an open edge of a span that has an id there is a span
-open-near : (F : Field) (w : ℕ) (is cs ids : List ℕ) (c s d : ℕ) → Ways F w is cs ids c s → (getD ids s 0 ≡ 0 → ⊥) → solid F ids s d ≡ false → near F s d ≡ none → ⊥
-unfolding solid across
-open-near F w is cs ids c s d v own o z =
-    let same : getD ids (near F s d) 0 ≡ getD ids s 0 = eqb-true _ _ (not-false _ o) in
-    let far : getD ids none 0 ≡ 0 = List·getD-eq-default ids 0 (omega (arith, v .idents, v .spot .reached .celled .few)) in
-    own (sym same ∙ ap (λ (x : ℕ). getD ids x 0) z ∙ far)
-
--- the ways from the span that a step leads to
-stepped-ways : (F : Field) (w : ℕ) (is cs cons ids : List ℕ) (c s d a t : ℕ) → cons ≡ consAt cs s → Ways F w is cs ids c s → d < 4
-    → ((F : Field) (s : ℕ) → Leaf F w is cons c s → t ≡ near F s d) → a ≡ cellTo w c d → (near F s d ≡ none → ⊥) → Ways F w is cs ids a t
-stepped-ways F w is cs cons ids c s d a t e v g n q k =
-    let m : t ≡ near F s d = n F s (spot-leaf F w is cs cons c s (v .spot) e) in
-    record { sound = v .sound; spot = step-spot w is cs cons c s e d t n F a (v .spot) g q (λ z. k (sym m ∙ z)); idents = v .idents }
-
-module _ (w : ℕ) (is cs cons ids pool : List ℕ) (v u : Walker) (four : cons ≡ consAt cs (v .place .span .0)) where
-  abbrev C : ℕ
-  C = v .place .cell
-
-  abbrev S : ℕ
-  S = v .place .span .0
-
-  -- the connection there is not none
-  pub stand-open : Standing w is cs ids v pool → (b : Bool) → ((F : Field) → Edged F w is cons ids C S → b ≡ solid F ids S (v .dir)) → b ≡ false → getD cons (v .dir) 0 ≡ 255 → ⊥
-  stand-open st b f t k =
-      let z = sym (f (st .F) (ways-edged (st .F) w is cs cons ids C S four (st .ways))) ∙ t in
-      open-near (st .F) w is cs ids C S (v .dir) (st .ways) (st .own) z (sym (spot-none w is cs cons C S (v .dir) four (st .dir) k (st .F) (st .ways .spot)))
-
-  pub stride-step : Standing w is cs ids v pool → (b : Bool) → ((F : Field) → Edged F w is cons ids C S → b ≡ solid F ids S (v .dir)) → b ≡ false
-      → (to : Place) → ((F : Field) (s : ℕ) → Leaf F w is cons C s → to .span .0 ≡ near F s (v .dir)) × (to .cell ≡ cellTo w C (v .dir)) × (to .span .0 ≡ 65535 → ⊥) → u ≡ stepped v to
-      → Stridden w is cs ids pool v pool u
-  unfolding view stride if_then_else_
-  stride-step st b f t to g e =
-      let clear : (F : Field) → Ways F w is cs ids C S → solid F ids S (v .dir) ≡ false = λ F l. sym (f F (ways-edged F w is cs cons ids C S four l)) ∙ t in
-      rw e (record {
-        same = λ F start l h.
-            let z = clear F l in
-            let m = g .0 F S (spot-leaf F w is cs cons C S (l .spot) four) in
-            rw (z, m);
-        ways = λ F l. stepped-ways F w is cs cons ids C S (v .dir) _ _ four l (st .dir) (g .0) (g .1) (open-near F w is cs ids C S (v .dir) l (st .own) (clear F l));
-        laid = λ pool₀ start l. l;
-        order = omega arith;
-      })
-
-  module _ (b : Bool) (f : (F : Field) → Edged F w is cons ids C S → b ≡ solid F ids S (v .dir)) (t : b ≡ true) (r : ℕ) (g : (F : Field) → Edged F w is cons ids C S → r ≡ across F ids S (v .dir)) where
-    pub stride-turn : r ≡ v .last → u ≡ turned v → Stridden w is cs ids pool v pool u
-    unfolding view stride if_then_else_
-    stride-turn q e = rw e (record {
-      same = λ F start l h.
-          let k = ways-edged F w is cs cons ids C S four l in
-          let z : solid F ids S (v .dir) ≡ true = sym (f F k) ∙ t in
-          let a : across F ids S (v .dir) ≡ v .last = sym (g F k) ∙ q in
-          rw (z, a, eq-eqb (v .last) (v .last) refl);
-      ways = λ F l. l;
-      laid = λ pool₀ start l. l;
-      order = omega arith;
-    })
-
-    pub stride-note : (r ≡ v .last → ⊥) → v .end < length pool → u ≡ turned (noted v r) → Stridden w is cs ids pool v (set pool (v .end) r) u
-    unfolding view stride if_then_else_
-    stride-note q k e = rw e (record {
-      same = λ F start l h.
-          let j = ways-edged F w is cs cons ids C S four l in
-          let z : solid F ids S (v .dir) ≡ true = sym (f F j) ∙ t in
-          let a : across F ids S (v .dir) ≡ r = sym (g F j) in
-          rw (z, a, ne-eqb r (v .last) q, sec-push pool start (v .end) r h k);
-      ways = λ F l. l;
-      laid = λ pool₀ start l. laid-push pool₀ pool start (v .end) r l k;
-      order = omega arith;
-    })
-
-module _ (w : ℕ) (is cs cons ids pool : List ℕ) (v : Walker) (four : cons ≡ consAt cs (v .place .span .0)) (st : Standing w is cs ids v pool) where
-  pub stand-edged : SomeEdged w is cons ids (v .place .cell) (v .place .span .0)
-  stand-edged = record { F = st .F; edged = ways-edged (st .F) w is cs cons ids _ _ four (st .ways) }
-
-  pub stand-leaf : SomeLeaf w is cons (v .place .cell)
-  stand-leaf = edged-leaf w is cons ids _ _ stand-edged
-
-  -- one more id has room
-  pub stand-room : (r : ℕ) → ((F : Field) → Edged F w is cons ids (v .place .cell) (v .place .span .0) → r ≡ across F ids (v .place .span .0) (v .dir)) → (r ≡ v .last → ⊥) → v .end < length pool
-  stand-room r g n = st .room (λ z. n (g (st .F) (ways-edged (st .F) w is cs cons ids _ _ four (st .ways)) ∙ z))
+-- what is written in the pool leaves the net as it was
+pool-net : (pool : Pool) (ids ws : List ℕ) (e v : ℕ) → pool .at + 4 * length ids ≤ pool .table → pool .table + 4 * length ids ≤ length ws → e < 4 * length ids
+    → netAt (pool .table) ids (set ws (pool .at + e) v) ≡ netAt (pool .table) ids ws
+pool-net pool ids ws e v a r h =
+    net-same (pool .table) ids ws (set ws (pool .at + e) v) r (length-set ws (pool .at + e) v) (λ i g. getD-set-other ws (pool .at + e) i v 0 (λ z. omega arith))
 
 -- the four connections of the walker's span can be read
-pub stand-con : (w : ℕ) (is cs ids pool : List ℕ) (v : Walker) → Standing w is cs ids v pool → 4 * v .place .span .0 + 3 < length cs
-stand-con w is cs ids pool v st = spot-con w is cs _ _ (record { F = st .F; spot = st .ways .spot })
+pub stand-con : (pool : Pool) (cs ids ws : List ℕ) (v : Walker) → Standing pool cs ids v ws → 4 * v .span .0 + 3 < length cs
+stand-con pool cs ids ws v st = omega (arith, st .span, st .lent .linked)
+
+module _ (pool : Pool) (cs cons ids ws : List ℕ) (v : Walker) (st : Standing pool cs ids v ws) (four : cons ≡ consAt cs (v .span .0)) where
+  abbrev S : ℕ
+  S = v .span .0
+
+  abbrev D : ℕ
+  D = v .dir
+
+  pub stand-at : AtSpan (pool .table) ids ws cons S
+  stand-at = lent-span (pool .table) ids cs ws cons S (st .lent) (st .span) four
+
+  pub stride-step : (b : Bool) → b ≡ solid (netAt (pool .table) ids ws) ids S D → b ≡ false
+      → (to : SpanIx) → to .0 ≡ getD ws (pool .table + (4 * S + D)) 0 → (u : Walker) → u ≡ stepped v to → Stridden pool ids ws v ws u
+  unfolding view stride if_then_else_
+  stride-step b f t to g u e =
+      let z : solid (netAt (pool .table) ids ws) ids S D ≡ false = sym f ∙ t in
+      let m : near (netAt (pool .table) ids ws) S D ≡ to .0 = near-is (pool .table) ids ws cons S D (to .0) stand-at (st .dir) g in
+      rw e (record { same = λ start h. rw (z, m); net = refl; laid = λ ws₀ start l. l; order = omega arith })
+
+  module _ (b : Bool) (f : b ≡ solid (netAt (pool .table) ids ws) ids S D) (t : b ≡ true) (r : ℕ) (g : r ≡ across (netAt (pool .table) ids ws) ids S D) where
+    pub stride-turn : r ≡ v .last → (u : Walker) → u ≡ turned v → Stridden pool ids ws v ws u
+    unfolding view stride if_then_else_
+    stride-turn q u e =
+        let z : solid (netAt (pool .table) ids ws) ids S D ≡ true = sym f ∙ t in
+        let a : across (netAt (pool .table) ids ws) ids S D ≡ v .last = sym g ∙ q in
+        rw e (record { same = λ start h. rw (z, a, eq-eqb (v .last) (v .last) refl); net = refl; laid = λ ws₀ start l. l; order = omega arith })
+
+    module _ (q : r ≡ v .last → ⊥) where
+      -- one more id has room
+      pub stand-room : v .end < 4 * length ids
+      stand-room = st .room (λ z. q (g ∙ z))
+
+      pub stand-in : pool .at + v .end < length ws
+      stand-in = omega (arith, stand-room, st .apart, st .lent .room)
+
+      pub stride-note : (u : Walker) → u ≡ turned (noted v r) → Stridden pool ids ws v (set ws (pool .at + v .end) r) u
+      unfolding view stride if_then_else_
+      stride-note u e =
+          let z : solid (netAt (pool .table) ids ws) ids S D ≡ true = sym f ∙ t in
+          let a : across (netAt (pool .table) ids ws) ids S D ≡ r = sym g in
+          rw e (record {
+            same = λ start h. rw (z, a, ne-eqb r (v .last) q, sec-push ws (pool .at) start (v .end) r h stand-in);
+            net = pool-net pool ids ws (v .end) r (st .apart) (st .lent .room) stand-room;
+            laid = λ ws₀ start l. laid-push ws₀ ws (pool .at) (4 * length ids) start (v .end) l r stand-room;
+            order = omega arith;
+          })
 
 -- ---------------------------------------------------------------- the start
 
@@ -187,68 +253,83 @@ many-one v (x ∷ l) (suc s) h e = go (eqb v x) (many-one v l s (omega arith) e)
     go true h = omega arith
     go false h = h
 
-module _ (w : ℕ) (is cs ids pool : List ℕ) (c s d start : ℕ) (st : Start w is cs ids c s d start pool) where
+module _ (pool : Pool) (cs ids ws : List ℕ) (s start : ℕ) (st : Start pool cs ids s start ws) where
   pub start-con : 4 * s + 3 < length cs
-  start-con = spot-con w is cs c s (record { F = st .F; spot = st .ways .spot })
+  start-con = omega (arith, st .span, st .ways .lent .linked)
 
-  pub start-edged : (cons : List ℕ) → cons ≡ consAt cs s → SomeEdged w is cons ids c s
-  start-edged cons e = record { F = st .F; edged = ways-edged (st .F) w is cs cons ids c s e (st .ways) }
+  pub start-at : (cons : List ℕ) → cons ≡ consAt cs s → AtSpan (pool .table) ids ws cons s
+  start-at cons e = lent-span (pool .table) ids cs ws cons s (st .ways .lent) (st .span) e
 
-  pub start-room : start < length pool
-  start-room = omega (arith, st .room, many-one (getD ids s 0) ids s (omega (arith, st .ways .spot .stands .span, st .ways .idents)) refl)
+  start-room : start < 4 * length ids
+  start-room = omega (arith, st .room, many-one (getD ids s 0) ids s (st .span) refl)
 
-  pub begun : (cons : List ℕ) → cons ≡ consAt cs s → (r : ℕ) (u : Walker) → ((F : Field) → Edged F w is cons ids c s → r ≡ across F ids s d)
-      → u .place .cell ≡ c → u .place .span .0 ≡ s → u .dir ≡ d → u .last ≡ r → u .end ≡ start + 1 → Begun w is cs ids pool c s d start (set pool start r) u
+  pub start-in : pool .at + start < length ws
+  start-in = omega (arith, start-room, st .apart, st .ways .lent .room)
+
+  pub start-laid : Laid ws (pool .at) (4 * length ids) start start ws
+  start-laid = record {
+    order = omega arith;
+    within = omega (arith, start-room);
+    inside = omega (arith, st .apart, st .ways .lent .room);
+    same = refl;
+    before = λ i g. refl;
+    blank = st .blank;
+    after = λ i g. refl;
+  }
+
+  pub begun : (d r : ℕ) (u : Walker) → r ≡ across (netAt (pool .table) ids ws) ids s d → u .span .0 ≡ s → u .dir ≡ d → u .last ≡ r → u .end ≡ start + 1
+      → Begun pool ids ws s d start (set ws (pool .at + start) r) u
   unfolding view first
-  begun cons four r u g i a b j e = record {
-    same = λ F l.
-        let z : sec start (start - start) pool ≡ [] = (let k : start - start ≡ 0 = omega arith in rw k refl) in
-        rw (a, b, j, e, sec-push pool start start r (omega arith) start-room, z, g F (ways-edged F w is cs cons ids c s four l));
-    cell = i;
-    span = a;
-    laid = rw e (laid-push pool pool start start r (st .laid) start-room);
+  begun d r u g a b j e = record {
+    same =
+        let z : sec (pool .at + start) (start - start) ws ≡ [] = (let k : start - start ≡ 0 = omega arith in rw k refl) in
+        rw (a, b, j, e, sec-push ws (pool .at) start start r (omega arith) start-in, z, g);
+    net = pool-net pool ids ws start r (st .apart) (st .ways .lent .room) start-room;
+    laid = rw e (laid-push ws ws (pool .at) (4 * length ids) start start start-laid r start-room);
     order = rw e (omega arith);
   }
 
 -- ---------------------------------------------------------------- trimming
 
-module _ (pool : List ℕ) (start e : ℕ) (h : start < e) (g : e ≤ length pool) where
-  sec-length : length (sec start (e - start) pool) ≡ e - start
-  sec-length = length-sec start (e - start) pool (omega arith)
+module _ (at : ℕ) (ws : List ℕ) (start e : ℕ) (h : start < e) (g : at + e ≤ length ws) where
+  abbrev list : List ℕ
+  list = sec (at + start) (e - start) ws
 
-  sec-first : getD (sec start (e - start) pool) 0 0 ≡ getD pool start 0
-  sec-first =
-      let q : start + 0 ≡ start = omega arith in
-      rw q at (getD-sec start (e - start) 0 pool (omega arith))
+  list-length : length list ≡ e - start
+  list-length = length-sec (at + start) (e - start) ws (omega arith)
 
-  sec-last : getD (sec start (e - start) pool) (length (sec start (e - start) pool) - 1) 0 ≡ getD pool (e - 1) 0
-  sec-last =
-      let q : start + (e - start - 1) ≡ e - 1 = omega arith in
-      rw sec-length (rw q at (getD-sec start (e - start) (e - start - 1) pool (omega arith)))
+  list-first : getD list 0 0 ≡ getD ws (at + start) 0
+  list-first =
+      let q : at + start + 0 ≡ at + start = omega arith in
+      rw q at (getD-sec (at + start) (e - start) 0 ws (omega arith))
 
-  pub trim-short : e - start < 2 → Trimmed pool start e pool e
+  list-last : getD list (length list - 1) 0 ≡ getD ws (at + (e - 1)) 0
+  list-last =
+      let q : at + start + (e - start - 1) ≡ at + (e - 1) = omega arith in
+      rw list-length (rw q at (getD-sec (at + start) (e - start) (e - start - 1) ws (omega arith)))
+
+  pub trim-short : e - start < 2 → Trimmed at ws start e ws e
   unfolding trim
   trim-short k = record {
-    same = if-ind (λ (x : List ℕ). sec start (e - start) pool ≡ x) _ (λ t. absurd (omega (tests, both _ _ t .0, sec-length))) (λ _. refl);
-    laid = λ pool₀ l. l;
+    same = if-ind (λ (x : List ℕ). list ≡ x) _ (λ t. absurd (omega (tests, both _ _ t .0, list-length))) (λ _. refl);
+    laid = λ ws₀ size l. l;
   }
 
-  pub trim-other : (getD pool start 0 ≡ getD pool (e - 1) 0 → ⊥) → Trimmed pool start e pool e
+  pub trim-other : (getD ws (at + start) 0 ≡ getD ws (at + (e - 1)) 0 → ⊥) → Trimmed at ws start e ws e
   unfolding trim
   trim-other n = record {
-    same = if-ind (λ (x : List ℕ). sec start (e - start) pool ≡ x) _ (λ t. absurd (n (sym sec-first ∙ eqb-true _ _ (both _ _ t .1) ∙ sec-last))) (λ _. refl);
-    laid = λ pool₀ l. l;
+    same = if-ind (λ (x : List ℕ). list ≡ x) _ (λ t. absurd (n (sym list-first ∙ eqb-true _ _ (both _ _ t .1) ∙ list-last))) (λ _. refl);
+    laid = λ ws₀ size l. l;
   }
 
-  pub trim-drop : 2 ≤ e - start → getD pool start 0 ≡ getD pool (e - 1) 0 → Trimmed pool start e (set pool (e - 1) 0) (e - 1)
+  pub trim-drop : 2 ≤ e - start → getD ws (at + start) 0 ≡ getD ws (at + (e - 1)) 0 → Trimmed at ws start e (set ws (at + (e - 1)) 0) (e - 1)
   unfolding trim if_then_else_
   trim-drop k n = record {
     same =
-        let l = sec start (e - start) pool in
-        let t : (ltb 1 (length l) and eqb (getD l 0 0) (getD l (length l - 1) 0)) ≡ true =
-        and-both _ _ (lt-ltb 1 (length l) (omega (arith, sec-length))) (eq-eqb _ _ (sec-first ∙ n ∙ sym sec-last)) in
-        sec-pop pool start e 0 h g ∙ rw t;
-    laid = λ pool₀ l. laid-pop pool₀ pool start e l h;
+        let t : (ltb 1 (length list) and eqb (getD list 0 0) (getD list (length list - 1) 0)) ≡ true =
+        and-both _ _ (lt-ltb 1 (length list) (omega (arith, list-length))) (eq-eqb _ _ (list-first ∙ n ∙ sym list-last)) in
+        sec-pop ws at start e 0 h g ∙ rw t;
+    laid = λ ws₀ size l. laid-pop ws₀ ws at size start e l h;
   }
 
 pub noted-dir : (v u : Walker) (r : ℕ) → u ≡ noted v r → v .dir < 4 → u .dir < 4

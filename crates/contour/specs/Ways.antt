@@ -1,36 +1,35 @@
--- What of the field an edge test and a walk are lent.
-use Prim.Native.Nat.{ℕ, zero, suc, _+_}
+-- What an edge test and a walk are lent: neighbours, and connections that go with them. No area is read, so the ids stand where a net has its areas.
+use Prim.Native.Nat.{ℕ, zero, suc, _+_, _%_, _<_}
 use mathlib.Core.Path.{_≡_}
 use mathlib.Core.List.{List}
-use lib.ListN.{length}
 use lib.Dec.{ltb}
 use Rattle.rules.specs.Base.{if_then_else_}
-use Rattle.rules.specs.Field.{Field, spans}
+use Rattle.rules.specs.Field.{none}
+use Rattle.rules.specs.Net.{Net, spans, near}
 use Rattle.rules.specs.Contour.{solid}
-use Rattle.field.specs.Lent.{Sound, Spot, Leaf}
+use Rattle.net.specs.Table.{netAt, Lent}
 use Rattle.contour.specs.declared.edge.Edge.{Edge}
 use Rattle.contour.specs.declared.edge.Edge.the-variants.{At, Nowhere}
 
--- the edges of span s, which stands in cell c and has the connections cons
-pub record Edged (F : Field) (w : ℕ) (index cons ids : List ℕ) (c s : ℕ) : Type 0 where
-  pub leaf : Leaf F w index cons c s
-  pub idents : length ids ≡ spans F
+-- a neighbour's neighbour the other way is the span itself
+pub record Mutual (N : Net) : Type 0 where
+  pub back : (s d : ℕ) → s < spans N → d < 4 → (near N s d ≡ none → ⊥) → near N (near N s d) ((d + 2) % 4) ≡ s
 
-pub record SomeEdged (w : ℕ) (index cons ids : List ℕ) (c s : ℕ) : Type 0 where
-  pub F : Field
-  pub edged : Edged F w index cons ids c s
-
--- the ways of a field that is not refused, from span s in cell c on
-pub record Ways (F : Field) (w : ℕ) (index con ids : List ℕ) (c s : ℕ) : Type 0 where
-  pub sound : Sound F
-  pub spot : Spot F w index con c s
-  pub idents : length ids ≡ spans F
+-- the ways of a walk
+pub record Ways (table : ℕ) (con ids ws : List ℕ) : Type 0 where
+  pub lent : Lent table ids con ws
+  pub answers : Mutual (netAt table ids ws)
 
 -- the first solid direction of the n from d on
-unfoldable pub firstFrom : Field → List ℕ → ℕ → ℕ → ℕ → ℕ
-firstFrom F ids s zero d = 4
-firstFrom F ids s (suc n) d = let rest = firstFrom F ids s n (d + 1) in if solid F ids s d then d else rest
+unfoldable pub firstFrom : Net → List ℕ → ℕ → ℕ → ℕ → ℕ
+firstFrom N ids s zero d = 4
+firstFrom N ids s (suc n) d = let rest = firstFrom N ids s n (d + 1) in if solid N ids s d then d else rest
 
 -- the rules' number for a direction or none
+unfoldable pub edgeNumber : Edge → ℕ
+edgeNumber (At d) = d
+edgeNumber Nowhere = 4
+
+-- and the direction or none of a number
 unfoldable pub edgeOf : ℕ → Edge
 edgeOf k = if ltb k 4 then At k else Nowhere

@@ -1,86 +1,89 @@
-// The walk round a region, listed in the pool: a part of the workspace, lent by itself.
+// The walk round a region, listed in the pool: a section of the workspace, which lies before the table of neighbours.
 use crate::edge::across;
 use crate::edge::is_solid_edge;
 use crate::walker::Walker;
-use field::place::Place;
+use field::place::SpanIx;
 use field::place::connections;
-use field::place::follow;
+use net::neighbour;
 ghost use mathlib.Core.Path.{_≡_};
-ghost use Prim.Native.Nat.{_+_, _-_, _<_, _≤_};
+ghost use Prim.Native.Nat.{_+_, _*_, _<_, _≤_};
 ghost use lib.ListN.{length};
-ghost use Rattle.rules.specs.Field.{Field};
 ghost use Rattle.rules.specs.Contour.{contour};
-ghost use Rattle.space.specs.Space.{sec};
-ghost use Rattle.contour.specs.Ways.{Ways};
-ghost use Rattle.contour.specs.Pool.{lay, Standing, Start, Stridden, Begun, Walked, Trimmed};
+ghost use Rattle.net.specs.Table.{netAt, lastPlace};
+ghost use Rattle.contour.specs.Pool.{pooled, Standing, Start, Stridden, Begun, Walked, Trimmed};
+
+// Where the pool begins in the workspace, four numbers a span, and the table of neighbours. Starts and ends of lists are counted from
+// the pool's place on.
+pub struct Pool {
+    pub at: usize,
+    pub table: usize,
+}
+
+// No walk is longer.
+const MOST_STRIDES: usize = 40000;
 
 // At a solid edge, an id other than the last listed is listed and the walker turns; at an open one it steps.
-fn stride(w: usize, index: &[u32], con: &[u8], ids: &[u16], pool: &mut [u16], v: Walker) -> Walker
-    requires { ⌜ Standing w (now index) (now con) (now ids) v (now pool) ⌝ }
-    ensures { λ r. ⌜ Stridden w (now (index .entry)) (now (con .entry)) (now (ids .entry)) (now (pool .entry)) v (now (pool .exit)) r ⌝ }
+fn stride(con: &[u8], ids: &[u16], ws: &mut [u16], pool: Pool, v: Walker) -> Walker
+    requires { ⌜ Standing pool (now con) (now ids) v (now ws) ⌝ }
+    ensures { λ r. ⌜ Stridden pool (now (ids .entry)) (now (ws .entry)) v (now (ws .exit)) r ⌝ }
 {
-    let p = v.place;
-    let s = p.span;
+    let s = v.span;
     let d = v.dir;
     let cons = connections(con, s);
-    if is_solid_edge(w, index, ids, cons, p, d) {
-        let r = across(w, index, ids, cons, p, d);
+    if is_solid_edge(ids, ws, pool.table, cons, s, d) {
+        let r = across(ids, ws, pool.table, cons, s, d);
         if r == v.last {
             return v.turn();
         }
-        let end = v.end;
-        pool[end] = r;
+        ws[pool.at + v.end] = r;
         return v.note(r).turn();
     }
-    let to = follow(w, index, cons, p.cell, d);
+    let to = neighbour(ws, pool.table, s, d);
     v.step(to)
 }
 
 // The id across the starting edge is listed.
 fn begin(
-    w: usize,
-    index: &[u32],
     con: &[u8],
     ids: &[u16],
-    pool: &mut [u16],
-    p: Place,
+    ws: &mut [u16],
+    pool: Pool,
+    span: SpanIx,
     d: usize,
     start: usize,
 ) -> Walker
-    requires { ⌜ Start w (now index) (now con) (now ids) (p .cell) (p .span .0) d start (now pool) ⌝ }
-    ensures { λ r. ⌜ Begun w (now (index .entry)) (now (con .entry)) (now (ids .entry)) (now (pool .entry)) (p .cell) (p .span .0) d start (now (pool .exit)) r ⌝ }
+    requires { ⌜ Start pool (now con) (now ids) (span .0) start (now ws) × (d < 4) ⌝ }
+    ensures { λ r. ⌜ Begun pool (now (ids .entry)) (now (ws .entry)) (span .0) d start (now (ws .exit)) r ⌝ }
 {
-    let s = p.span;
-    let cons = connections(con, s);
-    let r = across(w, index, ids, cons, p, d);
-    pool[start] = r;
+    let cons = connections(con, span);
+    let r = across(ids, ws, pool.table, cons, span, d);
+    ws[pool.at + start] = r;
     Walker {
-        place: p,
+        span,
         dir: d,
         last: r,
         end: start + 1,
     }
 }
 
-// Round the region, until the walker is back, for at most 40,000 strides.
+// Round the region, until the walker is back.
 fn walk(
-    w: usize,
-    index: &[u32],
     con: &[u8],
     ids: &[u16],
-    pool: &mut [u16],
-    p: Place,
+    ws: &mut [u16],
+    pool: Pool,
+    span: SpanIx,
     d: usize,
     start: usize,
 ) -> Walker
-    requires { ⌜ Start w (now index) (now con) (now ids) (p .cell) (p .span .0) d start (now pool) ⌝ }
-    ensures { λ r. ⌜ Walked w (now (index .entry)) (now (con .entry)) (now (ids .entry)) (now (pool .entry)) (p .cell) (p .span .0) d start (now (pool .exit)) r ⌝ }
+    requires { ⌜ Start pool (now con) (now ids) (span .0) start (now ws) × (d < 4) ⌝ }
+    ensures { λ r. ⌜ Walked pool (now (ids .entry)) (now (ws .entry)) (span .0) d start (now (ws .exit)) r ⌝ }
 {
-    let mut v = begin(w, index, con, ids, pool, p, d, start);
+    let mut v = begin(con, ids, ws, pool, span, d, start);
     let mut k: usize = 0;
-    while k < 40000 {
-        v = stride(w, index, con, ids, pool, v);
-        if v.at(p, d) {
+    while k < MOST_STRIDES {
+        v = stride(con, ids, ws, pool, v);
+        if v.at(span, d) {
             return v;
         }
         k += 1;
@@ -89,47 +92,39 @@ fn walk(
 }
 
 // A last entry equal to the first is dropped when the list has more than one. Gives the list's end.
-fn trim(pool: &mut [u16], start: usize, end: usize) -> usize
-    requires { ⌜ start < end ⌝ }
-    requires { ⌜ end ≤ length (now pool) ⌝ }
-    ensures { λ r. ⌜ Trimmed (now (pool .entry)) start end (now (pool .exit)) r ⌝ }
+fn trim(ws: &mut [u16], pool: Pool, start: usize, end: usize) -> usize
+    requires { ⌜ (pool .at ≤ lastPlace) × (start < end) × (pool .at + end ≤ length (now ws)) ⌝ }
+    ensures { λ r. ⌜ Trimmed (pool .at) (now (ws .entry)) start end (now (ws .exit)) r ⌝ }
 {
     if end - start < 2 {
         return end;
     }
     let last = end - 1;
-    if pool[start] != pool[last] {
+    if ws[pool.at + start] != ws[pool.at + last] {
         return end;
     }
-    pool[last] = 0;
+    ws[pool.at + last] = 0;
     last
 }
 
-// The contour of the region of the span at place p, from its solid edge in direction d, is listed in the pool from start on. Gives the
-// list's end.
+// The contour of the span's region, from its solid edge in direction d, is listed in the pool from start on. Gives the list's end.
 pub fn walk_contour(
-    w: usize,
-    index: &[u32],
     con: &[u8],
     ids: &[u16],
-    pool: &mut [u16],
-    p: Place,
+    ws: &mut [u16],
+    pool: Pool,
+    span: SpanIx,
     d: usize,
     start: usize,
 ) -> usize
-    requires { ⌜ Start w (now index) (now con) (now ids) (p .cell) (p .span .0) d start (now pool) ⌝ }
-    ensures { λ _. ⌜ ((F : Field) → Ways F w (now (index .entry)) (now (con .entry)) (now (ids .entry)) (p .cell) (p .span .0) → now (pool .exit) ≡ lay (now (pool .entry)) start (contour F (now (ids .entry)) (p .span .0) d)) ⌝ }
-    ensures { λ r. ⌜ ((F : Field) → Ways F w (now (index .entry)) (now (con .entry)) (now (ids .entry)) (p .cell) (p .span .0) → r ≡ start + length (contour F (now (ids .entry)) (p .span .0) d)) ⌝ }
+    requires { ⌜ Start pool (now con) (now ids) (span .0) start (now ws) × (d < 4) ⌝ }
+    ensures { λ _. ⌜ (let net = netAt (pool .table) (now (ids .entry)) (now (ws .entry)) in
+        let list = contour net (now (ids .entry)) (span .0) d in
+        now (ws .exit) ≡ pooled (now (ws .entry)) (pool .at) (4 * length (now (ids .entry))) start list) ⌝ }
+    ensures { λ r. ⌜ (let net = netAt (pool .table) (now (ids .entry)) (now (ws .entry)) in
+        r ≡ start + length (contour net (now (ids .entry)) (span .0) d)) ⌝ }
 {
-    let v = walk(w, index, con, ids, pool, p, d, start);
+    let v = walk(con, ids, ws, pool, span, d, start);
     let end = v.end;
-    trim(pool, start, end)
-}
-
-// The neighbours that are listed from start to end: the part itself.
-pub fn neighbours(pool: &[u16], start: usize, end: usize) -> &[u16]
-    requires { ⌜ (start ≤ end) × (end ≤ length (now pool)) ⌝ }
-    ensures { λ r. ⌜ now r ≡ sec start (end - start) (now (pool .entry)) ⌝ }
-{
-    &pool[start..end]
+    trim(ws, pool, start, end)
 }

@@ -1,5 +1,5 @@
 // The walker: by value, and handed back by each step.
-use field::place::Place;
+use field::place::SpanIx;
 ghost use mathlib.Core.Path.{_≡_};
 ghost use Prim.Native.Nat.{_<_};
 ghost use Rattle.contour.specs.Walks.{backAt};
@@ -7,7 +7,7 @@ ghost use Rattle.contour.specs.Pool.{turned, stepped, noted};
 
 // A walker stands on a span and faces one direction. It knows the id that it listed last, and where its list ends.
 pub struct Walker {
-    pub place: Place,
+    pub span: SpanIx,
     pub dir: usize,
     pub last: u16,
     pub end: usize,
@@ -15,13 +15,13 @@ pub struct Walker {
 
 impl Walker {
     // To the next direction, on the spot.
-    pub fn turn(self) -> Walker
+    pub(crate) fn turn(self) -> Walker
         requires { ⌜ self .dir < 4 ⌝ }
         ensures { λ r. ⌜ r ≡ turned self ⌝ }
     {
-        let place = self.place;
+        let span = self.span;
         Walker {
-            place,
+            span,
             dir: (self.dir + 1) % 4,
             last: self.last,
             end: self.end,
@@ -29,12 +29,12 @@ impl Walker {
     }
 
     // Across an open edge.
-    pub fn step(self, to: Place) -> Walker
+    pub(crate) fn step(self, to: SpanIx) -> Walker
         requires { ⌜ self .dir < 4 ⌝ }
         ensures { λ r. ⌜ r ≡ stepped self to ⌝ }
     {
         Walker {
-            place: to,
+            span: to,
             dir: (self.dir + 3) % 4,
             last: self.last,
             end: self.end,
@@ -42,24 +42,24 @@ impl Walker {
     }
 
     // One more id is listed.
-    pub fn note(self, r: u16) -> Walker
+    pub(crate) fn note(self, r: u16) -> Walker
         requires { ⌜ self .end < 18446744073709551615 ⌝ }
         ensures { λ v. ⌜ v ≡ noted self r ⌝ }
     {
-        let place = self.place;
+        let span = self.span;
         Walker {
-            place,
+            span,
             dir: self.dir,
             last: r,
             end: self.end + 1,
         }
     }
 
-    // Does it stand on the span at place p and face d?
-    pub fn at(self, p: Place, d: usize) -> bool
-        ensures { λ r. ⌜ r ≡ backAt (p .span .0) d (self .place .span .0) (self .dir) ⌝ }
+    // Does it stand on the span and face d?
+    pub(crate) fn at(self, span: SpanIx, d: usize) -> bool
+        ensures { λ r. ⌜ r ≡ backAt (span .0) d (self .span .0) (self .dir) ⌝ }
     {
-        if self.place.span.0 != p.span.0 {
+        if self.span.0 != span.0 {
             return false;
         }
         self.dir == d

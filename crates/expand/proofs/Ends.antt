@@ -7,21 +7,22 @@ use Prim.Native.Nat.{ℕ, _+_, _-_, _*_, _≤_, _<_}
 use native.Mathlib.Omega.{arith}
 use native.Mathlib.Numerals.{add-one}
 use native.Mathlib.Decide.{ℕ-discrete, decLt}
-use lib.ListN.{length, getD, take, replicate, length-replicate}
+use lib.ListN.{length, getD, take}
 use lib.Seq.{ext-getD, getD-take, length-take-le}
 use borrow.Author.Tests.{eq-eqb, ne-eqb}
-use borrow.Rule.Slice.PartMut.{putMid, midOf, same-len-mid}
 use Rattle.rules.specs.Base.{if_then_else_}
-use Rattle.rules.specs.Field.{Field}
+use Rattle.rules.specs.Field.{none}
+use Rattle.rules.specs.Net.{Net}
 use Rattle.rules.specs.Growth.{rounds, expand}
 use Rattle.laws.proofs.Basics.{All, map-all}
-use Rattle.space.specs.Space.{sec, Frame}
-use Rattle.space.proofs.Laws.{frame-put, getD-after, length-sec, zeroed}
-use Rattle.flood.specs.Site.{Lent}
+use Rattle.space.specs.Space.{sec, Frame, Clear}
+use Rattle.space.proofs.Laws.{getD-before, getD-after}
+use Rattle.net.specs.Table.{netAt, Mutual}
+use Rattle.net.proofs.Tables.{net-same}
 use Rattle.flood.specs.Stack.{marksAt}
-use Rattle.expand.specs.Layout.{fresh, mostAt, listAt, Sizes, Past, Entries, Low, Clear, Kept, Given, Unheld, Ok, Using}
-use Rattle.expand.specs.Front.{SomeMutual, Up, Entry, Flagging, frontOf, Lit, Gone, Settled}
-use Rattle.expand.proofs.Lists.{listAt-cong, length-listAt, listAt-sec, all-at, all-of, marks-same, lent-past}
+use Rattle.expand.specs.Layout.{fresh, mostAt, listAt, Sizes, Past, Entries, Low, Kept, Given, Unheld, Ok, Using}
+use Rattle.expand.specs.Front.{Up, Entry, Flagging, frontOf, Lit, Gone, Settled}
+use Rattle.expand.proofs.Lists.{listAt-cong, length-listAt, listAt-sec, all-at, all-of, marks-same}
 use Rattle.expand.proofs.Sources.{fresh-unheld}
 use Rattle.expand.proofs.Waves.{fresh-twice, map-twice}
 use Rattle.expand.proofs.Fronts.{front-same, entry-on}
@@ -49,6 +50,10 @@ module _ (n a e b fill : ℕ) (ids ws : List ℕ) (z : Sizes n a e b ids ws) whe
   sizes-flags : Past n e (e + 4 * n) ws
   sizes-flags = record { few = z .few; low = omega (arith, z .low, z .apart); room = omega (arith, z .past, z .room); close = omega (arith, z .past, z .close) }
 
+-- the flags alone
+flags-part : {n e : ℕ} {ws : List ℕ} → Past n e (e + 4 * n) ws → Past n (e + 3 * n) (e + 3 * n + n) ws
+flags-part z = record { few = z .few; low = omega (arith, z .low); room = omega (arith, z .room); close = omega (arith, z .close) }
+
 pub given-part : (n a e b fill : ℕ) (ids ws : List ℕ) → Given n a e b fill ids ws → Past (length ids) a (a + length ids) ws
 given-part n a e b fill ids ws g = sizes-part n a e b fill ids ws (g .sizes)
 
@@ -66,7 +71,7 @@ module _ (n a e b fill : ℕ) (ids ws ws₁ : List ℕ) (y : Using (length ids) 
   used-list = used-stack n a fill ids ws ws₁ used
 
   unheld : All (Unheld n ids) (map (fresh ids) (listAt ws a fill))
-  unheld = map-all (λ s. (s ≡ 65535 → ⊥) → s < n) (Unheld n ids) (fresh ids) (listAt ws a fill) (fresh-unheld n ids) (all-of (λ s. (s ≡ 65535 → ⊥) → s < n) ws a fill (g .entries .spans))
+  unheld = map-all (λ s. (s ≡ none → ⊥) → s < n) (Unheld n ids) (fresh ids) (listAt ws a fill) (fresh-unheld n ids) (all-of (λ s. (s ≡ none → ⊥) → s < n) ws a fill (g .entries .spans))
 
   held-at : (j : ℕ) → j < fill → Unheld n ids (getD ws₁ (a + j) 0)
   held-at = all-at (Unheld n ids) ws₁ a fill (rw used-list unheld)
@@ -74,14 +79,11 @@ module _ (n a e b fill : ℕ) (ids ws ws₁ : List ℕ) (y : Using (length ids) 
   pub used-sizes : Sizes n a e b ids ws₁
   used-sizes = sizes-kept ids ws₁ (g .sizes) refl (used .size)
 
-  pub used-below : Past n a e ws₁
-  used-below = sizes-stack n a e b fill ids ws₁ used-sizes
+  pub used-above : (f : ℕ) → f ≡ e + 3 * n → Past n f (f + n) ws₁
+  used-above f p = rw p (flags-part (sizes-flags n a e b fill ids ws₁ used-sizes))
 
-  pub used-above : Past n e (e + 4 * n) ws₁
-  used-above = sizes-flags n a e b fill ids ws₁ used-sizes
-
-  pub used-apart : a + n ≤ e
-  used-apart = g .sizes .apart
+  pub used-apart : (f : ℕ) → f ≡ e + 3 * n → a + n ≤ f
+  used-apart f p = omega (arith, g .sizes .apart)
 
   pub used-entries : Entries n a fill ws₁
   used-entries = record { filled = g .entries .filled; spans = λ j h z. held-at j h z .0 }
@@ -91,14 +93,14 @@ module _ (n a e b fill : ℕ) (ids ws ws₁ : List ℕ) (y : Using (length ids) 
   used-front = rw (marks-same n ids ws ws₁ (used .marks), used-list, map-twice (fresh ids) (fresh ids) (fresh ids) (listAt ws a fill) (fresh-twice ids ids (λ x h. h)))
 
   given-ok : Ok n (frontOf n a fill ids ws)
-  unfolding frontOf marksAt
+  unfolding frontOf
   given-ok = record { idents = g .sizes .idents; entries = unheld; low = g .low }
 
   -- past the stack all is as it was
   used-past : (x : ℕ) → a + fill ≤ x → getD ws₁ x 0 ≡ getD ws x 0
   used-past x h = used .unseen x (inr h)
 
-  module _ (ws₂ : List ℕ) (f : Flagging n a e fill 1 ws₁ ws₂ fill) where
+  module _ (ws₂ : List ℕ) (f : Flagging n a (e + 3 * n) fill 1 ws₁ ws₂ fill) where
     in-stack : (x : ℕ) → a ≤ x → x < a + fill → getD ws₂ x 0 ≡ getD ws₁ x 0
     in-stack x l u = f .same x (inl (omega (arith, g .entries .filled, g .sizes .apart)))
 
@@ -110,7 +112,7 @@ module _ (n a e b fill : ℕ) (ids ws ws₁ : List ℕ) (y : Using (length ids) 
     lit-past : (x : ℕ) → b ≤ x → getD ws₂ x 0 ≡ getD ws x 0
     lit-past x h = f .same x (inr (omega (arith, g .sizes .past))) ∙ used-past x (omega (arith, g .sizes .past, g .sizes .apart, g .entries .filled))
 
-    pub lit : Lit n a e b fill ids ws₂
+    lit : Lit n a e b fill ids ws₂
     lit = record {
       sizes = sizes-kept ids ws₂ used-sizes refl (f .size);
       entries = record { filled = g .entries .filled; spans = λ j h z. let q = in-stack (a + j) (omega arith) (omega arith) in rw q (used-entries .spans j h (λ p. z (q ∙ p))) };
@@ -129,13 +131,22 @@ module _ (n a e b fill : ℕ) (ids ws ws₁ : List ℕ) (y : Using (length ids) 
         lit-at : (x : ℕ) → x < n → Entry ws₁ a fill x → Up n e ws₂ x
         lit-at x h t z = let q : getD ws₂ (e + 3 * n + x) 0 ≡ 1 = rw (t .is) at (f .done (t .at) (t .below) (λ q. omega (arith, t .is, g .sizes .few))) in omega arith
 
-module _ (w : ℕ) (is ar cs : List ℕ) (a e b fill : ℕ) (ids ws ws₁ : List ℕ) (y : Using (length ids) a fill ids ws ws₁ fill) (g : Given (length ar) a e b fill ids ws)
-    (ws₂ : List ℕ) (f : Flagging (length ar) a e fill 1 ws₁ ws₂ fill) where
-  lit-lent : (F : Field) → Lent F w is ar cs b ws → Lent F w is ar cs b ws₂
-  lit-lent = lent-past w is ar cs b ws ws₂ (f .size ∙ y .size) (lit-past (length ar) a e b fill ids ws ws₁ y g ws₂ f)
+module _ (ar : List ℕ) (a e b fill : ℕ) (ids ws ws₁ : List ℕ) (y : Using (length ids) a fill ids ws ws₁ fill) (g : Given (length ar) a e b fill ids ws)
+    (ws₂ : List ℕ) (f : Flagging (length ar) a (e + 3 * length ar) fill 1 ws₁ ws₂ fill) where
+  lit-net : netAt b ar ws₂ ≡ netAt b ar ws
+  lit-net = net-same b ar ws ws₂ (g .sizes .room) (f .size ∙ y .size) (lit-past (length ar) a e b fill ids ws ws₁ y g ws₂ f)
 
-  pub lit-mutual : SomeMutual w is ar cs b ws → SomeMutual w is ar cs b ws₂
-  lit-mutual x = record { F = x .F; lent = lit-lent (x .F) (x .lent); back = x .back }
+-- as the code has it, with the flags from p on
+module _ (ar : List ℕ) (a e b fill p : ℕ) (ids ws ws₁ : List ℕ) (q : p ≡ e + 3 * length ar) (y : Using (length ids) a fill ids ws ws₁ fill) (g : Given (length ar) a e b fill ids ws)
+    (ws₂ : List ℕ) (f : Flagging (length ar) a p fill 1 ws₁ ws₂ fill) where
+  up-flags : Flagging (length ar) a (e + 3 * length ar) fill 1 ws₁ ws₂ fill
+  up-flags = rw q at f
+
+  pub lit-mutual : Mutual (netAt b ar ws) → Mutual (netAt b ar ws₂)
+  lit-mutual x = rw (lit-net ar a e b fill ids ws ws₁ y g ws₂ up-flags) x
+
+  pub lit-all : Lit (length ar) a e b fill ids ws₂
+  lit-all = lit (length ar) a e b fill ids ws ws₁ y g ws₂ up-flags
 
 -- ---------------------------------------------------------------- the number of rounds
 
@@ -155,64 +166,56 @@ most-some level fill most q = elim (ℕ-discrete level 0) [
 
 -- ---------------------------------------------------------------- the end
 
+module _ (n a e fill : ℕ) (ws : List ℕ) (o : Past n e (e + 4 * n) ws) (z : a + n ≤ e) (r : ℕ) (fl : r ≡ e + 3 * n) where
+  pub dim-flags : Past n r (r + n) ws
+  dim-flags = rw fl (flags-part o)
+
+  pub dim-apart : a + n ≤ r
+  dim-apart = omega arith
+
 module _ (n a e fill k : ℕ) (ids ws ws₁ : List ℕ) (i : length ids ≡ n) (p : Past n a e ws) (o : Past n e (e + 4 * n) ws) (z : a + n ≤ e) (es : Entries n a fill ws) (h : k ≤ n)
-    (f : Flagging n a e fill 0 ws ws₁ fill) where
+    (r : ℕ) (fl : r ≡ e + 3 * n) (f₀ : Flagging n a r fill 0 ws ws₁ fill) where
+  dimmed : Flagging n a (e + 3 * n) fill 0 ws ws₁ fill
+  dimmed = rw fl at f₀
+
   dim-stack : (x : ℕ) → a ≤ x → x < a + fill → getD ws₁ x 0 ≡ getD ws x 0
-  dim-stack x l u = f .same x (inl (omega (arith, es .filled)))
+  dim-stack x l u = dimmed .same x (inl (omega (arith, es .filled)))
 
   pub dim-part : Past (length ids) a (a + length ids) ws₁
-  dim-part = rw i (record { few = p .few; low = p .low; room = omega (arith, o .room, f .size); close = omega (arith, o .close) })
+  dim-part = rw i (record { few = p .few; low = p .low; room = omega (arith, o .room, dimmed .size); close = omega (arith, o .close) })
 
   pub dim-entries : Entries (length ids) a fill ws₁
   dim-entries = rw i (record { filled = es .filled; spans = λ j g y. let q = dim-stack (a + j) (omega arith) (omega arith) in rw q (es .spans j g (λ r. y (q ∙ r))) })
 
   module _ (ws₂ : List ℕ) (y : Using (length ids) a fill ids ws₁ ws₂ fill) where
     pub dim-end : e + 3 * k ≤ length ws₂
-    dim-end = omega (arith, o .room, f .size, y .size)
+    dim-end = omega (arith, o .room, dimmed .size, y .size)
 
-    module _ (ys : List ℕ) (q : ys ≡ replicate (length (midOf e (e + 3 * k - e) ws₂)) 0) where
-      abbrev ws₃ : List ℕ
-      ws₃ = putMid e (e + 3 * k - e) ws₂ ys
-
-      wiped : ys ≡ replicate (e + 3 * k - e) 0
-      wiped = q ∙ ap (λ (x : ℕ). replicate x 0) (length-sec e (e + 3 * k - e) ws₂ (omega (arith, dim-end)))
-
-      wiped-length : length ys ≡ e + 3 * k - e
-      wiped-length = ap length wiped ∙ length-replicate (e + 3 * k - e) (let z : ℕ = 0 in z)
-
-      wiped-frame : Frame e (e + 3 * k) ws₂ ws₃
-      wiped-frame = frame-put e (e + 3 * k) ws₂ ys (omega arith) dim-end wiped-length
-
-      before : (x : ℕ) → x < e → getD ws₃ x 0 ≡ getD ws₂ x 0
-      before x l = sym (getD-take e ws₃ x 0 l) ∙ ap (λ (t : List ℕ). getD t x 0) (wiped-frame .before) ∙ getD-take e ws₂ x 0 l
-
-      after : (x : ℕ) → e + 3 * k ≤ x → getD ws₃ x 0 ≡ getD ws₂ x 0
-      after x l = getD-after x wiped-frame l
-
+    module _ (ws₃ : List ℕ) (size : length ws₃ ≡ length ws₂) (q : Clear e (e + 3 * k) ws₃) (wiped : Frame e (e + 3 * k) ws₂ ws₃) where
       flag-is : (x : ℕ) → getD ws₃ (e + 3 * n + x) 0 ≡ getD ws₁ (e + 3 * n + x) 0
-      flag-is x = after (e + 3 * n + x) (omega arith) ∙ y .unseen (e + 3 * n + x) (inr (omega (arith, es .filled)))
+      flag-is x = getD-after (e + 3 * n + x) wiped (omega arith) ∙ y .unseen (e + 3 * n + x) (inr (omega (arith, es .filled)))
 
       size₃ : length ws₃ ≡ length ws
-      size₃ = same-len-mid e (e + 3 * k - e) ws₂ ys (wiped-length ∙ sym (length-sec e (e + 3 * k - e) ws₂ (omega (arith, dim-end)))) ∙ y .size ∙ f .size
+      size₃ = size ∙ y .size ∙ dimmed .size
 
       pub settled : Settled n a e fill k ids ws ws₃
       settled = record {
         size = size₃;
         marks = take-same n ws ws₃ (omega (arith, p .low, p .room)) size₃
-            (λ x l. before x (omega (arith, o .low)) ∙ y .unseen x (inl (omega (arith, p .low))) ∙ f .same x (inl (omega (arith, o .low))));
-        stack = listAt-cong ws₂ ws₃ a fill (λ x l u. before x (omega (arith, es .filled))) ∙ used-stack (length ids) a fill ids ws₁ ws₂ y
+            (λ x l. getD-before x wiped (omega (arith, o .low)) ∙ y .unseen x (inl (omega (arith, p .low))) ∙ dimmed .same x (inl (omega (arith, o .low))));
+        stack = listAt-cong ws₂ ws₃ a fill (λ x l u. getD-before x wiped (omega (arith, es .filled))) ∙ used-stack (length ids) a fill ids ws₁ ws₂ y
             ∙ ap (λ (t : List ℕ). map (fresh ids) t) (listAt-cong ws ws₁ a fill dim-stack);
-        queue = λ x l u. rw wiped (zeroed e (e + 3 * k - e) x ws₂ (omega (arith, dim-end)) l (omega arith));
-        rest = λ x s t u. ⊎-elim (λ (l : x < e). before x l) (λ (l : e + 3 * k ≤ x). after x l) t ∙ y .unseen x s ∙ f .same x u;
-        down = λ j l u. flag-is (getD ws (a + j) 0) ∙ f .done j l u;
-        else = λ x l. ⊎-elim (λ (t : getD ws₁ (e + 3 * n + x) 0 ≡ getD ws (e + 3 * n + x) 0). inl (flag-is x ∙ t)) (λ (t : Entry ws a fill x). inr t) (f .else x l);
+        queue = q .blank;
+        rest = λ x s t u. ⊎-elim (λ (l : x < e). getD-before x wiped l) (λ (l : e + 3 * k ≤ x). getD-after x wiped l) t ∙ y .unseen x s ∙ dimmed .same x (⊎-elim (λ (l : x < e + 3 * n). inl l) (λ (l : e + 4 * n ≤ x). inr (omega arith)) u);
+        down = λ j l u. flag-is (getD ws (a + j) 0) ∙ dimmed .done j l u;
+        else = λ x l. ⊎-elim (λ (t : getD ws₁ (e + 3 * n + x) 0 ≡ getD ws (e + 3 * n + x) 0). inl (flag-is x ∙ t)) (λ (t : Entry ws a fill x). inr t) (dimmed .else x l);
       }
 
 -- ---------------------------------------------------------------- done
 
-expand-is : (F : Field) (n a fill level : ℕ) (ids ws : List ℕ) → expand F level (marksAt n ids ws) (listAt ws a fill) ≡ rounds F (mostAt level fill) (frontOf n a fill ids ws)
-unfolding expand mostAt marksAt fresh frontOf
-expand-is F n a fill level ids ws = rw (length-listAt ws a fill)
+expand-is : (N : Net) (n a fill level : ℕ) (ids ws : List ℕ) → expand N level (marksAt n ids ws) (listAt ws a fill) ≡ rounds N (mostAt level fill) (frontOf n a fill ids ws)
+unfolding expand mostAt fresh frontOf
+expand-is N n a fill level ids ws = rw (length-listAt ws a fill)
 
 front-view : (n a fill : ℕ) (ids ws ws′ : List ℕ) → take n ws′ ≡ take n ws → listAt ws′ a fill ≡ map (fresh ids) (listAt ws a fill) → a + fill ≤ length ws′
     → record { marks = marksAt n ids ws′; stack = sec a fill ws′ } ≡ frontOf n a fill ids ws
@@ -224,17 +227,20 @@ unfolding frontOf
 front-low n a fill ids ws ws′ t o = rw (marks-same n ids ws ws′ t) (o .low)
 
 front-entries : (n a fill : ℕ) (ids ws ws′ : List ℕ) → listAt ws′ a fill ≡ map (fresh ids) (listAt ws a fill) → fill ≤ n → Ok n (frontOf n a fill ids ws) → Entries n a fill ws′
-unfolding frontOf marksAt
+unfolding frontOf
 front-entries n a fill ids ws ws′ s h o = record { filled = h; spans = λ j l z. all-at (Unheld n ids) ws′ a fill (rw s (o .entries)) j l z .0 }
 
 pub kept-clear : (n a e fill : ℕ) (ws ws₂ : List ℕ) → fill ≤ n → a + n ≤ e → n ≤ a → Clear e (e + 4 * n) ws → Kept n a fill ws ws₂ → Clear e (e + 4 * n) ws₂
 kept-clear n a e fill ws ws₂ h l o c k = record { blank = λ x g u. k .same x (omega arith) (inr (omega arith)) ∙ c .blank x g u }
 
-module _ (w : ℕ) (is ar cs : List ℕ) (a e b fill level : ℕ) (ids ws ws₁ : List ℕ) (y : Using (length ids) a fill ids ws ws₁ fill) (g : Given (length ar) a e b fill ids ws)
-    (ws₂ : List ℕ) (f : Flagging (length ar) a e fill 1 ws₁ ws₂ fill) (most : ℕ) (q : most ≡ mostAt level fill)
-    (ids₃ ws₃ : List ℕ) (k : ℕ) (r : Gone w is ar cs a e b fill most ids ws₂ ids₃ ws₃ k) where
+module _ (ar : List ℕ) (a e b fill level p : ℕ) (ids ws ws₁ : List ℕ) (fl : p ≡ e + 3 * length ar) (y : Using (length ids) a fill ids ws ws₁ fill)
+    (g : Given (length ar) a e b fill ids ws) (ws₂ : List ℕ) (f₀ : Flagging (length ar) a p fill 1 ws₁ ws₂ fill) (most : ℕ) (q : most ≡ mostAt level fill)
+    (ids₃ ws₃ : List ℕ) (k : ℕ) (r : Gone ar a e b fill most ids ws₂ ids₃ ws₃ k) where
+  raised : Flagging (length ar) a (e + 3 * length ar) fill 1 ws₁ ws₂ fill
+  raised = rw fl at f₀
+
   gone-sizes : Sizes (length ar) a e b ids₃ ws₃
-  gone-sizes = sizes-kept ids₃ ws₃ (g .sizes) (r .size₁) (r .size₂ ∙ f .size ∙ y .size)
+  gone-sizes = sizes-kept ids₃ ws₃ (g .sizes) (r .size₁) (r .size₂ ∙ raised .size ∙ y .size)
 
   pub gone-idents : length ids₃ ≡ length ar
   gone-idents = gone-sizes .idents
@@ -250,19 +256,19 @@ module _ (w : ℕ) (is ar cs : List ℕ) (a e b fill level : ℕ) (ids ws ws₁ 
 
   pub gone-entries : Entries (length ar) a fill ws₃
   gone-entries =
-      let t = lit (length ar) a e b fill ids ws ws₁ y g ws₂ f .entries in
+      let t = lit (length ar) a e b fill ids ws ws₁ y g ws₂ raised .entries in
       record { filled = g .entries .filled; spans = λ j h z. let p = gone-stack (a + j) (omega arith) (omega arith) in rw p (t .spans j h (λ v. z (p ∙ v))) }
 
   module _ (ws₄ : List ℕ) (s : Settled (length ar) a e fill k ids₃ ws₃ ws₄) where
     room₄ : a + fill ≤ length ws₄
-    room₄ = omega (arith, s .size, r .size₂, f .size, y .size, g .entries .filled, g .sizes .apart, g .sizes .past, g .sizes .room)
+    room₄ = omega (arith, s .size, r .size₂, raised .size, y .size, g .entries .filled, g .sizes .apart, g .sizes .past, g .sizes .room)
 
-    pub expanded : (F : Field) → Lent F w is ar cs b ws → record { marks = marksAt (length ar) ids₃ ws₄; stack = sec a fill ws₄ } ≡ expand F level (marksAt (length ar) ids ws) (sec a fill ws)
-    expanded F l =
+    pub expanded : record { marks = marksAt (length ar) ids₃ ws₄; stack = sec a fill ws₄ } ≡ expand (netAt b ar ws) level (marksAt (length ar) ids ws) (sec a fill ws)
+    expanded =
         let i : a + fill ≤ length ws = omega (arith, g .entries .filled, g .sizes .apart, g .sizes .past, g .sizes .room) in
-        front-view (length ar) a fill ids₃ ws₃ ws₄ (s .marks) (s .stack) room₄ ∙ r .same F (lit-lent w is ar cs a e b fill ids ws ws₁ y g ws₂ f F l)
-        ∙ ap (rounds F most) (lit-front (length ar) a e b fill ids ws ws₁ y g ws₂ f) ∙ ap (λ (m : ℕ). rounds F m (frontOf (length ar) a fill ids ws)) q
-        ∙ sym (expand-is F (length ar) a fill level ids ws) ∙ ap (λ (t : List ℕ). expand F level (marksAt (length ar) ids ws) t) (listAt-sec ws a fill i)
+        front-view (length ar) a fill ids₃ ws₃ ws₄ (s .marks) (s .stack) room₄ ∙ rw (lit-net ar a e b fill ids ws ws₁ y g ws₂ raised) at (r .same)
+        ∙ ap (rounds (netAt b ar ws) most) (lit-front (length ar) a e b fill ids ws ws₁ y g ws₂ raised) ∙ ap (λ (m : ℕ). rounds (netAt b ar ws) m (frontOf (length ar) a fill ids ws)) q
+        ∙ sym (expand-is (netAt b ar ws) (length ar) a fill level ids ws) ∙ ap (λ (t : List ℕ). expand (netAt b ar ws) level (marksAt (length ar) ids ws) t) (listAt-sec ws a fill i)
 
     flag-zero : (x : ℕ) → x < length ar → getD ws₄ (e + 3 * length ar + x) 0 ≡ 0
     flag-zero x h = elim (ℕ-discrete (getD ws₄ (e + 3 * length ar + x) 0) 0) [
@@ -277,12 +283,12 @@ module _ (w : ℕ) (is ar cs : List ℕ) (a e b fill level : ℕ) (ids ws ws₁ 
 
     pub expanded-kept : Kept (length ar) a fill ws ws₄
     expanded-kept = record {
-      size = s .size ∙ r .size₂ ∙ f .size ∙ y .size;
+      size = s .size ∙ r .size₂ ∙ raised .size ∙ y .size;
       same = λ x l u.
           elim (decLt x e) [
-            | yes p ↦ s .rest x u (inl p) (inl (omega arith)) ∙ r .kept x l p ∙ f .same x (inl (omega arith)) ∙ y .unseen x u
+            | yes p ↦ s .rest x u (inl p) (inl (omega arith)) ∙ r .kept x l p ∙ raised .same x (inl (omega arith)) ∙ y .unseen x u
             | no p ↦ elim (decLt x (e + 4 * length ar)) [
-              | no v ↦ s .rest x u (inr (omega (arith, r .few))) (inr (omega arith)) ∙ r .beyond x (omega arith) ∙ f .same x (inr (omega arith)) ∙ y .unseen x u
+              | no v ↦ s .rest x u (inr (omega (arith, r .few))) (inr (omega arith)) ∙ r .beyond x (omega arith) ∙ raised .same x (inr (omega arith)) ∙ y .unseen x u
               | yes v ↦ zero x (omega arith) v u ∙ sym (g .clear .blank x (omega arith) v)
             ]
           ];

@@ -10,43 +10,19 @@ use native.Mathlib.Nat.{add-zero}
 use native.Mathlib.Decide.{ℕ-discrete}
 use lib.ListN.{length, getD, take}
 use lib.Seq.{length-take-le}
-use Rattle.rules.specs.Field.{Field, spans, none, near, cellOf, conOf}
+use Rattle.rules.specs.Field.{none}
+use Rattle.rules.specs.Net.{Net, near}
 use Rattle.rules.specs.Growth.{Marks, put, finds, wrote, written, Spread, round, rounds}
 use Rattle.laws.proofs.Basics.{All}
 use Rattle.space.proofs.Laws.{cases}
-use Rattle.field.proofs.Places.{near-stands}
-use Rattle.flood.specs.Site.{Lent}
+use Rattle.net.specs.Table.{netAt, Mutual}
 use Rattle.flood.specs.Stack.{marksAt}
 use Rattle.expand.specs.Layout.{fresh, listAt, changesAt, applied, Unheld, Ok}
-use Rattle.expand.specs.Front.{SomeMutual, Up, Entry, Queued, Found, FoundAt, Moved, Beside, Writing, frontOf, Front}
+use Rattle.expand.specs.Front.{Up, Entry, Queued, Found, FoundAt, Moved, Beside, Writing, frontOf, Front}
 use Rattle.expand.proofs.Lists.{listAt-cong, marks-same}
 use Rattle.expand.proofs.Halves.{finds-used, wrote-yes}
 use Rattle.expand.proofs.Sources.{written-keeps, ok-round}
 use Rattle.expand.proofs.Waves.{has, has-nil, has-head, has-tail, has-split, keep-in, keep-out, any-in, any-out, changes, still-nothing, fresh-zero, fresh-some, round-fresh, wave-marks, round-left, rounds-on, rounds-off}
-
--- ---------------------------------------------------------------- connections
-
-module _ (w : ℕ) (is ar cs : List ℕ) (b : ℕ) (ws : List ℕ) (x : SomeMutual w is ar cs b ws) (F : Field) (l : Lent F w is ar cs b ws) where
-  near-same : (s d : ℕ) → s < length ar → near F s d ≡ near (x .F) s d
-  unfolding near conOf
-  near-same s d h =
-      let c : cellOf (F .count) s ≡ cellOf (x .F .count) s = sym (l .cells s h) ∙ x .lent .cells s h in
-      rw (l .linked, l .indexed, l .wide, c, x .lent .linked, x .lent .indexed, x .lent .wide)
-
-  near-inside : (s d : ℕ) → s < length ar → d < 4 → (near F s d ≡ none → ⊥) → near F s d < length ar
-  near-inside s d h g y =
-      let z : length (F .area) ≡ length ar = ap length (l .areas) in
-      let r = near-stands F (l .reached) (cellOf (F .count) s) s d (record { span = omega arith; cell = refl }) g y .span in
-      omega arith
-
-  -- they are mutual in every field that is lent
-  pub back-all : (s d : ℕ) → s < length ar → d < 4 → (near F s d ≡ none → ⊥) → near F (near F s d) ((d + 2) % 4) ≡ s
-  back-all s d h g y =
-      let z : length (x .F .area) ≡ length ar = ap length (x .lent .areas) in
-      let q = near-same s d h in
-      let r = near-same (near F s d) ((d + 2) % 4) (near-inside s d h g y) in
-      let t : near (x .F) (near (x .F) s d) ((d + 2) % 4) ≡ s = x .back s d (omega arith) g (λ p. y (q ∙ p)) in
-      r ∙ ap (λ (v : ℕ). near (x .F) v ((d + 2) % 4)) q ∙ t
 
 -- ---------------------------------------------------------------- entries of the stack
 
@@ -108,19 +84,19 @@ queue-at ws c zero x i h e = absurd (omega arith)
 queue-at ws c (suc k) x zero h e = let q : c + 3 * 0 ≡ c = omega arith in rw (rw q at e) (has-head x _)
 queue-at ws c (suc k) x (suc i) h e = let q : c + 3 * suc i ≡ c + 3 + 3 * i = omega arith in has-tail x _ _ (queue-at ws (c + 3) k x i (omega arith) (rw q at e))
 
-wrote-found : (F : Field) (m : Marks) (n s id far : ℕ) (out : Marks) → Found F m n s id far → wrote F m s out ≡ put out s id far
-wrote-found F m n s id far out r = wrote-yes F m s out (r .found) ∙ rw (r .id-is, r .far-is)
+wrote-found : (N : Net) (m : Marks) (n s id far : ℕ) (out : Marks) → Found N m n s id far → wrote N m s out ≡ put out s id far
+wrote-found N m n s id far out r = wrote-yes N m s out (r .found) ∙ rw (r .id-is, r .far-is)
 
 -- changes that the rule makes, made, are what it writes
-applied-written : (F : Field) (m : Marks) (n : ℕ) (ws : List ℕ) (c k : ℕ) (out : Marks) → ((i : ℕ) → i < k → FoundAt F m n c ws i) → applied (changesAt ws c k) out ≡ written F m (spansAt ws c k) out
+applied-written : (N : Net) (m : Marks) (n : ℕ) (ws : List ℕ) (c k : ℕ) (out : Marks) → ((i : ℕ) → i < k → FoundAt N m n c ws i) → applied (changesAt ws c k) out ≡ written N m (spansAt ws c k) out
 unfolding changesAt applied spansAt written
-applied-written F m n ws c zero out h = refl
-applied-written F m n ws c (suc k) out h =
+applied-written N m n ws c zero out h = refl
+applied-written N m n ws c (suc k) out h =
     let e₀ : c + 3 * 0 ≡ c = omega arith in
-    let r : Found F m n (getD ws c 0) (getD ws (c + 1) 0) (getD ws (c + 2) 0) = rw e₀ at (h 0 (omega arith)) in
-    applied-written F m n ws (c + 3) k (put out (getD ws c 0) (getD ws (c + 1) 0) (getD ws (c + 2) 0))
+    let r : Found N m n (getD ws c 0) (getD ws (c + 1) 0) (getD ws (c + 2) 0) = rw e₀ at (h 0 (omega arith)) in
+    applied-written N m n ws (c + 3) k (put out (getD ws c 0) (getD ws (c + 1) 0) (getD ws (c + 2) 0))
     (λ i l. let e : c + 3 * suc i ≡ c + 3 + 3 * i = omega arith in rw e at (h (suc i) (omega arith)))
-    ∙ ap (λ (o : Marks). written F m (spansAt ws (c + 3) k) o) (sym (wrote-found F m n (getD ws c 0) (getD ws (c + 1) 0) (getD ws (c + 2) 0) out r))
+    ∙ ap (λ (o : Marks). written N m (spansAt ws (c + 3) k) o) (sym (wrote-found N m n (getD ws c 0) (getD ws (c + 1) 0) (getD ws (c + 2) 0) out r))
 
 -- ---------------------------------------------------------------- the next changes
 
@@ -129,7 +105,6 @@ unfolding frontOf
 front-marks n a fill ids ws = refl
 
 marks-ids : (n : ℕ) (ids ws : List ℕ) → marksAt n ids ws .ids ≡ ids
-unfolding marksAt
 marks-ids n ids ws = refl
 
 pub front-same : (n a fill : ℕ) (ids ws ws′ : List ℕ) → take n ws′ ≡ take n ws → ((x : ℕ) → a ≤ x → x < a + fill → getD ws′ x 0 ≡ getD ws x 0) → frontOf n a fill ids ws′ ≡ frontOf n a fill ids ws
@@ -137,11 +112,11 @@ unfolding frontOf
 front-same n a fill ids ws ws′ t h = rw (marks-same n ids ws ws′ t, listAt-cong ws ws′ a fill h)
 
 front-sized : (n a fill : ℕ) (ids ws : List ℕ) → n ≤ length ws → length (frontOf n a fill ids ws .marks .src) ≡ n
-unfolding frontOf marksAt
+unfolding frontOf
 front-sized n a fill ids ws h = length-take-le n ws h
 
 front-begun : (n a fill : ℕ) (ids ws : List ℕ) → frontOf n a fill ids ws .stack ≡ map (fresh (frontOf n a fill ids ws .marks .ids)) (listAt ws a fill)
-unfolding frontOf marksAt
+unfolding frontOf
 front-begun n a fill ids ws = refl
 
 front-eq : (n a fill : ℕ) (ids ws : List ℕ) (r : Spread) → marksAt n ids ws ≡ r .marks → map (fresh ids) (listAt ws a fill) ≡ r .stack → frontOf n a fill ids ws ≡ r
@@ -152,26 +127,26 @@ front-has : (n a fill : ℕ) (ids ws : List ℕ) (x : ℕ) → Entry ws a fill x
 unfolding frontOf
 front-has n a fill ids ws x y z = entry-has ids ws a fill x y z
 
-round-keeps : (F : Field) (n a fill : ℕ) (ids ws : List ℕ) (x : ℕ) → finds F (marksAt n ids ws) x ≡ false → getD (round F (frontOf n a fill ids ws) .marks .ids) x 0 ≡ getD ids x 0
-unfolding round frontOf marksAt
-round-keeps F n a fill ids ws x z = written-keeps F (marksAt n ids ws) x z (map (fresh ids) (listAt ws a fill)) (marksAt n ids ws)
+round-keeps : (N : Net) (n a fill : ℕ) (ids ws : List ℕ) (x : ℕ) → finds N (marksAt n ids ws) x ≡ false → getD (round N (frontOf n a fill ids ws) .marks .ids) x 0 ≡ getD ids x 0
+unfolding round frontOf
+round-keeps N n a fill ids ws x z = written-keeps N (marksAt n ids ws) x z (map (fresh ids) (listAt ws a fill)) (marksAt n ids ws)
 
 -- tries of every span that could find something, where flags are up for the stack's spans, note the changes of the round
-module _ (w : ℕ) (is ar cs : List ℕ) (a e b fill : ℕ) (ids ws : List ℕ) (k : ℕ) (ws′ : List ℕ) (k′ : ℕ) (F : Field) (l : Lent F w is ar cs b ws)
+module _ (ar : List ℕ) (a e b fill : ℕ) (ids ws : List ℕ) (k : ℕ) (ws′ : List ℕ) (k′ : ℕ)
     (lo : length ar ≤ a) (lie : a + length ar ≤ e) (few : fill ≤ length ar)
-    (ok : Ok (length ar) (frontOf (length ar) a fill ids ws)) (v : Moved w is ar cs e b ids ws k ws′ k′)
+    (ok : Ok (length ar) (frontOf (length ar) a fill ids ws)) (v : Moved ar e b ids ws k ws′ k′)
     (only : (x : ℕ) → x < length ar → Up (length ar) e ws x → Entry ws a fill x × (getD ids x 0 ≡ 0))
     (up : (x : ℕ) → x < length ar → Entry ws a fill x → getD ids x 0 ≡ 0 → Up (length ar) e ws x)
-    (cold : (x : ℕ) → x < length ar → Up (length ar) e ws′ x → finds F (marksAt (length ar) ids ws) x ≡ false) where
+    (cold : (x : ℕ) → x < length ar → Up (length ar) e ws′ x → finds (netAt b ar ws) (marksAt (length ar) ids ws) x ≡ false) where
   stays : (y : ℕ) → a ≤ y → y < a + fill → getD ws′ y 0 ≡ getD ws y 0
   stays y g u = v .kept y (omega arith) (omega arith)
 
-  pub front-tried : Front F (length ar) a e fill ids ws′ k k′
+  pub front-tried : Front (netAt b ar ws) (length ar) a e fill ids ws′ k k′
   front-tried =
       let m = marks-same (length ar) ids ws ws′ (v .marks) in
       record {
         ok = rw (front-same (length ar) a fill ids ws ws′ (v .marks) stays) ok;
-        right = λ i g u. rw m (v .right F l i g u);
+        right = λ i g u. rw m (v .right i g u);
         entry = λ i g u. let o = only _ (v .inside i g u) (v .lit i g u) in (entry-on ws ws′ a fill _ stays (o .0), o .1);
         cold = λ x h u. let o = only x h (v .down x h u) in (entry-on ws ws′ a fill x stays (o .0), o .1, rw m (cold x h u));
         all = λ x h y z. v .fall x h (up x h (entry-on ws′ ws a fill x (λ y g u. sym (stays y g u)) y) z);
@@ -179,35 +154,35 @@ module _ (w : ℕ) (is ar cs : List ℕ) (a e b fill : ℕ) (ids ws : List ℕ) 
 
 -- ---------------------------------------------------------------- the changes written
 
-module _ (F : Field) (n a e fill : ℕ) (ids ws : List ℕ) (lo hi : ℕ) (v : Front F n a e fill ids ws lo hi) (o : lo ≤ hi) (room : n ≤ length ws) (few : n ≤ 32000) where
+module _ (N : Net) (n a e fill : ℕ) (ids ws : List ℕ) (lo hi : ℕ) (v : Front N n a e fill ids ws lo hi) (o : lo ≤ hi) (room : n ≤ length ws) (few : n ≤ 32000) where
   -- what the round changes stands in the queue
-  pub change-queued : (x : ℕ) → has x (changes F (frontOf n a fill ids ws)) ≡ true → (x < n) × Queued ws e lo hi x
-  unfolding changes frontOf marksAt
+  pub change-queued : (x : ℕ) → has x (changes N (frontOf n a fill ids ws)) ≡ true → (x < n) × Queued ws e lo hi x
+  unfolding changes frontOf
   change-queued x h =
-      let k = keep-out (finds F (marksAt n ids ws)) x (map (fresh ids) (listAt ws a fill)) h in
-      let s : x ≡ none → ⊥ = λ y. finds-used F (marksAt n ids ws) x y (k .1) in
+      let k = keep-out (finds N (marksAt n ids ws)) x (map (fresh ids) (listAt ws a fill)) h in
+      let s : x ≡ none → ⊥ = λ y. finds-used N (marksAt n ids ws) x y (k .1) in
       let t = has-entry ids ws a fill x s (k .0) in
       let i = has-all (Unheld n ids) x (map (fresh ids) (listAt ws a fill)) (v .ok .entries) (k .0) s .0 in
       (i, ⊎-elim (λ (u : Up n e ws x). absurd (true≢false (sym (k .1) ∙ v .cold x i u .2))) (λ (q : Queued ws e lo hi x). q) (v .all x i (t .0) (t .1)))
 
-  queued-change : (x : ℕ) → Queued ws e lo hi x → has x (changes F (frontOf n a fill ids ws)) ≡ true
-  unfolding changes frontOf marksAt
+  queued-change : (x : ℕ) → Queued ws e lo hi x → has x (changes N (frontOf n a fill ids ws)) ≡ true
+  unfolding changes frontOf
   queued-change x q =
       let r = v .right (q .at) (q .from) (q .to) in
       let t = v .entry (q .at) (q .from) (q .to) in
-      keep-in (finds F (marksAt n ids ws)) x (map (fresh ids) (listAt ws a fill)) (entry-has ids ws a fill x (rw (q .is) at (t .0)) (rw (q .is) at (t .1))) (rw (q .is) at (r .found))
+      keep-in (finds N (marksAt n ids ws)) x (map (fresh ids) (listAt ws a fill)) (entry-has ids ws a fill x (rw (q .is) at (t .0)) (rw (q .is) at (t .1))) (rw (q .is) at (r .found))
 
   shift : (x : ℕ) → Queued ws (e + 3 * lo) 0 (hi - lo) x → Queued ws e lo hi x
   shift x q = let c : e + 3 * lo + 3 * q .at ≡ e + 3 * (lo + q .at) = omega arith in record { at = lo + q .at; from = omega arith; to = omega (arith, q .to); is = rw c at (q .is) }
 
   module _ (ids₁ ws₁ : List ℕ) (u : Writing n e lo hi ids ws ids₁ ws₁ hi) (low : n ≤ a) where
-    pub round-marks : marksAt n ids₁ ws₁ ≡ round F (frontOf n a fill ids ws) .marks
+    pub round-marks : marksAt n ids₁ ws₁ ≡ round N (frontOf n a fill ids ws) .marks
     unfolding frontOf
     round-marks =
         u .marks
-        ∙ applied-written F (marksAt n ids ws) n ws (e + 3 * lo) (hi - lo) (marksAt n ids ws)
+        ∙ applied-written N (marksAt n ids ws) n ws (e + 3 * lo) (hi - lo) (marksAt n ids ws)
         (λ i h. let c : e + 3 * (lo + i) ≡ e + 3 * lo + 3 * i = omega arith in rw c at (v .right (lo + i) (omega arith) (omega arith)))
-        ∙ wave-marks F n (frontOf n a fill ids ws) (v .ok) (spansAt ws (e + 3 * lo) (hi - lo)) (front-sized n a fill ids ws room)
+        ∙ wave-marks N n (frontOf n a fill ids ws) (v .ok) (spansAt ws (e + 3 * lo) (hi - lo)) (front-sized n a fill ids ws room)
         (λ x h. queued-change x (shift x (has-queued ws (e + 3 * lo) (hi - lo) x h)))
         (λ x h.
         let q = change-queued x h .1 in
@@ -217,20 +192,20 @@ module _ (F : Field) (n a e fill : ℕ) (ids ws : List ℕ) (lo hi : ℕ) (v : F
     stands : (y : ℕ) → a ≤ y → y < a + fill → getD ws₁ y 0 ≡ getD ws y 0
     stands y g h = u .kept y (omega arith)
 
-    round-ids : ids₁ ≡ round F (frontOf n a fill ids ws) .marks .ids
+    round-ids : ids₁ ≡ round N (frontOf n a fill ids ws) .marks .ids
     round-ids = sym (marks-ids n ids₁ ws₁) ∙ ap (λ (m : Marks). m .ids) round-marks
 
     -- the round, made
-    pub front-round : frontOf n a fill ids₁ ws₁ ≡ round F (frontOf n a fill ids ws)
-    front-round = front-eq n a fill ids₁ ws₁ (round F (frontOf n a fill ids ws)) round-marks
+    pub front-round : frontOf n a fill ids₁ ws₁ ≡ round N (frontOf n a fill ids ws)
+    front-round = front-eq n a fill ids₁ ws₁ (round N (frontOf n a fill ids ws)) round-marks
         (ap (λ (l : List ℕ). map (fresh ids₁) l) (listAt-cong ws ws₁ a fill stands)
-        ∙ rw (← round-ids) at (sym (round-fresh F n (frontOf n a fill ids ws) (v .ok) (listAt ws a fill) (front-begun n a fill ids ws))))
+        ∙ rw (← round-ids) at (sym (round-fresh N n (frontOf n a fill ids ws) (v .ok) (listAt ws a fill) (front-begun n a fill ids ws))))
 
     pub round-ok : Ok n (frontOf n a fill ids₁ ws₁)
-    round-ok = rw front-round (ok-round F (frontOf n a fill ids ws) n (v .ok))
+    round-ok = rw front-round (ok-round N (frontOf n a fill ids ws) n (v .ok))
 
-    kept-id : (x : ℕ) → finds F (marksAt n ids ws) x ≡ false → getD ids₁ x 0 ≡ getD ids x 0
-    kept-id x z = ap (λ (l : List ℕ). getD l x 0) round-ids ∙ round-keeps F n a fill ids ws x z
+    kept-id : (x : ℕ) → finds N (marksAt n ids ws) x ≡ false → getD ids₁ x 0 ≡ getD ids x 0
+    kept-id x z = ap (λ (l : List ℕ). getD l x 0) round-ids ∙ round-keeps N n a fill ids ws x z
 
     same-flag : (x : ℕ) → n ≤ e → getD ws₁ (e + 3 * n + x) 0 ≡ getD ws (e + 3 * n + x) 0
     same-flag x g = u .kept (e + 3 * n + x) (omega arith)
@@ -244,8 +219,8 @@ module _ (F : Field) (n a e fill : ℕ) (ids ws : List ℕ) (lo hi : ℕ) (v : F
     pub round-up : n ≤ e → (x : ℕ) → x < n → Entry ws₁ a fill x → getD ids₁ x 0 ≡ 0 → Up n e ws₁ x
     round-up g x h y z =
         let s : x ≡ none → ⊥ = λ q. omega arith in
-        let f : finds F (frontOf n a fill ids ws .marks) x ≡ false = round-left F (frontOf n a fill ids ws) x s (rw front-round at (front-has n a fill ids₁ ws₁ x y z)) in
-        let f′ : finds F (marksAt n ids ws) x ≡ false = rw (front-marks n a fill ids ws) at f in
+        let f : finds N (frontOf n a fill ids ws .marks) x ≡ false = round-left N (frontOf n a fill ids ws) x s (rw front-round at (front-has n a fill ids₁ ws₁ x y z)) in
+        let f′ : finds N (marksAt n ids ws) x ≡ false = rw (front-marks n a fill ids ws) at f in
         let t = entry-on ws₁ ws a fill x (λ y g h. sym (stands y g h)) y in
         ⊎-elim (λ (p : Up n e ws x). λ (q : getD ws₁ (e + 3 * n + x) 0 ≡ 0). p (sym (same-flag x g) ∙ q))
         (λ (p : Queued ws e lo hi x). absurd (true≢false (sym (rw (p .is) at (v .right (p .at) (p .from) (p .to) .found)) ∙ f′)))
@@ -253,61 +228,61 @@ module _ (F : Field) (n a e fill : ℕ) (ids ws : List ℕ) (lo hi : ℕ) (v : F
 
 -- ---------------------------------------------------------------- beside the changes
 
-module _ (w : ℕ) (is ar cs : List ℕ) (a e b fill : ℕ) (ids ws : List ℕ) (lo hi : ℕ) (F : Field) (v : Front F (length ar) a e fill ids ws lo hi)
+module _ (ar : List ℕ) (a e b fill : ℕ) (ids ws : List ℕ) (lo hi : ℕ) (N : Net) (v : Front N (length ar) a e fill ids ws lo hi)
     (o : lo ≤ hi) (room : length ar ≤ length ws) (few : length ar ≤ 32000) (low : length ar ≤ a) (lie : a + length ar ≤ e) (fit : fill ≤ length ar)
-    (ids₁ ws₁ : List ℕ) (u : Writing (length ar) e lo hi ids ws ids₁ ws₁ hi) (x : SomeMutual w is ar cs b ws₁) (l : Lent F w is ar cs b ws₁)
-    (ws₂ : List ℕ) (k : ℕ) (m : Moved w is ar cs e b ids₁ ws₁ hi ws₂ k) (t : Beside w is ar cs e b ids₁ ws₁ ws₂ lo hi) where
+    (ids₁ ws₁ : List ℕ) (u : Writing (length ar) e lo hi ids ws ids₁ ws₁ hi) (q₁ : netAt b ar ws₁ ≡ N) (x : Mutual N) (sized : length (N .areas) ≡ length ar)
+    (ws₂ : List ℕ) (k : ℕ) (m : Moved ar e b ids₁ ws₁ hi ws₂ k) (t : Beside ar e b ids₁ ws₁ ws₂ lo hi) where
   -- a span whose flag is still up finds nothing: it found nothing before, and was tried if a neighbour changed
-  next-cold : (s : ℕ) → s < length ar → Up (length ar) e ws₂ s → finds F (marksAt (length ar) ids₁ ws₁) s ≡ false
+  next-cold : (s : ℕ) → s < length ar → Up (length ar) e ws₂ s → finds N (marksAt (length ar) ids₁ ws₁) s ≡ false
   next-cold s h y =
       ⊎-elim
-      (λ (z : finds F (marksAt (length ar) ids₁ ws₁) s ≡ true). absurd (true≢false (sym z ∙ rw (← round-marks F (length ar) a e fill ids ws lo hi v o room few ids₁ ws₁ u low) at still z)))
-      (λ (z : finds F (marksAt (length ar) ids₁ ws₁) s ≡ false). z)
-      (cases (finds F (marksAt (length ar) ids₁ ws₁) s))
+      (λ (z : finds N (marksAt (length ar) ids₁ ws₁) s ≡ true). absurd (true≢false (sym z ∙ rw (← round-marks N (length ar) a e fill ids ws lo hi v o room few ids₁ ws₁ u low) at still z)))
+      (λ (z : finds N (marksAt (length ar) ids₁ ws₁) s ≡ false). z)
+      (cases (finds N (marksAt (length ar) ids₁ ws₁) s))
     where
       flag : Up (length ar) e ws s
       flag z = m .down s h y (u .kept (e + 3 * length ar + s) (omega arith) ∙ z)
 
-      tried : (d : ℕ) → d < 4 → has (near F s d) (changes F (frontOf (length ar) a fill ids ws)) ≡ true → finds F (marksAt (length ar) ids₁ ws₁) s ≡ false
+      tried : (d : ℕ) → d < 4 → has (near N s d) (changes N (frontOf (length ar) a fill ids ws)) ≡ true → finds N (marksAt (length ar) ids₁ ws₁) s ≡ false
       tried d g z =
-          let c = change-queued F (length ar) a e fill ids ws lo hi v o room few (near F s d) z in
+          let c = change-queued N (length ar) a e fill ids ws lo hi v o room few (near N s d) z in
           let q = c .1 in
-          let r = back-all w is ar cs b ws₁ x F l s d h g (λ p. omega (arith, c .0)) in
-          let j : getD ws₁ (e + 3 * q .at) 0 ≡ near F s d = u .kept (e + 3 * q .at) (omega arith) ∙ q .is in
-          (rw (j, r) at (t .cold F l (q .at) (q .from) (q .to) ((d + 2) % 4) (omega arith))) h y
+          let r = x .answered .back s d (rw sized h) g (λ p. omega (arith, c .0)) in
+          let j : getD ws₁ (e + 3 * q .at) 0 ≡ near N s d = u .kept (e + 3 * q .at) (omega arith) ∙ q .is in
+          (rw (j, q₁, r) at (t .tried (q .at) (q .from) (q .to) .tried ((d + 2) % 4) (omega arith) .cold)) h y
 
-      still : finds F (marksAt (length ar) ids₁ ws₁) s ≡ true → finds F (round F (frontOf (length ar) a fill ids ws) .marks) s ≡ false
+      still : finds N (marksAt (length ar) ids₁ ws₁) s ≡ true → finds N (round N (frontOf (length ar) a fill ids ws) .marks) s ≡ false
       still z =
-          still-nothing F (frontOf (length ar) a fill ids ws) s (rw (front-marks (length ar) a fill ids ws) (v .cold s h flag .2))
+          still-nothing N (frontOf (length ar) a fill ids ws) s (rw (front-marks (length ar) a fill ids ws) (v .cold s h flag .2))
           (λ d g.
-          ⊎-elim (λ (p : has (near F s d) (changes F (frontOf (length ar) a fill ids ws)) ≡ true). absurd (true≢false (sym z ∙ tried d g p)))
-          (λ (p : has (near F s d) (changes F (frontOf (length ar) a fill ids ws)) ≡ false). p)
-          (cases (has (near F s d) (changes F (frontOf (length ar) a fill ids ws)))))
+          ⊎-elim (λ (p : has (near N s d) (changes N (frontOf (length ar) a fill ids ws)) ≡ true). absurd (true≢false (sym z ∙ tried d g p)))
+          (λ (p : has (near N s d) (changes N (frontOf (length ar) a fill ids ws)) ≡ false). p)
+          (cases (has (near N s d) (changes N (frontOf (length ar) a fill ids ws)))))
 
-  pub front-next : Front F (length ar) a e fill ids₁ ws₂ hi k
-  front-next = front-tried w is ar cs a e b fill ids₁ ws₁ hi ws₂ k F l low (omega arith) fit
-      (round-ok F (length ar) a e fill ids ws lo hi v o room few ids₁ ws₁ u low) m
-      (round-only F (length ar) a e fill ids ws lo hi v o room few ids₁ ws₁ u low (omega arith))
-      (round-up F (length ar) a e fill ids ws lo hi v o room few ids₁ ws₁ u low (omega arith))
-      next-cold
+  pub front-next : Front N (length ar) a e fill ids₁ ws₂ hi k
+  front-next = rw q₁ at (front-tried ar a e b fill ids₁ ws₁ hi ws₂ k low (omega arith) fit
+      (round-ok N (length ar) a e fill ids ws lo hi v o room few ids₁ ws₁ u low) m
+      (round-only N (length ar) a e fill ids ws lo hi v o room few ids₁ ws₁ u low (omega arith))
+      (round-up N (length ar) a e fill ids ws lo hi v o room few ids₁ ws₁ u low (omega arith))
+      (λ s h y. rw q₁ (next-cold s h y)))
 
 -- ---------------------------------------------------------------- rounds
 
-module _ (F : Field) (n a e fill : ℕ) (ids ws : List ℕ) (lo hi : ℕ) (v : Front F n a e fill ids ws lo hi) (room : n ≤ length ws) (few : n ≤ 32000) where
+module _ (N : Net) (n a e fill : ℕ) (ids ws : List ℕ) (lo hi : ℕ) (v : Front N n a e fill ids ws lo hi) (room : n ≤ length ws) (few : n ≤ 32000) where
   -- with nothing noted, that is all
-  pub front-off : (k : ℕ) → hi ≤ lo → lo ≤ hi → 0 < k → rounds F k (frontOf n a fill ids ws) ≡ frontOf n a fill ids ws
+  pub front-off : (k : ℕ) → hi ≤ lo → lo ≤ hi → 0 < k → rounds N k (frontOf n a fill ids ws) ≡ frontOf n a fill ids ws
   unfolding changes
   front-off k g o h =
       let s : k ≡ suc (k - 1) = omega arith in
-      rw s (rounds-off F (k - 1) (frontOf n a fill ids ws)
-      (any-out (finds F (frontOf n a fill ids ws .marks)) (frontOf n a fill ids ws .stack)
-      (λ x y z. let q = change-queued F n a e fill ids ws lo hi v o room few x (keep-in (finds F (frontOf n a fill ids ws .marks)) x (frontOf n a fill ids ws .stack) y z) .1 in omega (arith, q .from, q .to))))
+      rw s (rounds-off N (k - 1) (frontOf n a fill ids ws)
+      (any-out (finds N (frontOf n a fill ids ws .marks)) (frontOf n a fill ids ws .stack)
+      (λ x y z. let q = change-queued N n a e fill ids ws lo hi v o room few x (keep-in (finds N (frontOf n a fill ids ws .marks)) x (frontOf n a fill ids ws .stack) y z) .1 in omega (arith, q .from, q .to))))
 
-  pub front-on : (k : ℕ) → lo < hi → 0 < k → rounds F k (frontOf n a fill ids ws) ≡ rounds F (k - 1) (round F (frontOf n a fill ids ws))
+  pub front-on : (k : ℕ) → lo < hi → 0 < k → rounds N k (frontOf n a fill ids ws) ≡ rounds N (k - 1) (round N (frontOf n a fill ids ws))
   unfolding changes
   front-on k g h =
       let s : k ≡ suc (k - 1) = omega arith in
-      let c = queued-change F n a e fill ids ws lo hi v (omega arith) room few (getD ws (e + 3 * lo) 0) (record { at = lo; from = omega arith; to = g; is = refl }) in
-      let p = keep-out (finds F (frontOf n a fill ids ws .marks)) (getD ws (e + 3 * lo) 0) (frontOf n a fill ids ws .stack) c in
-      ap (λ (j : ℕ). rounds F j (frontOf n a fill ids ws)) s
-      ∙ rounds-on F (k - 1) (frontOf n a fill ids ws) (any-in (finds F (frontOf n a fill ids ws .marks)) (getD ws (e + 3 * lo) 0) (frontOf n a fill ids ws .stack) (p .0) (p .1))
+      let c = queued-change N n a e fill ids ws lo hi v (omega arith) room few (getD ws (e + 3 * lo) 0) (record { at = lo; from = omega arith; to = g; is = refl }) in
+      let p = keep-out (finds N (frontOf n a fill ids ws .marks)) (getD ws (e + 3 * lo) 0) (frontOf n a fill ids ws .stack) c in
+      ap (λ (j : ℕ). rounds N j (frontOf n a fill ids ws)) s
+      ∙ rounds-on N (k - 1) (frontOf n a fill ids ws) (any-in (finds N (frontOf n a fill ids ws .marks)) (getD ws (e + 3 * lo) 0) (frontOf n a fill ids ws .stack) (p .0) (p .1))

@@ -8,11 +8,9 @@ use native.Mathlib.Nat.{add-zero}
 use native.Mathlib.Numerals.{add-one}
 use lib.ListN.{length, getD, set, take, length-set}
 use lib.Seq.{ext-getD, getD-set-same, getD-set-other}
-use Rattle.rules.specs.Field.{Field}
 use Rattle.rules.specs.Growth.{Marks, put}
 use Rattle.space.specs.Space.{sec}
 use Rattle.space.proofs.Laws.{length-sec, getD-sec}
-use Rattle.flood.specs.Site.{Lent}
 use Rattle.flood.specs.Stack.{marksAt}
 use Rattle.laws.proofs.Basics.{All}
 use Rattle.expand.specs.Layout.{Change, listAt, changesAt, applied}
@@ -129,19 +127,4 @@ module _ (l : List ℕ) (a b c d p q r s : ℕ) (x : ℕ) where
 -- ---------------------------------------------------------------- what a phase is lent
 
 pub marks-same : (n : ℕ) (ids ws ws′ : List ℕ) → take n ws′ ≡ take n ws → marksAt n ids ws′ ≡ marksAt n ids ws
-unfolding marksAt
 marks-same n ids ws ws′ e = rw e
-
--- the field is lent as before where what stands from b on is as it was
-module _ (w : ℕ) (is ar cs : List ℕ) (b : ℕ) (ws ws′ : List ℕ) (l : length ws′ ≡ length ws) (h : (x : ℕ) → b ≤ x → getD ws′ x 0 ≡ getD ws x 0) where
-  pub lent-past : (F : Field) → Lent F w is ar cs b ws → Lent F w is ar cs b ws′
-  lent-past F v = record {
-    reached = v .reached;
-    wide = v .wide;
-    indexed = v .indexed;
-    areas = v .areas;
-    linked = v .linked;
-    cells = λ s a. h (b + s) (omega arith) ∙ v .cells s a;
-    room = omega (arith, v .room);
-    near = v .near;
-  }

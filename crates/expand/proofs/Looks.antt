@@ -3,21 +3,21 @@
 use mathlib.Core.Path.{_≡_, refl, sym, ap, _∙_}
 use mathlib.Core.Bool.{Bool, true, false}
 use mathlib.Core.List.{List}
-use Prim.Native.Nat.{ℕ, _+_, _≤_, _<_}
+use Prim.Native.Nat.{ℕ, _+_, _*_, _≤_, _<_}
 use native.Mathlib.Omega.{arith}
-use lib.ListN.{length, getD, List·getD-eq-default}
+use lib.ListN.{length, getD}
 use lib.Seq.{getD-take}
-use borrow.Author.Tests.{eq-eqb, ne-eqb, lt-ltb, le-ltb}
+use borrow.Author.Tests.{eq-eqb, ne-eqb, lt-ltb, le-ltb, leb-true, leb-false}
 use Rattle.rules.specs.Base.{_and_, if_then_else_, upto}
-use Rattle.rules.specs.Field.{Field, near, areaOf}
-use Rattle.rules.specs.Growth.{idOf, Taken, look, takes}
+use Rattle.rules.specs.Field.{none}
+use Rattle.rules.specs.Net.{Net, near, areaOf}
+use Rattle.rules.specs.Growth.{Marks, Taken, flagged, look, takes}
 use Rattle.laws.proofs.Basics.{and-no, upto-next}
 use Rattle.laws.proofs.Plain.{plain-zero, plain-flagged, plain-yes}
-use Rattle.field.specs.Lent.{Leaf, Spot, consAt}
-use Rattle.field.proofs.Places.{spot-leaf}
-use Rattle.flood.specs.Site.{Site, SomeSite, Lent, SomeLent}
+use Rattle.net.specs.Table.{netAt}
+use Rattle.net.proofs.Tables.{area-at, area-none, near-at, net-few, net-inside}
 use Rattle.flood.specs.Stack.{marksAt}
-use Rattle.flood.proofs.Sight.{area-is}
+use Rattle.expand.specs.Layout.{Sight}
 
 -- ---------------------------------------------------------------- one direction
 
@@ -41,94 +41,92 @@ changes : (a b c : Bool) (x y : Taken) → a ≡ true → b ≡ true → c ≡ t
 unfolding if_then_else_ _and_
 changes a b c x y e f g = rw (e, f, g)
 
-module _ (w : ℕ) (is ar cons ids ws : List ℕ) (c d a own id far : ℕ) (n : (F : Field) (s : ℕ) → Leaf F w is cons c s → a ≡ near F s d) where
-  pub look-none : a ≡ 65535 → own < 256 → (F : Field) (s : ℕ) → Site F w is ar cons c s → areaOf F s ≡ own
-      → record { id = id; far = far } ≡ look F (marksAt (length ar) ids ws) s d (record { id = id; far = far })
-  unfolding look areaOf
-  look-none z h F s g q =
-      let e : getD (F .area) (near F s d) 256 ≡ 256 = ap (λ (x : ℕ). getD (F .area) x 256) (sym (n F s (g .leaf)) ∙ z) ∙ List·getD-eq-default (F .area) 256 (omega (arith, g .leaf .reached .celled .few)) in
-      let y : getD (F .area) (near F s d) 256 ≡ getD (F .area) s 256 → ⊥ = λ (y : getD (F .area) (near F s d) 256 ≡ getD (F .area) s 256). omega arith in
+-- the four places of a span are in the table
+module _ (table : ℕ) (ar ids ws : List ℕ) (s : ℕ) (v : Sight table ar ids ws s) where
+  pub sight-small : s < 65536
+  sight-small = omega (arith, v .span, net-few table ar ws (v .closed))
+
+  pub sight-slot : (d : ℕ) → d < 4 → table + (4 * s + d) < length ws
+  sight-slot d h = omega (arith, v .room, v .span)
+
+module _ (table : ℕ) (ar ids ws : List ℕ) (s own d a : ℕ) (t : Taken) (v : Sight table ar ids ws s) (h : d < 4) (q : own ≡ getD ar s 0) (n : a ≡ getD ws (table + (4 * s + d)) 0) where
+  abbrev N : Net
+  N = netAt table ar ws
+
+  abbrev m : Marks
+  m = marksAt (length ar) ids ws
+
+  -- what is not none is a span
+  pub sight-inside : (a ≡ none → ⊥) → a < length ar
+  sight-inside z = net-inside table ar ws s d a (v .closed) (v .room) (v .span) h n z
+
+  near-a : near N s d ≡ a
+  near-a = near-at table ar ws s d (v .room) (v .span) h ∙ sym n
+
+  own-area : areaOf N s ≡ own
+  own-area = area-at table ar ws s (v .span) ∙ sym q
+
+  pub look-none : a ≡ none → own < 256 → t ≡ look N m s d t
+  unfolding look
+  look-none z o =
+      let e : areaOf N (near N s d) ≡ 256 = ap (areaOf N) (near-a ∙ z) ∙ area-none N (v .closed) in
+      let y : areaOf N (near N s d) ≡ areaOf N s → ⊥ = λ (y : areaOf N (near N s d) ≡ areaOf N s). omega (arith, own-area) in
       stays _ _ _ _ _ (no₁ _ _ _ (ne-eqb _ _ y))
 
-  module _ (h : a < length ar) where
-    at-area : (F : Field) (s : ℕ) → Site F w is ar cons c s → areaOf F (near F s d) ≡ getD ar a 0
-    at-area F s g = ap (areaOf F) (sym (n F s (g .leaf))) ∙ area-is F ar a (g .areas) h
+  module _ (i : a < length ar) where
+    at-area : areaOf N (near N s d) ≡ getD ar a 0
+    at-area = ap (areaOf N) near-a ∙ area-at table ar ws a i
 
-    pub look-area : (v : ℕ) → v ≡ getD ar a 0 → (v ≡ own → ⊥) → (F : Field) (s : ℕ) → Site F w is ar cons c s → areaOf F s ≡ own
-        → record { id = id; far = far } ≡ look F (marksAt (length ar) ids ws) s d (record { id = id; far = far })
+    at-id : getD ids (near N s d) 0 ≡ getD ids a 0
+    at-id = ap (λ (x : ℕ). getD ids x 0) near-a
+
+    pub look-area : (u : ℕ) → u ≡ getD ar a 0 → (u ≡ own → ⊥) → t ≡ look N m s d t
     unfolding look
-    look-area v e k F s g q = stays _ _ _ _ _ (no₁ _ _ _ (ne-eqb _ _ (λ y. k (e ∙ sym (at-area F s g) ∙ y ∙ q))))
+    look-area u e k = stays _ _ _ _ _ (no₁ _ _ _ (ne-eqb _ _ (λ y. k (e ∙ sym at-area ∙ y ∙ own-area))))
 
-    at-id : (F : Field) (s : ℕ) → Site F w is ar cons c s → idOf (marksAt (length ar) ids ws) (near F s d) ≡ getD ids a 0
-    unfolding marksAt
-    at-id F s g = ap (λ (x : ℕ). getD ids x 0) (sym (n F s (g .leaf)))
-
-    pub look-zero : (r : ℕ) → r ≡ getD ids a 0 → r ≡ 0 → (F : Field) (s : ℕ) → Site F w is ar cons c s → areaOf F s ≡ own
-        → record { id = id; far = far } ≡ look F (marksAt (length ar) ids ws) s d (record { id = id; far = far })
-    unfolding look
-    look-zero r o e F s g q = stays _ _ _ _ _ (no₂ _ _ _ (plain-zero _ (at-id F s g ∙ sym o ∙ e)))
-
-    pub look-flag : (r : ℕ) → r ≡ getD ids a 0 → 32768 ≤ r → (F : Field) (s : ℕ) → Site F w is ar cons c s → areaOf F s ≡ own
-        → record { id = id; far = far } ≡ look F (marksAt (length ar) ids ws) s d (record { id = id; far = far })
-    unfolding look
-    look-flag r o e F s g q = stays _ _ _ _ _ (no₂ _ _ _ (plain-flagged _ (rw (o ∙ sym (at-id F s g)) at e)))
-
-    module _ (f : ℕ) (o : f ≡ getD ws a 0 + 2) where
-      at-far : (F : Field) (s : ℕ) → Site F w is ar cons c s → getD (marksAt (length ar) ids ws .src) (near F s d) 0 + 2 ≡ f
-      unfolding marksAt
-      at-far F s g = rw (sym (n F s (g .leaf)), getD-take (length ar) ws a 0 h) (sym o)
-
-      pub look-far : far ≤ f → (F : Field) (s : ℕ) → Site F w is ar cons c s → areaOf F s ≡ own
-          → record { id = id; far = far } ≡ look F (marksAt (length ar) ids ws) s d (record { id = id; far = far })
+    module _ (r : ℕ) (o : r ≡ getD ids a 0) where
+      pub look-zero : r ≡ 0 → t ≡ look N m s d t
       unfolding look
-      look-far e F s g q = stays _ _ _ _ _ (no₃ _ _ _ (rw (at-far F s g) (le-ltb _ _ e)))
+      look-zero e = stays _ _ _ _ _ (no₂ _ _ _ (plain-zero _ (at-id ∙ sym o ∙ e)))
 
-      pub look-take : (v r : ℕ) → v ≡ getD ar a 0 → v ≡ own → r ≡ getD ids a 0 → (r ≡ 0 → ⊥) → r < 32768 → f < far
-          → (F : Field) (s : ℕ) → Site F w is ar cons c s → areaOf F s ≡ own
-          → record { id = r; far = f } ≡ look F (marksAt (length ar) ids ws) s d (record { id = id; far = far })
-      unfolding look
-      look-take v r e k o z l y F s g q =
-          rw (at-far F s g, at-id F s g ∙ sym o) (changes _ _ _ _ _ (eq-eqb _ _ (at-area F s g ∙ sym e ∙ k ∙ sym q)) (plain-yes _ z l) (lt-ltb _ _ y))
+      module _ (b : Bool) (eb : b ≡ flagged r) where
+        pub look-flag : b ≡ true → t ≡ look N m s d t
+        unfolding look
+        look-flag y = let g : 32768 ≤ r = leb-true _ _ (sym eb ∙ y) in stays _ _ _ _ _ (no₂ _ _ _ (plain-flagged _ (rw (o ∙ sym at-id) at g)))
+
+        module _ (f : ℕ) (p : f ≡ getD ws a 0 + 2) where
+          at-far : getD (m .src) (near N s d) 0 + 2 ≡ f
+          at-far = rw (near-a, getD-take (length ar) ws a 0 i) (sym p)
+
+          pub look-far : t .far ≤ f → t ≡ look N m s d t
+          unfolding look
+          look-far e = stays _ _ _ _ _ (no₃ _ _ _ (rw at-far (le-ltb _ _ e)))
+
+          pub look-take : (u : ℕ) → u ≡ getD ar a 0 → u ≡ own → (r ≡ 0 → ⊥) → b ≡ false → f < t .far → record { id = r; far = f } ≡ look N m s d t
+          unfolding look
+          look-take u e k z y l =
+              rw (at-far, at-id ∙ sym o)
+              (changes _ _ _ _ _ (eq-eqb _ _ (at-area ∙ sym e ∙ k ∙ sym own-area)) (plain-yes _ z (leb-false _ _ (sym eb ∙ y))) (lt-ltb _ _ l))
 
 -- ---------------------------------------------------------------- the four directions
 
 -- after d of them
-pub record Looking (w : ℕ) (is ar cons ids ws : List ℕ) (c own id far d : ℕ) : Type 0 where
+pub record Looking (N : Net) (m : Marks) (s : ℕ) (t : Taken) (d : ℕ) : Type 0 where
   pub few : d ≤ 4
-  pub same : (F : Field) (s : ℕ) → Site F w is ar cons c s → areaOf F s ≡ own
-      → record { id = id; far = far } ≡ upto d (look F (marksAt (length ar) ids ws) s) (record { id = 0; far = 65535 })
+  pub same : t ≡ upto d (look N m s) (record { id = 0; far = 65535 })
 
-module _ (w : ℕ) (is ar cons ids ws : List ℕ) (c own : ℕ) where
-  pub looking-start : Looking w is ar cons ids ws c own 0 65535 0
+module _ (N : Net) (m : Marks) (s : ℕ) where
+  pub looking-start : Looking N m s (record { id = 0; far = 65535 }) 0
   unfolding upto
-  looking-start = record { few = omega arith; same = λ F s g q. refl }
+  looking-start = record { few = omega arith; same = refl }
 
-  module _ (id far d : ℕ) (v : Looking w is ar cons ids ws c own id far d) where
-    pub looking-next : (id′ far′ : ℕ) → d < 4
-        → ((F : Field) (s : ℕ) → Site F w is ar cons c s → areaOf F s ≡ own → record { id = id′; far = far′ } ≡ look F (marksAt (length ar) ids ws) s d (record { id = id; far = far }))
-        → Looking w is ar cons ids ws c own id′ far′ (d + 1)
-    looking-next id′ far′ h e = record {
+  module _ (t : Taken) (d : ℕ) (v : Looking N m s t d) where
+    pub looking-next : (t′ : Taken) → d < 4 → t′ ≡ look N m s d t → Looking N m s t′ (d + 1)
+    looking-next t′ h e = record {
       few = omega arith;
-      same = λ F s g q. e F s g q ∙ ap (λ (t : Taken). look F (marksAt (length ar) ids ws) s d t) (v .same F s g q) ∙ sym (upto-next d (look F (marksAt (length ar) ids ws) s) (record { id = 0; far = 65535 }));
+      same = e ∙ ap (look N m s d) (v .same) ∙ sym (upto-next d (look N m s) (record { id = 0; far = 65535 }));
     }
 
-    pub looking-done : 4 ≤ d → (F : Field) (s : ℕ) → Site F w is ar cons c s → areaOf F s ≡ own → record { id = id; far = far } ≡ takes F (marksAt (length ar) ids ws) s
+    pub looking-done : 4 ≤ d → t ≡ takes N m s
     unfolding takes
-    looking-done h F s g q = let z : d ≡ 4 = omega (arith, v .few) in rw z at (v .same F s g q)
-
--- ---------------------------------------------------------------- a span and its cell
-
-module _ (w : ℕ) (is ar cs cons : List ℕ) (b s c : ℕ) (ws : List ℕ) (h : s < length ar) (e : c ≡ getD ws (b + s) 0) (k : cons ≡ consAt cs s) where
-  pub lent-site : (F : Field) → Lent F w is ar cs b ws → Site F w is ar cons c s
-  lent-site F v =
-      let z : length (F .area) ≡ length ar = ap length (v .areas) in
-      let g : Spot F w is cs c s = record { reached = v .reached; wide = v .wide; indexed = v .indexed; linked = v .linked; stands = record { span = omega arith; cell = sym (e ∙ v .cells s h) } } in
-      record { leaf = spot-leaf F w is cs cons c s g k; areas = v .areas }
-
-  pub lent-some-site : SomeLent w is ar cs b ws → SomeSite w is ar cons c
-  lent-some-site x = record { F = x .F; s = s; site = lent-site (x .F) (x .lent) }
-
-  pub takes-is : (ids : List ℕ) (own id far : ℕ) → own ≡ getD ar s 0
-      → ((F : Field) (s : ℕ) → Site F w is ar cons c s → areaOf F s ≡ own → record { id = id; far = far } ≡ takes F (marksAt (length ar) ids ws) s)
-      → (F : Field) → Lent F w is ar cs b ws → record { id = id; far = far } ≡ takes F (marksAt (length ar) ids ws) s
-  takes-is ids own id far q t F v = t F s (lent-site F v) (area-is F ar s (v .areas) h ∙ sym q)
+    looking-done h = let z : d ≡ 4 = omega (arith, v .few) in rw z at (v .same)

@@ -9,13 +9,15 @@ use lib.ListN.{length, getD, set, length-set, List·getD-eq-default}
 use lib.Seq.{getD-set-same, getD-set-other, set-getD, take-set-le}
 use borrow.Author.Tests.{eq-eqb, ne-eqb}
 use Rattle.rules.specs.Base.{if_then_else_}
+use Rattle.rules.specs.Field.{none}
+use Rattle.net.specs.Table.{lastPlace}
 use Rattle.expand.specs.Layout.{fresh, listAt, Past, Entries, Using}
 use Rattle.expand.proofs.Lists.{listAt-cong, listAt-snoc, listAt-next, seam}
 
 -- ---------------------------------------------------------------- one entry
 
 module _ (ids ws : List ℕ) (i s : ℕ) (q : s ≡ getD ws i 0) where
-  pub use-used : length ids ≤ 32000 → s ≡ 65535 → ws ≡ set ws i (fresh ids (getD ws i 0))
+  pub use-used : length ids ≤ 32000 → s ≡ none → ws ≡ set ws i (fresh ids (getD ws i 0))
   unfolding fresh if_then_else_
   use-used l z =
       let d : length ids ≤ getD ws i 0 = omega arith in
@@ -25,7 +27,7 @@ module _ (ids ws : List ℕ) (i s : ℕ) (q : s ≡ getD ws i 0) where
   unfolding fresh if_then_else_
   use-blank r o z = rw (eq-eqb _ _ (ap (λ (x : ℕ). getD ids x 0) (sym q) ∙ sym o ∙ z)) (sym (set-getD ws i 0))
 
-  pub use-held : (r : ℕ) → r ≡ getD ids s 0 → (r ≡ 0 → ⊥) → set ws i 65535 ≡ set ws i (fresh ids (getD ws i 0))
+  pub use-held : (r : ℕ) → r ≡ getD ids s 0 → (r ≡ 0 → ⊥) → set ws i none ≡ set ws i (fresh ids (getD ws i 0))
   unfolding fresh if_then_else_
   use-held r o z = rw (ne-eqb _ _ (λ g. z (o ∙ ap (λ (x : ℕ). getD ids x 0) q ∙ g)))
 
@@ -40,7 +42,7 @@ module _ (a fill : ℕ) (ids ws₀ : List ℕ) where
       record { within = omega arith; size = refl; marks = refl; stack = rw (add-zero a, p); unseen = λ x l. refl }
 
   module _ (ws : List ℕ) (j : ℕ) (v : Using (length ids) a fill ids ws₀ ws j) (z : Past (length ids) a (a + length ids) ws₀) (es : Entries (length ids) a fill ws₀) where
-    pub using-entry : j < fill → (getD ws (a + j) 0 ≡ 65535 → ⊥) → getD ws (a + j) 0 < length ids
+    pub using-entry : j < fill → (getD ws (a + j) 0 ≡ none → ⊥) → getD ws (a + j) 0 < length ids
     using-entry h k =
         let u = v .unseen (a + j) (inr (omega arith)) in
         rw u (es .spans j h (λ y. k (u ∙ y)))
@@ -48,7 +50,7 @@ module _ (a fill : ℕ) (ids ws₀ : List ℕ) where
     pub using-at : j < fill → a + j < length ws
     using-at h = omega (arith, z .room, es .filled, v .size)
 
-    pub using-small : j < fill → a + j ≤ 9000000
+    pub using-small : j < fill → a + j ≤ lastPlace
     using-small h = omega (arith, z .close, es .filled)
 
     pub using-next : j < fill → (ws′ : List ℕ) → ws′ ≡ set ws (a + j) (fresh ids (getD ws (a + j) 0)) → Using (length ids) a fill ids ws₀ ws′ (j + 1)

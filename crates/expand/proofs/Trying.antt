@@ -8,17 +8,17 @@ use native.Mathlib.Omega.{arith}
 use native.Mathlib.Decide.{ℕ-discrete, decLt}
 use lib.ListN.{length, getD, set, take, length-set}
 use lib.Seq.{getD-take, getD-set-same, getD-set-other, take-set-le}
-use Rattle.rules.specs.Field.{Field, near}
+use Rattle.rules.specs.Field.{none}
+use Rattle.rules.specs.Net.{near}
 use Rattle.rules.specs.Growth.{takes}
 use Rattle.laws.proofs.NextId.{zeros, zeros-le, zeros-lower}
-use Rattle.field.specs.Lent.{Leaf, consAt}
-use Rattle.flood.specs.Site.{Lent, SomeLent}
+use Rattle.net.specs.Table.{netAt, lastPlace, Closed}
+use Rattle.net.proofs.Tables.{net-same, near-at, net-inside}
 use Rattle.flood.specs.Stack.{marksAt}
-use Rattle.expand.specs.Layout.{listAt, noted, Sizes, Entries}
-use Rattle.expand.specs.Front.{Up, Queued, Found, Board, Moved, Cold, Tried, Sides, Side, Around, Beside, Spans, Entered}
-use Rattle.expand.proofs.Lists.{length-listAt, getD-listAt, four-else, four-first, four-second, four-third, four-last, marks-same, lent-past}
+use Rattle.expand.specs.Layout.{listAt, noted, Sizes, Entries, Sight}
+use Rattle.expand.specs.Front.{Up, Queued, Found, Board, Moved, Tried, Sides, Beside, Spans, Entered}
+use Rattle.expand.proofs.Lists.{length-listAt, getD-listAt, four-else, four-first, four-second, four-third, four-last, marks-same}
 use Rattle.expand.proofs.Halves.{zero-no, taken-yes}
-use Rattle.expand.proofs.Looks.{lent-site}
 
 -- ---------------------------------------------------------------- room
 
@@ -80,8 +80,8 @@ module _ (n i c s id far : ℕ) (ws : List ℕ) (hn : n ≤ c) (hi : c + 3 ≤ i
 
 -- ---------------------------------------------------------------- one try
 
-module _ (w : ℕ) (is ar cs : List ℕ) (e b : ℕ) (ids ws : List ℕ) (k : ℕ) (o : Board (length ar) e b k ids ws) where
-  pub moved-none : Moved w is ar cs e b ids ws k ws k
+module _ (ar : List ℕ) (e b : ℕ) (ids ws : List ℕ) (k : ℕ) (o : Board (length ar) e b k ids ws) where
+  pub moved-none : Moved ar e b ids ws k ws k
   moved-none = record {
     size = refl;
     marks = refl;
@@ -94,7 +94,7 @@ module _ (w : ℕ) (is ar cs : List ℕ) (e b : ℕ) (ids ws : List ℕ) (k : �
     fall = λ x h u. inl u;
     inside = λ i l u. absurd (omega arith);
     lit = λ i l u. absurd (omega arith);
-    right = λ F v i l u. absurd (omega arith);
+    right = λ i l u. absurd (omega arith);
   }
 
   module _ (x : ℕ) (h : x < length ar) (y : Up (length ar) e ws x) where
@@ -104,12 +104,12 @@ module _ (w : ℕ) (is ar cs : List ℕ) (e b : ℕ) (ids ws : List ℕ) (k : �
         let z = zeros-fall ws (set ws (e + 3 * length ar + x) 0) (e + 3 * length ar) (length ar) x h (λ t g q. getD-set-other ws (e + 3 * length ar + x) (e + 3 * length ar + t) 0 0 (λ p. q (omega arith))) (getD-set-same ws (e + 3 * length ar + x) 0 0 r) y in
         omega (arith, o .free, z, zeros-le (listAt (set ws (e + 3 * length ar + x) 0) (e + 3 * length ar) (length ar)), length-listAt (set ws (e + 3 * length ar + x) 0) (e + 3 * length ar) (length ar))
 
-    pub moved-one : (id far : ℕ) → ((F : Field) → Lent F w is ar cs b ws → Found F (marksAt (length ar) ids ws) (length ar) x id far)
-        → (ws′ : List ℕ) → ws′ ≡ noted (e + 3 * length ar + x) (e + 3 * k) x id far ws → Moved w is ar cs e b ids ws k ws′ (k + 1)
-    moved-one id far g ws′ q = rw q (go spare (omega (arith, o .low)) (omega (arith, spare)) (omega (arith, o .past, o .room)))
+    pub moved-one : (f id far : ℕ) → f ≡ e + 3 * length ar → Found (netAt b ar ws) (marksAt (length ar) ids ws) (length ar) x id far
+        → (ws′ : List ℕ) → ws′ ≡ noted (f + x) (e + 3 * k) x id far ws → Moved ar e b ids ws k ws′ (k + 1)
+    moved-one f id far p g ws′ q = rw (q, p) (go spare (omega (arith, o .low)) (omega (arith, spare)) (omega (arith, o .past, o .room)))
       where
         go : k < length ar → length ar ≤ e + 3 * k → e + 3 * k + 3 ≤ e + 3 * length ar + x → e + 3 * length ar + x < length ws
-            → Moved w is ar cs e b ids ws k (noted (e + 3 * length ar + x) (e + 3 * k) x id far ws) (k + 1)
+            → Moved ar e b ids ws k (noted (e + 3 * length ar + x) (e + 3 * k) x id far ws) (k + 1)
         go hk hn hi room =
             let W = noted (e + 3 * length ar + x) (e + 3 * k) x id far ws in
             let else′ = noted-else (length ar) (e + 3 * length ar + x) (e + 3 * k) x id far ws hn hi room in
@@ -134,51 +134,62 @@ module _ (w : ℕ) (is ar cs : List ℕ) (e b : ℕ) (ids ws : List ℕ) (k : �
               ];
               inside = λ i l u. let p : i ≡ k = omega arith in rw (p, span′) h;
               lit = λ i l u. let p : i ≡ k = omega arith in rw (p, span′) y;
-              right = λ F v i l u.
+              right = λ i l u.
                   let p : i ≡ k = omega arith in
-                  rw (p, span′, noted-id (length ar) (e + 3 * length ar + x) (e + 3 * k) x id far ws hn hi room, noted-far (length ar) (e + 3 * length ar + x) (e + 3 * k) x id far ws hn hi room) (g F v);
+                  rw (p, span′, noted-id (length ar) (e + 3 * length ar + x) (e + 3 * k) x id far ws hn hi room, noted-far (length ar) (e + 3 * length ar + x) (e + 3 * k) x id far ws hn hi room) g;
             }
 
-    pub tried-one : (id far : ℕ) (ws′ : List ℕ) → ws′ ≡ noted (e + 3 * length ar + x) (e + 3 * k) x id far ws → Tried w is ar cs e b ids ws ws′ x
-    tried-one id far ws′ q = record { cold = λ F v l u. absurd (u (rw q (noted-flag (length ar) (e + 3 * length ar + x) (e + 3 * k) x id far ws (omega (arith, o .low)) (omega (arith, spare)) (omega (arith, o .past, o .room))))) }
+    pub tried-one : (f id far : ℕ) → f ≡ e + 3 * length ar → (ws′ : List ℕ) → ws′ ≡ noted (f + x) (e + 3 * k) x id far ws → Tried ar e b ids ws ws′ x
+    tried-one f id far p ws′ q = record {
+      cold = λ l u. absurd (u (rw (q, p)
+          (noted-flag (length ar) (e + 3 * length ar + x) (e + 3 * k) x id far ws (omega (arith, o .low)) (omega (arith, spare)) (omega (arith, o .past, o .room)))));
+    }
 
     pub note-room : e + 3 * k + 2 < length ws
     note-room = omega (arith, spare, o .past, o .room)
 
+-- the flag is up, as the code tests it
+pub up-is : (n e f x v : ℕ) (ws : List ℕ) → f ≡ e + 3 * n → v ≡ getD ws (f + x) 0 → (v ≡ 0 → ⊥) → Up n e ws x
+up-is n e f x v ws p q z y = z (q ∙ rw p y)
+
 -- as the code has it
-module _ (w : ℕ) (is ar cs : List ℕ) (e b : ℕ) (ids ws : List ℕ) (x : ℕ) where
-  pub tried-down : (v : ℕ) → v ≡ getD ws (e + 3 * length ar + x) 0 → v ≡ 0 → Tried w is ar cs e b ids ws ws x
-  tried-down v q z = record { cold = λ F l h u. absurd (u (sym q ∙ z)) }
+module _ (ar : List ℕ) (e b : ℕ) (ids ws : List ℕ) (x : ℕ) where
+  pub board-sight : (k : ℕ) → Closed (netAt b ar ws) → Board (length ar) e b k ids ws → x < length ar → Sight b ar ids ws x
+  board-sight k c o h = record { closed = c; room = o .room; close = o .close; idents = o .idents; calm = o .calm; span = h }
 
-  pub tried-used : (i s : ℕ) → s ≡ getD ws i 0 → s ≡ 65535 → length ar ≤ 32000 → Tried w is ar cs e b ids ws ws (getD ws i 0)
-  tried-used i s q z f = record { cold = λ F l h u. absurd (omega arith) }
+  pub tried-down : (f v : ℕ) → f ≡ e + 3 * length ar → v ≡ getD ws (f + x) 0 → v ≡ 0 → Tried ar e b ids ws ws x
+  tried-down f v p q z = record { cold = λ h u. absurd (u (rw (← p) (sym q ∙ z))) }
 
-  pub tried-as : (i s : ℕ) → s ≡ getD ws i 0 → (ws′ : List ℕ) → Tried w is ar cs e b ids ws ws′ s → Tried w is ar cs e b ids ws ws′ (getD ws i 0)
+  pub tried-used : (i s : ℕ) → s ≡ getD ws i 0 → s ≡ none → length ar ≤ 32000 → Tried ar e b ids ws ws (getD ws i 0)
+  tried-used i s q z f = record { cold = λ h u. absurd (omega arith) }
+
+  pub tried-as : (i s : ℕ) → s ≡ getD ws i 0 → (ws′ : List ℕ) → Tried ar e b ids ws ws′ s → Tried ar e b ids ws ws′ (getD ws i 0)
   tried-as i s q ws′ t = rw (← q) t
 
-  module _ (id far : ℕ) (g : (F : Field) → Lent F w is ar cs b ws → record { id = id; far = far } ≡ takes F (marksAt (length ar) ids ws) x) where
-    pub tried-nothing : id ≡ 0 → Tried w is ar cs e b ids ws ws x
-    tried-nothing z = record { cold = λ F l h u. zero-no F (marksAt (length ar) ids ws) x id far (g F l) z }
+  module _ (id far : ℕ) (g : record { id = id; far = far } ≡ takes (netAt b ar ws) (marksAt (length ar) ids ws) x) where
+    pub tried-nothing : id ≡ 0 → Tried ar e b ids ws ws x
+    tried-nothing z = record { cold = λ h u. zero-no (netAt b ar ws) (marksAt (length ar) ids ws) x id far g z }
 
-    pub tried-found : x < length ar → length ar ≤ 32000 → (id ≡ 0 → ⊥) → (F : Field) → Lent F w is ar cs b ws → Found F (marksAt (length ar) ids ws) (length ar) x id far
-    tried-found h f z F l = record {
+    pub tried-found : x < length ar → length ar ≤ 32000 → (id ≡ 0 → ⊥) → Found (netAt b ar ws) (marksAt (length ar) ids ws) (length ar) x id far
+    tried-found h f z = record {
       span = h;
-      found = taken-yes F (marksAt (length ar) ids ws) x id far (g F l) (λ q. omega arith) z;
-      id-is = ap (λ (t : _). t .id) (g F l);
-      far-is = ap (λ (t : _). t .far) (g F l);
+      found = taken-yes (netAt b ar ws) (marksAt (length ar) ids ws) x id far g (λ q. omega arith) z;
+      id-is = ap (λ (t : _). t .id) g;
+      far-is = ap (λ (t : _). t .far) g;
     }
 
 -- ---------------------------------------------------------------- one after another
 
-module _ (w : ℕ) (is ar cs : List ℕ) (e b : ℕ) (ids ws : List ℕ) (k : ℕ) (ws₁ : List ℕ) (k₁ : ℕ) (o : Board (length ar) e b k ids ws) (v : Moved w is ar cs e b ids ws k ws₁ k₁) where
+module _ (ar : List ℕ) (e b : ℕ) (ids ws : List ℕ) (k : ℕ) (ws₁ : List ℕ) (k₁ : ℕ) (o : Board (length ar) e b k ids ws) (v : Moved ar e b ids ws k ws₁ k₁) where
   moved-past : (x : ℕ) → b ≤ x → getD ws₁ x 0 ≡ getD ws x 0
   moved-past x l = v .beyond x (omega (arith, o .past))
 
-  moved-lent : (F : Field) → Lent F w is ar cs b ws → Lent F w is ar cs b ws₁
-  moved-lent = lent-past w is ar cs b ws ws₁ (v .size) moved-past
+  -- the table is as it was
+  moved-net : netAt b ar ws₁ ≡ netAt b ar ws
+  moved-net = net-same b ar ws ws₁ (o .room) (v .size) moved-past
 
-  pub moved-some : SomeLent w is ar cs b ws → SomeLent w is ar cs b ws₁
-  moved-some x = record { F = x .F; lent = moved-lent (x .F) (x .lent) }
+  pub moved-closed : Closed (netAt b ar ws) → Closed (netAt b ar ws₁)
+  moved-closed x = rw moved-net x
 
   pub moved-board : Board (length ar) e b k₁ ids ws₁
   moved-board = record {
@@ -199,7 +210,7 @@ module _ (w : ℕ) (is ar cs : List ℕ) (e b : ℕ) (ids ws : List ℕ) (k : �
   moved-marks : marksAt (length ar) ids ws₁ ≡ marksAt (length ar) ids ws
   moved-marks = marks-same (length ar) ids ws ws₁ (v .marks)
 
-  module _ (ws₂ : List ℕ) (k₂ : ℕ) (u : Moved w is ar cs e b ids ws₁ k₁ ws₂ k₂) where
+  module _ (ws₂ : List ℕ) (k₂ : ℕ) (u : Moved ar e b ids ws₁ k₁ ws₂ k₂) where
     queued-on : (x : ℕ) → Queued ws₁ e k k₁ x → Queued ws₂ e k k₂ x
     queued-on x q = record {
       at = q .at;
@@ -208,7 +219,7 @@ module _ (w : ℕ) (is ar cs : List ℕ) (e b : ℕ) (ids ws : List ℕ) (k : �
       is = u .kept (e + 3 * q .at) (omega (arith, o .low)) (omega (arith, q .to)) ∙ q .is;
     }
 
-    pub moved-then : Moved w is ar cs e b ids ws k ws₂ k₂
+    pub moved-then : Moved ar e b ids ws k ws₂ k₂
     moved-then = record {
       size = u .size ∙ v .size;
       marks = u .marks ∙ v .marks;
@@ -232,95 +243,110 @@ module _ (w : ℕ) (is ar cs : List ℕ) (e b : ℕ) (ids ws : List ℕ) (k : �
         | yes g ↦ rw (u .kept (e + 3 * i) (omega (arith, o .low)) (omega arith)) (v .lit i l g)
         | no g ↦ v .down _ (u .inside i (omega arith) h) (u .lit i (omega arith) h)
       ];
-      right = λ F f i l h. elim (decLt i k₁) [
-        | yes g ↦ rw (u .kept (e + 3 * i) (omega (arith, o .low)) (omega arith), u .kept (e + 3 * i + 1) (omega (arith, o .low)) (omega arith), u .kept (e + 3 * i + 2) (omega (arith, o .low)) (omega arith)) (v .right F f i l g)
-        | no g ↦ rw moved-marks at (u .right F (moved-lent F f) i (omega arith) h)
+      right = λ i l h. elim (decLt i k₁) [
+        | yes g ↦ rw (u .kept (e + 3 * i) (omega (arith, o .low)) (omega arith), u .kept (e + 3 * i + 1) (omega (arith, o .low)) (omega arith), u .kept (e + 3 * i + 2) (omega (arith, o .low)) (omega arith)) (v .right i l g)
+        | no g ↦ rw (moved-net, moved-marks) at (u .right i (omega arith) h)
       ];
     }
 
-    pub cold-on : (F : Field) (x : ℕ) → Cold F ar e ids ws ws₁ x → Cold F ar e ids ws ws₂ x
-    cold-on F x c h y = c h (u .down x h y)
+    -- what was tried stays so; and what is tried then counts from the start
+    tried-on : (x : ℕ) → Tried ar e b ids ws ws₁ x → Tried ar e b ids ws ws₂ x
+    tried-on x c = record { cold = λ h y. c .cold h (u .down x h y) }
 
-    pub cold-then : (F : Field) (x : ℕ) → Cold F ar e ids ws₁ ws₂ x → Cold F ar e ids ws ws₂ x
-    cold-then F x c h y = rw moved-marks at (c h y)
+    tried-then : (x : ℕ) → Tried ar e b ids ws₁ ws₂ x → Tried ar e b ids ws ws₂ x
+    tried-then x c = record { cold = λ h y. rw (moved-net, moved-marks) at (c .cold h y) }
+
+    pub sides-next : (s d : ℕ) → Sides ar e b ids ws ws₁ s d → d < 4 → Tried ar e b ids ws₁ ws₂ (near (netAt b ar ws₁) s d) → Sides ar e b ids ws ws₂ s (d + 1)
+    sides-next s d c h t = record {
+      few = omega arith;
+      tried = λ j y. elim (decLt j d) [
+        | yes z ↦ tried-on _ (c .tried j z)
+        | no z ↦ (let q : j ≡ d = omega arith in rw q (tried-then _ (rw moved-net at t)))
+      ];
+    }
+
+    sides-on : (s : ℕ) → Sides ar e b ids ws ws₁ s 4 → Sides ar e b ids ws ws₂ s 4
+    sides-on s c = record { few = c .few; tried = λ j y. tried-on _ (c .tried j y) }
+
+    sides-then : (s : ℕ) → Sides ar e b ids ws₁ ws₂ s 4 → Sides ar e b ids ws ws₂ s 4
+    sides-then s c = record { few = c .few; tried = λ j y. tried-then _ (rw moved-net at (c .tried j y)) }
+
+    pub beside-next : (lo i s : ℕ) → Beside ar e b ids ws ws₁ lo i → i < k → s ≡ getD ws₁ (e + 3 * i) 0 → Sides ar e b ids ws₁ ws₂ s 4 → Beside ar e b ids ws ws₂ lo (i + 1)
+    beside-next lo i s c h q t = record {
+      tried = λ j g y. elim (decLt j i) [
+        | yes p ↦ sides-on _ (c .tried j g p)
+        | no p ↦ (let r : j ≡ i = omega arith in
+            let x : s ≡ getD ws (e + 3 * i) 0 = q ∙ v .kept (e + 3 * i) (omega (arith, o .low)) (omega arith) in
+            rw (r, ← x) (sides-then s t))
+      ];
+    }
+
+    pub entered-next : (a fill j : ℕ) → Sizes (length ar) a e b ids ws → Entries (length ar) a fill ws → j < fill → Entered ar a e b ids ws ws₁ j
+        → Tried ar e b ids ws₁ ws₂ (getD ws₁ (a + j) 0) → Entered ar a e b ids ws ws₂ (j + 1)
+    entered-next a fill j z f h c t = record {
+      tried = λ i y. elim (decLt i j) [
+        | yes p ↦ tried-on _ (c .tried i p)
+        | no p ↦ (let r : i ≡ j = omega arith in
+            let x : getD ws₁ (a + j) 0 ≡ getD ws (a + j) 0 = v .kept (a + j) (omega (arith, z .low)) (omega (arith, z .apart, f .filled)) in
+            rw (r, ← x) (tried-then _ t))
+      ];
+    }
 
 -- ---------------------------------------------------------------- the four directions of a span
 
-module _ (w : ℕ) (is ar cs : List ℕ) (e b : ℕ) (ids ws cons : List ℕ) (c : ℕ) where
-  pub side-none : (d : ℕ) (ws′ : List ℕ) → ((F : Field) (s : ℕ) → Leaf F w is cons c s → 65535 ≡ near F s d) → length ar ≤ 32000 → Side w is ar cs e b ids ws cons c ws′ d
-  side-none d ws′ g f = record { cold = λ F s v l h u. absurd (omega (arith, g F s (v .leaf))) }
+module _ (ar : List ℕ) (e b : ℕ) (ids ws : List ℕ) (s d x k : ℕ) (c : Closed (netAt b ar ws)) (o : Board (length ar) e b k ids ws) (g : s < length ar) (h : d < 4)
+    (q : x ≡ getD ws (b + (4 * s + d)) 0) where
+  side-is : near (netAt b ar ws) s d ≡ x
+  side-is = near-at b ar ws s d (o .room) g h ∙ sym q
 
-  pub side-tried : (d x : ℕ) (ws′ : List ℕ) → ((F : Field) (s : ℕ) → Leaf F w is cons c s → x ≡ near F s d) → Tried w is ar cs e b ids ws ws′ x → Side w is ar cs e b ids ws cons c ws′ d
-  side-tried d x ws′ g t = record { cold = λ F s v l. rw (g F s (v .leaf)) at (t .cold F l) }
+  pub side-inside : (x ≡ none → ⊥) → x < length ar
+  side-inside z = net-inside b ar ws s d x c (o .room) g h q z
 
-  pub sides-start : Sides w is ar cs e b ids ws cons c ws 0
-  sides-start = record { few = omega arith; cold = λ F s v l k h. absurd (omega arith) }
+  pub side-none : x ≡ none → Tried ar e b ids ws ws (near (netAt b ar ws) s d)
+  side-none z = record { cold = λ l u. absurd (omega (arith, side-is, o .few)) }
 
-  pub sides-next : (k : ℕ) (ws₁ : List ℕ) (k₁ d : ℕ) → Board (length ar) e b k ids ws → Moved w is ar cs e b ids ws k ws₁ k₁ → Sides w is ar cs e b ids ws cons c ws₁ d → d < 4
-      → (ws₂ : List ℕ) (k₂ : ℕ) → Moved w is ar cs e b ids ws₁ k₁ ws₂ k₂ → Side w is ar cs e b ids ws₁ cons c ws₂ d → Sides w is ar cs e b ids ws cons c ws₂ (d + 1)
-  sides-next k ws₁ k₁ d o m v h ws₂ k₂ u t = record {
-    few = omega arith;
-    cold = λ F s g l j y. elim (decLt j d) [
-      | yes z ↦ cold-on w is ar cs e b ids ws k ws₁ k₁ o m ws₂ k₂ u F (near F s j) (v .cold F s g l j z)
-      | no z ↦ let q : j ≡ d = omega arith in rw q (cold-then w is ar cs e b ids ws k ws₁ k₁ o m ws₂ k₂ u F (near F s d) (t .cold F s g (moved-lent w is ar cs e b ids ws k ws₁ k₁ o m F l)))
-    ];
-  }
+  pub side-tried : (ws′ : List ℕ) → Tried ar e b ids ws ws′ x → Tried ar e b ids ws ws′ (near (netAt b ar ws) s d)
+  side-tried ws′ t = rw side-is t
 
-  pub sides-end : (ws′ : List ℕ) (d : ℕ) → Sides w is ar cs e b ids ws cons c ws′ d → 4 ≤ d → Sides w is ar cs e b ids ws cons c ws′ 4
-  sides-end ws′ d v h = let q : d ≡ 4 = omega (arith, v .few) in rw q at v
+module _ (ar : List ℕ) (e b : ℕ) (ids ws : List ℕ) where
+  pub board-slot : (s d k : ℕ) → Board (length ar) e b k ids ws → s < length ar → d < 4 → b + (4 * s + d) < length ws
+  board-slot s d k o g h = omega (arith, o .room)
 
-  pub around-all : (s : ℕ) (ws′ : List ℕ) → s < length ar → c ≡ getD ws (b + s) 0 → cons ≡ consAt cs s → Sides w is ar cs e b ids ws cons c ws′ 4 → Around w is ar cs e b ids ws ws′ s
-  around-all s ws′ h q g v = record { cold = λ F l d y. v .cold F s (lent-site w is ar cs cons b s c ws h q g F l) l d y }
+  pub board-small : (s k : ℕ) → Board (length ar) e b k ids ws → s < length ar → s < 65536
+  board-small s k o g = omega (arith, o .few)
 
--- ---------------------------------------------------------------- changes, and entries, one after another
+  pub sides-start : (s : ℕ) → Sides ar e b ids ws ws s 0
+  sides-start s = record { few = omega arith; tried = λ k h. absurd (omega arith) }
 
-module _ (w : ℕ) (is ar cs : List ℕ) (e b : ℕ) (ids ws : List ℕ) where
-  pub beside-start : (lo : ℕ) → Beside w is ar cs e b ids ws ws lo lo
-  beside-start lo = record { cold = λ F l j g y. absurd (omega arith) }
+  pub sides-end : (ws′ : List ℕ) (s d : ℕ) → Sides ar e b ids ws ws′ s d → 4 ≤ d → Sides ar e b ids ws ws′ s 4
+  sides-end ws′ s d v h = let q : d ≡ 4 = omega (arith, v .few) in rw q at v
 
-  pub entered-start : (a : ℕ) → Entered w is ar cs a e b ids ws ws 0
-  entered-start a = record { cold = λ F l j y. absurd (omega arith) }
+  -- ---------------------------------------------------------------- changes, and entries, one after another
 
-  pub beside-span : (k : ℕ) (ws₁ : List ℕ) (k₁ : ℕ) → Board (length ar) e b k ids ws → Moved w is ar cs e b ids ws k ws₁ k₁ → (lo i s : ℕ) → Spans (length ar) e lo k ws → lo ≤ i → i < k → s ≡ getD ws₁ (e + 3 * i) 0 → s < length ar
+  pub beside-start : (lo : ℕ) → Beside ar e b ids ws ws lo lo
+  beside-start lo = record { tried = λ j g y. absurd (omega arith) }
+
+  pub entered-start : (a : ℕ) → Entered ar a e b ids ws ws 0
+  entered-start a = record { tried = λ j y. absurd (omega arith) }
+
+  pub beside-span : (k : ℕ) (ws₁ : List ℕ) (k₁ : ℕ) → Board (length ar) e b k ids ws → Moved ar e b ids ws k ws₁ k₁ → (lo i s : ℕ) → Spans (length ar) e lo k ws → lo ≤ i → i < k
+      → s ≡ getD ws₁ (e + 3 * i) 0 → s < length ar
   beside-span k ws₁ k₁ o m lo i s v g h q = rw (q ∙ m .kept (e + 3 * i) (omega (arith, o .low)) (omega arith)) (v .span i g h)
 
-  pub entered-entry : (a fill j k₁ : ℕ) (ws₁ : List ℕ) → Moved w is ar cs e b ids ws 0 ws₁ k₁ → Sizes (length ar) a e b ids ws → Entries (length ar) a fill ws → j < fill
-      → (getD ws₁ (a + j) 0 ≡ 65535 → ⊥) → getD ws₁ (a + j) 0 < length ar
-  entered-entry a fill j k₁ ws₁ m z f h y =
-      let u = m .kept (a + j) (omega (arith, z .low)) (omega (arith, z .apart, f .filled)) in
-      rw u (f .spans j h (λ q. y (u ∙ q)))
+  module _ (a fill j k₁ : ℕ) (ws₁ : List ℕ) (m : Moved ar e b ids ws 0 ws₁ k₁) (z : Sizes (length ar) a e b ids ws) (f : Entries (length ar) a fill ws) (h : j < fill) where
+    pub entered-entry : (getD ws₁ (a + j) 0 ≡ none → ⊥) → getD ws₁ (a + j) 0 < length ar
+    entered-entry y =
+        let u = m .kept (a + j) (omega (arith, z .low)) (omega (arith, z .apart, f .filled)) in
+        rw u (f .spans j h (λ q. y (u ∙ q)))
 
-  pub entered-at : (a fill j k₁ : ℕ) (ws₁ : List ℕ) → Moved w is ar cs e b ids ws 0 ws₁ k₁ → Sizes (length ar) a e b ids ws → Entries (length ar) a fill ws → j < fill → a + j < length ws₁
-  entered-at a fill j k₁ ws₁ m z f h = omega (arith, m .size, z .apart, z .past, z .room, f .filled)
+    pub entered-at : a + j < length ws₁
+    entered-at = omega (arith, m .size, z .apart, z .past, z .room, f .filled)
 
-  pub entered-small : (a fill j : ℕ) → Sizes (length ar) a e b ids ws → Entries (length ar) a fill ws → j < fill → a + j ≤ 9000000
+  pub entered-small : (a fill j : ℕ) → Sizes (length ar) a e b ids ws → Entries (length ar) a fill ws → j < fill → a + j ≤ lastPlace
   entered-small a fill j z f h = omega (arith, z .apart, z .past, z .close, f .filled)
 
-  module _ (k : ℕ) (ws₁ : List ℕ) (k₁ : ℕ) (o : Board (length ar) e b k ids ws) (m : Moved w is ar cs e b ids ws k ws₁ k₁) (ws₂ : List ℕ) (k₂ : ℕ) (u : Moved w is ar cs e b ids ws₁ k₁ ws₂ k₂) where
-    pub beside-next : (lo i s : ℕ) → Beside w is ar cs e b ids ws ws₁ lo i → i < k → s ≡ getD ws₁ (e + 3 * i) 0 → Around w is ar cs e b ids ws₁ ws₂ s → Beside w is ar cs e b ids ws ws₂ lo (i + 1)
-    beside-next lo i s v h q t = record {
-      cold = λ F l j g y d z. elim (decLt j i) [
-        | yes p ↦ cold-on w is ar cs e b ids ws k ws₁ k₁ o m ws₂ k₂ u F _ (v .cold F l j g p d z)
-        | no p ↦
-            let r : j ≡ i = omega arith in
-            let x : s ≡ getD ws (e + 3 * i) 0 = q ∙ m .kept (e + 3 * i) (omega (arith, o .low)) (omega arith) in
-            rw (r, ← x) (cold-then w is ar cs e b ids ws k ws₁ k₁ o m ws₂ k₂ u F _ (t .cold F (moved-lent w is ar cs e b ids ws k ws₁ k₁ o m F l) d z))
-      ];
-    }
-
-    pub entered-next : (a fill j : ℕ) → Sizes (length ar) a e b ids ws → Entries (length ar) a fill ws → j < fill → Entered w is ar cs a e b ids ws ws₁ j → Tried w is ar cs e b ids ws₁ ws₂ (getD ws₁ (a + j) 0) → Entered w is ar cs a e b ids ws ws₂ (j + 1)
-    entered-next a fill j z f h v t = record {
-      cold = λ F l i y. elim (decLt i j) [
-        | yes p ↦ cold-on w is ar cs e b ids ws k ws₁ k₁ o m ws₂ k₂ u F _ (v .cold F l i p)
-        | no p ↦
-            let r : i ≡ j = omega arith in
-            let x : getD ws₁ (a + j) 0 ≡ getD ws (a + j) 0 = m .kept (a + j) (omega (arith, z .low)) (omega (arith, z .apart, f .filled)) in
-            rw (r, ← x) (cold-then w is ar cs e b ids ws k ws₁ k₁ o m ws₂ k₂ u F _ (t .cold F (moved-lent w is ar cs e b ids ws k ws₁ k₁ o m F l)))
-      ];
-    }
-
-  pub beside-end : (ws′ : List ℕ) (lo i hi : ℕ) → Beside w is ar cs e b ids ws ws′ lo i → i ≤ hi → hi ≤ i → Beside w is ar cs e b ids ws ws′ lo hi
+  pub beside-end : (ws′ : List ℕ) (lo i hi : ℕ) → Beside ar e b ids ws ws′ lo i → i ≤ hi → hi ≤ i → Beside ar e b ids ws ws′ lo hi
   beside-end ws′ lo i hi v g h = let q : i ≡ hi = omega arith in rw q at v
 
-  pub entered-end : (a : ℕ) (ws′ : List ℕ) (j fill : ℕ) → Entered w is ar cs a e b ids ws ws′ j → j ≤ fill → fill ≤ j → Entered w is ar cs a e b ids ws ws′ fill
+  pub entered-end : (a : ℕ) (ws′ : List ℕ) (j fill : ℕ) → Entered ar a e b ids ws ws′ j → j ≤ fill → fill ≤ j → Entered ar a e b ids ws ws′ fill
   entered-end a ws′ j fill v g h = let q : j ≡ fill = omega arith in rw q at v

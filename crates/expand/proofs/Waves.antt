@@ -4,7 +4,7 @@ use Prim.Native.Nat.{ℕ, zero, suc, _<_}
 use native.Mathlib.Omega.{arith}
 use native.Mathlib.Decide.{ℕ-discrete}
 use mathlib.Core.Path.{_≡_, refl, sym, ap, _∙_}
-use mathlib.Core.Bool.{Bool, true, false, not, true≢false, false≢true}
+use mathlib.Core.Bool.{Bool, true, false, true≢false, false≢true}
 use mathlib.Core.Logic.{⊎-elim, _⊎_, inl, inr}
 use mathlib.Core.List.{List, [], _∷_, map}
 use lib.ListN.{length, getD, set, length-set}
@@ -12,7 +12,8 @@ use lib.Seq.{getD-set-same, getD-set-other, ext-getD}
 use lib.Dec.{eqb}
 use borrow.Author.Tests.{eqb-true, eq-eqb, ne-eqb}
 use Rattle.rules.specs.Base.{_and_, _or_, if_then_else_, upto, any, keep}
-use Rattle.rules.specs.Field.{Field, none, near}
+use Rattle.rules.specs.Field.{none}
+use Rattle.rules.specs.Net.{Net, near}
 use Rattle.rules.specs.Growth.{Marks, put, Taken, look, takes, finds, wrote, written, Spread, round, rounds}
 use Rattle.laws.proofs.Basics.{both, neither, either, and-both, or-left, or-right, same-test, if-ind, All, All-both}
 use Rattle.space.proofs.Laws.{cases}
@@ -94,36 +95,36 @@ any-out p (e ∷ l) h =
 abbrev pub Alike : Marks → Marks → ℕ → Type 0
 Alike m m′ a = (getD (m′ .ids) a 0 ≡ getD (m .ids) a 0) × (getD (m′ .src) a 0 ≡ getD (m .src) a 0)
 
-look-local : (F : Field) (m m′ : Marks) (s d : ℕ) (t : Taken) → Alike m m′ (near F s d) → look F m′ s d t ≡ look F m s d t
+look-local : (N : Net) (m m′ : Marks) (s d : ℕ) (t : Taken) → Alike m m′ (near N s d) → look N m′ s d t ≡ look N m s d t
 unfolding look
-look-local F m m′ s d t h = rw (h .0, h .1)
+look-local N m m′ s d t h = rw (h .0, h .1)
 
-takes-local : (F : Field) (m m′ : Marks) (s : ℕ) → ((d : ℕ) → d < 4 → Alike m m′ (near F s d)) → takes F m′ s ≡ takes F m s
+takes-local : (N : Net) (m m′ : Marks) (s : ℕ) → ((d : ℕ) → d < 4 → Alike m m′ (near N s d)) → takes N m′ s ≡ takes N m s
 unfolding takes upto
-takes-local F m m′ s h =
+takes-local N m m′ s h =
     rw (
-      look-local F m m′ s 0 _ (h 0 (omega arith)),
-      look-local F m m′ s 1 _ (h 1 (omega arith)),
-      look-local F m m′ s 2 _ (h 2 (omega arith)),
-      look-local F m m′ s 3 _ (h 3 (omega arith)),
+      look-local N m m′ s 0 _ (h 0 (omega arith)),
+      look-local N m m′ s 1 _ (h 1 (omega arith)),
+      look-local N m m′ s 2 _ (h 2 (omega arith)),
+      look-local N m m′ s 3 _ (h 3 (omega arith)),
     )
 
-finds-local : (F : Field) (m m′ : Marks) (s : ℕ) → ((d : ℕ) → d < 4 → Alike m m′ (near F s d)) → finds F m′ s ≡ finds F m s
+finds-local : (N : Net) (m m′ : Marks) (s : ℕ) → ((d : ℕ) → d < 4 → Alike m m′ (near N s d)) → finds N m′ s ≡ finds N m s
 unfolding finds
-finds-local F m m′ s h = rw (takes-local F m m′ s h)
+finds-local N m m′ s h = rw (takes-local N m m′ s h)
 
 -- ---------------------------------------------------------------- a round writes the entries that find an id, and no other span
 
 -- what a round changes
-unfoldable pub changes : Field → Spread → List ℕ
-changes F p = keep (finds F (p .marks)) (p .stack)
+unfoldable pub changes : Net → Spread → List ℕ
+changes N p = keep (finds N (p .marks)) (p .stack)
 
-wrote-alike : (F : Field) (m : Marks) (e : ℕ) (out : Marks) (x : ℕ) → finds F m e and eqb x e ≡ false → Alike out (wrote F m e out) x
+wrote-alike : (N : Net) (m : Marks) (e : ℕ) (out : Marks) (x : ℕ) → finds N m e and eqb x e ≡ false → Alike out (wrote N m e out) x
 unfolding wrote put
-wrote-alike F m e out x h =
-    if-ind (λ (r : Marks). Alike out r x) (finds F m e)
+wrote-alike N m e out x h =
+    if-ind (λ (r : Marks). Alike out r x) (finds N m e)
     (λ z.
-    let n : (x ≡ e → ⊥) = λ q. true≢false (sym (and-both (finds F m e) (eqb x e) z (eq-eqb x e q)) ∙ h) in
+    let n : (x ≡ e → ⊥) = λ q. true≢false (sym (and-both (finds N m e) (eqb x e) z (eq-eqb x e q)) ∙ h) in
     (getD-set-other (out .ids) e x _ 0 n, getD-set-other (out .src) e x _ 0 n))
     (λ _. (refl, refl))
 
@@ -131,44 +132,44 @@ alike-then : (a b c : Marks) (x : ℕ) → Alike a b x → Alike b c x → Alike
 alike-then a b c x f g = (g .0 ∙ f .0, g .1 ∙ f .1)
 
 -- a span that is not among the changes stays
-written-alike : (F : Field) (m : Marks) (x : ℕ) (es : List ℕ) (out : Marks) → has x (keep (finds F m) es) ≡ false → Alike out (written F m es out) x
+written-alike : (N : Net) (m : Marks) (x : ℕ) (es : List ℕ) (out : Marks) → has x (keep (finds N m) es) ≡ false → Alike out (written N m es out) x
 unfolding written
-written-alike F m x [] out h = (refl, refl)
-written-alike F m x (e ∷ es) out h =
-    let d = neither _ _ (sym (keep-cons (finds F m) e es x) ∙ h) in
-    alike-then out (wrote F m e out) (written F m es (wrote F m e out)) x (wrote-alike F m e out x (d .0)) (written-alike F m x es (wrote F m e out) (d .1))
+written-alike N m x [] out h = (refl, refl)
+written-alike N m x (e ∷ es) out h =
+    let d = neither _ _ (sym (keep-cons (finds N m) e es x) ∙ h) in
+    alike-then out (wrote N m e out) (written N m es (wrote N m e out)) x (wrote-alike N m e out x (d .0)) (written-alike N m x es (wrote N m e out) (d .1))
 
-round-alike : (F : Field) (p : Spread) (x : ℕ) → has x (changes F p) ≡ false → Alike (p .marks) (round F p .marks) x
+round-alike : (N : Net) (p : Spread) (x : ℕ) → has x (changes N p) ≡ false → Alike (p .marks) (round N p .marks) x
 unfolding round changes
-round-alike F p x h = written-alike F (p .marks) x (p .stack) (p .marks) h
+round-alike N p x h = written-alike N (p .marks) x (p .stack) (p .marks) h
 
 -- an entry that found nothing, and beside which nothing changed, still finds nothing
-pub still-nothing : (F : Field) (p : Spread) (e : ℕ) → finds F (p .marks) e ≡ false → ((d : ℕ) → d < 4 → has (near F e d) (changes F p) ≡ false)
-    → finds F (round F p .marks) e ≡ false
-still-nothing F p e z h = finds-local F (p .marks) (round F p .marks) e (λ d l. round-alike F p _ (h d l)) ∙ z
+pub still-nothing : (N : Net) (p : Spread) (e : ℕ) → finds N (p .marks) e ≡ false → ((d : ℕ) → d < 4 → has (near N e d) (changes N p) ≡ false)
+    → finds N (round N p .marks) e ≡ false
+still-nothing N p e z h = finds-local N (p .marks) (round N p .marks) e (λ d l. round-alike N p _ (h d l)) ∙ z
 
 -- ---------------------------------------------------------------- the order of the changes does not matter
 
-wrote-in : (F : Field) (m : Marks) (e : ℕ) (out : Marks) (x : ℕ) → x < length (out .ids) → x < length (out .src)
-    → (x < length (wrote F m e out .ids)) × (x < length (wrote F m e out .src))
+wrote-in : (N : Net) (m : Marks) (e : ℕ) (out : Marks) (x : ℕ) → x < length (out .ids) → x < length (out .src)
+    → (x < length (wrote N m e out .ids)) × (x < length (wrote N m e out .src))
 unfolding wrote put
-wrote-in F m e out x h g =
-    if-ind (λ (r : Marks). (x < length (r .ids)) × (x < length (r .src))) (finds F m e)
-    (λ _. (rw (length-set (out .ids) e (takes F m e .id)) h, rw (length-set (out .src) e (takes F m e .far)) g)) (λ _. (h, g))
+wrote-in N m e out x h g =
+    if-ind (λ (r : Marks). (x < length (r .ids)) × (x < length (r .src))) (finds N m e)
+    (λ _. (rw (length-set (out .ids) e (takes N m e .id)) h, rw (length-set (out .src) e (takes N m e .far)) g)) (λ _. (h, g))
 
-wrote-here : (F : Field) (m : Marks) (e : ℕ) (out : Marks) → finds F m e ≡ true → e < length (out .ids) → e < length (out .src)
-    → (getD (wrote F m e out .ids) e 0 ≡ takes F m e .id) × (getD (wrote F m e out .src) e 0 ≡ takes F m e .far)
+wrote-here : (N : Net) (m : Marks) (e : ℕ) (out : Marks) → finds N m e ≡ true → e < length (out .ids) → e < length (out .src)
+    → (getD (wrote N m e out .ids) e 0 ≡ takes N m e .id) × (getD (wrote N m e out .src) e 0 ≡ takes N m e .far)
 unfolding wrote put if_then_else_
-wrote-here F m e out z h g = rw z (getD-set-same (out .ids) e _ 0 h, getD-set-same (out .src) e _ 0 g)
+wrote-here N m e out z h g = rw z (getD-set-same (out .ids) e _ 0 h, getD-set-same (out .src) e _ 0 g)
 
-pub lengths : (F : Field) (m : Marks) (es : List ℕ) (out : Marks)
-    → (length (written F m es out .ids) ≡ length (out .ids)) × (length (written F m es out .src) ≡ length (out .src))
+pub lengths : (N : Net) (m : Marks) (es : List ℕ) (out : Marks)
+    → (length (written N m es out .ids) ≡ length (out .ids)) × (length (written N m es out .src) ≡ length (out .src))
 unfolding written wrote put
-lengths F m [] out = (refl, refl)
-lengths F m (e ∷ es) out =
-    let r = lengths F m es (wrote F m e out) in
-    let o : (length (wrote F m e out .ids) ≡ length (out .ids)) × (length (wrote F m e out .src) ≡ length (out .src))
-    = if-ind (λ (k : Marks). (length (k .ids) ≡ length (out .ids)) × (length (k .src) ≡ length (out .src))) (finds F m e) (λ _. (length-set (out .ids) e _, length-set (out .src) e _)) (λ _. (refl, refl)) in
+lengths N m [] out = (refl, refl)
+lengths N m (e ∷ es) out =
+    let r = lengths N m es (wrote N m e out) in
+    let o : (length (wrote N m e out .ids) ≡ length (out .ids)) × (length (wrote N m e out .src) ≡ length (out .src))
+    = if-ind (λ (k : Marks). (length (k .ids) ≡ length (out .ids)) × (length (k .src) ≡ length (out .src))) (finds N m e) (λ _. (length-set (out .ids) e _, length-set (out .src) e _)) (λ _. (refl, refl)) in
     (r .0 ∙ o .0, r .1 ∙ o .1)
 
 marks-eq : (i j s t : List ℕ) → i ≡ j → s ≡ t → _≡_ {A = Marks} (record { ids = i; src = s }) (record { ids = j; src = t })
@@ -186,40 +187,40 @@ unfolding keep any
 nothing x p z = false≢true z
 
 -- span x after the writes of a list
-written-at : (F : Field) (m : Marks) (x : ℕ) (es : List ℕ) (out : Marks) → x < length (out .ids) → x < length (out .src) → has x (keep (finds F m) es) ≡ true
-    → (getD (written F m es out .ids) x 0 ≡ takes F m x .id) × (getD (written F m es out .src) x 0 ≡ takes F m x .far)
+written-at : (N : Net) (m : Marks) (x : ℕ) (es : List ℕ) (out : Marks) → x < length (out .ids) → x < length (out .src) → has x (keep (finds N m) es) ≡ true
+    → (getD (written N m es out .ids) x 0 ≡ takes N m x .id) × (getD (written N m es out .src) x 0 ≡ takes N m x .far)
 unfolding written
-written-at F m x [] out h g z = absurd (nothing x (finds F m) z)
-written-at F m x (e ∷ es) out h g z =
+written-at N m x [] out h g z = absurd (nothing x (finds N m) z)
+written-at N m x (e ∷ es) out h g z =
     ⊎-elim
-    (λ (y : has x (keep (finds F m) es) ≡ true). written-at F m x es (wrote F m e out) (wrote-in F m e out x h g .0) (wrote-in F m e out x h g .1) y)
-    (λ (y : has x (keep (finds F m) es) ≡ false).
-    let w : finds F m e and eqb x e ≡ true = either (finds F m e and eqb x e ≡ true) (finds F m e and eqb x e) (has x (keep (finds F m) es)) (sym (keep-cons (finds F m) e es x) ∙ z) (λ k. k) (λ k. absurd (true≢false (sym k ∙ y))) in
-    let b = both (finds F m e) (eqb x e) w in
+    (λ (y : has x (keep (finds N m) es) ≡ true). written-at N m x es (wrote N m e out) (wrote-in N m e out x h g .0) (wrote-in N m e out x h g .1) y)
+    (λ (y : has x (keep (finds N m) es) ≡ false).
+    let w : finds N m e and eqb x e ≡ true = either (finds N m e and eqb x e ≡ true) (finds N m e and eqb x e) (has x (keep (finds N m) es)) (sym (keep-cons (finds N m) e es x) ∙ z) (λ k. k) (λ k. absurd (true≢false (sym k ∙ y))) in
+    let b = both (finds N m e) (eqb x e) w in
     let q = eqb-true x e (b .1) in
-    let a = written-alike F m x es (wrote F m e out) y in
-    let c = wrote-here F m e out (b .0) (rw q at h) (rw q at g) in
+    let a = written-alike N m x es (wrote N m e out) y in
+    let c = wrote-here N m e out (b .0) (rw q at h) (rw q at g) in
     (a .0 ∙ rw q (c .0), a .1 ∙ rw q (c .1)))
-    (cases (has x (keep (finds F m) es)))
+    (cases (has x (keep (finds N m) es)))
 
 -- two lists with the same changes leave the same marks, in whatever order and however often a span stands in them
-pub written-set : (F : Field) (m : Marks) (es cs : List ℕ) (out : Marks) → length (out .src) ≡ length (out .ids)
-    → ((x : ℕ) → has x (keep (finds F m) es) ≡ has x (keep (finds F m) cs)) → written F m es out ≡ written F m cs out
-written-set F m es cs out l h = marks-ext (written F m es out) (written F m cs out)
-    (lengths F m es out .0 ∙ sym (lengths F m cs out .0)) (lengths F m es out .1 ∙ sym (lengths F m cs out .1))
-    (λ x i. same x (rw (lengths F m es out .0) at i) (cases (has x (keep (finds F m) cs))) .0)
-    (λ x i. same x (rw l at (rw (lengths F m es out .1) at i)) (cases (has x (keep (finds F m) cs))) .1)
+pub written-set : (N : Net) (m : Marks) (es cs : List ℕ) (out : Marks) → length (out .src) ≡ length (out .ids)
+    → ((x : ℕ) → has x (keep (finds N m) es) ≡ has x (keep (finds N m) cs)) → written N m es out ≡ written N m cs out
+written-set N m es cs out l h = marks-ext (written N m es out) (written N m cs out)
+    (lengths N m es out .0 ∙ sym (lengths N m cs out .0)) (lengths N m es out .1 ∙ sym (lengths N m cs out .1))
+    (λ x i. same x (rw (lengths N m es out .0) at i) (cases (has x (keep (finds N m) cs))) .0)
+    (λ x i. same x (rw l at (rw (lengths N m es out .1) at i)) (cases (has x (keep (finds N m) cs))) .1)
   where
-    same : (x : ℕ) → x < length (out .ids) → (has x (keep (finds F m) cs) ≡ true) ⊎ (has x (keep (finds F m) cs) ≡ false)
-        → (getD (written F m es out .ids) x 0 ≡ getD (written F m cs out .ids) x 0) × (getD (written F m es out .src) x 0 ≡ getD (written F m cs out .src) x 0)
+    same : (x : ℕ) → x < length (out .ids) → (has x (keep (finds N m) cs) ≡ true) ⊎ (has x (keep (finds N m) cs) ≡ false)
+        → (getD (written N m es out .ids) x 0 ≡ getD (written N m cs out .ids) x 0) × (getD (written N m es out .src) x 0 ≡ getD (written N m cs out .src) x 0)
     same x i (inl y) =
         let j : x < length (out .src) = rw l i in
-        let a = written-at F m x es out i j (h x ∙ y) in
-        let b = written-at F m x cs out i j y in
+        let a = written-at N m x es out i j (h x ∙ y) in
+        let b = written-at N m x cs out i j y in
         (a .0 ∙ sym (b .0), a .1 ∙ sym (b .1))
     same x i (inr y) =
-        let a = written-alike F m x es out (h x ∙ y) in
-        let b = written-alike F m x cs out y in
+        let a = written-alike N m x es out (h x ∙ y) in
+        let b = written-alike N m x cs out y in
         (a .0 ∙ sym (b .0), a .1 ∙ sym (b .1))
 
 -- ---------------------------------------------------------------- the stack follows from the ids
@@ -252,12 +253,12 @@ pub map-twice : (f g k : ℕ → ℕ) (es : List ℕ) → ((e : ℕ) → f (g e)
 map-twice f g k [] h = refl
 map-twice f g k (e ∷ es) h = rw (h e, map-twice f g k es h)
 
-module _ (F : Field) (m : Marks) where
-  wrote-stays : (x e : ℕ) (out : Marks) → (getD (out .ids) x 0 ≡ 0 → ⊥) → getD (wrote F m e out .ids) x 0 ≡ 0 → ⊥
+module _ (N : Net) (m : Marks) where
+  wrote-stays : (x e : ℕ) (out : Marks) → (getD (out .ids) x 0 ≡ 0 → ⊥) → getD (wrote N m e out .ids) x 0 ≡ 0 → ⊥
   unfolding wrote put
   wrote-stays x e out h =
-      if-ind (λ (r : Marks). getD (r .ids) x 0 ≡ 0 → ⊥) (finds F m e)
-      (λ z. set-stays (out .ids) e (takes F m e .id) x (finds-id F m e z) h)
+      if-ind (λ (r : Marks). getD (r .ids) x 0 ≡ 0 → ⊥) (finds N m e)
+      (λ z. set-stays (out .ids) e (takes N m e .id) x (finds-id N m e z) h)
       (λ _. h)
     where
       set-stays : (l : List ℕ) (i v x : ℕ) → (v ≡ 0 → ⊥) → (getD l x 0 ≡ 0 → ⊥) → getD (set l i v) x 0 ≡ 0 → ⊥
@@ -267,72 +268,72 @@ module _ (F : Field) (m : Marks) where
       set-stays (y ∷ l) (suc i) v zero z h = h
       set-stays (y ∷ l) (suc i) v (suc x) z h = set-stays l i v x z h
 
-  written-stays : (x : ℕ) (es : List ℕ) (out : Marks) → (getD (out .ids) x 0 ≡ 0 → ⊥) → getD (written F m es out .ids) x 0 ≡ 0 → ⊥
+  written-stays : (x : ℕ) (es : List ℕ) (out : Marks) → (getD (out .ids) x 0 ≡ 0 → ⊥) → getD (written N m es out .ids) x 0 ≡ 0 → ⊥
   unfolding written
   written-stays x [] out h = h
-  written-stays x (e ∷ es) out h = written-stays x es (wrote F m e out) (wrote-stays x e out h)
+  written-stays x (e ∷ es) out h = written-stays x es (wrote N m e out) (wrote-stays x e out h)
 
-  wrote-length : (e : ℕ) (out : Marks) → length (wrote F m e out .ids) ≡ length (out .ids)
+  wrote-length : (e : ℕ) (out : Marks) → length (wrote N m e out .ids) ≡ length (out .ids)
   unfolding wrote put
-  wrote-length e out = if-ind (λ (r : Marks). length (r .ids) ≡ length (out .ids)) (finds F m e) (λ _. length-set (out .ids) e _) (λ _. refl)
+  wrote-length e out = if-ind (λ (r : Marks). length (r .ids) ≡ length (out .ids)) (finds N m e) (λ _. length-set (out .ids) e _) (λ _. refl)
 
   put-at : (e : ℕ) (out : Marks) (r d : ℕ) → e < length (out .ids) → getD (put out e r d .ids) e 0 ≡ r
   unfolding put
   put-at e out r d h = getD-set-same (out .ids) e r 0 h
 
-  written-found : (es : List ℕ) (out : Marks) (n : ℕ) → length (out .ids) ≡ n → All (λ e. finds F m e ≡ true → e < n) es
-      → All (λ e. finds F m e ≡ true → getD (written F m es out .ids) e 0 ≡ 0 → ⊥) es
+  written-found : (es : List ℕ) (out : Marks) (n : ℕ) → length (out .ids) ≡ n → All (λ e. finds N m e ≡ true → e < n) es
+      → All (λ e. finds N m e ≡ true → getD (written N m es out .ids) e 0 ≡ 0 → ⊥) es
   unfolding written
   written-found [] out n l p = tt
   written-found (e ∷ es) out n l p = (
-    λ z. written-stays e es (wrote F m e out) (here e out z (rw l (p .0 z))),
-    written-found es (wrote F m e out) n (wrote-length e out ∙ l) (p .1),
+    λ z. written-stays e es (wrote N m e out) (here e out z (rw l (p .0 z))),
+    written-found es (wrote N m e out) n (wrote-length e out ∙ l) (p .1),
   )
     where
-      here : (e : ℕ) (out : Marks) → finds F m e ≡ true → e < length (out .ids) → getD (wrote F m e out .ids) e 0 ≡ 0 → ⊥
-      here e out z h y = finds-id F m e z (sym (put-at e out (takes F m e .id) (takes F m e .far) h) ∙ rw (wrote-yes F m e out z) at y)
+      here : (e : ℕ) (out : Marks) → finds N m e ≡ true → e < length (out .ids) → getD (wrote N m e out .ids) e 0 ≡ 0 → ⊥
+      here e out z h y = finds-id N m e z (sym (put-at e out (takes N m e .id) (takes N m e .far) h) ∙ rw (wrote-yes N m e out z) at y)
 
-module _ (F : Field) (n : ℕ) (p : Spread) (o : Ok n p) where
-  round-tidy : round F p .stack ≡ map (fresh (round F p .marks .ids)) (p .stack)
+module _ (N : Net) (n : ℕ) (p : Spread) (o : Ok n p) where
+  round-tidy : round N p .stack ≡ map (fresh (round N p .marks .ids)) (p .stack)
   round-tidy =
       let m = p .marks in
-      rw (round-is F p)
-      (map-each (λ e. Unheld n (m .ids) e × (finds F m e ≡ true → getD (written F m (p .stack) m .ids) e 0 ≡ 0 → ⊥)) (left F m) (fresh (written F m (p .stack) m .ids)) (p .stack)
-      (λ e h. at e h (cases (finds F m e)))
-      (All-both _ _ (p .stack) (o .entries) (written-found F m (p .stack) m n (o .idents) (spans-of (p .stack) (o .entries)))))
+      rw (round-is N p)
+      (map-each (λ e. Unheld n (m .ids) e × (finds N m e ≡ true → getD (written N m (p .stack) m .ids) e 0 ≡ 0 → ⊥)) (left N m) (fresh (written N m (p .stack) m .ids)) (p .stack)
+      (λ e h. at e h (cases (finds N m e)))
+      (All-both _ _ (p .stack) (o .entries) (written-found N m (p .stack) m n (o .idents) (spans-of (p .stack) (o .entries)))))
     where
-      spans-of : (es : List ℕ) → All (Unheld n (p .marks .ids)) es → All (λ e. finds F (p .marks) e ≡ true → e < n) es
+      spans-of : (es : List ℕ) → All (Unheld n (p .marks .ids)) es → All (λ e. finds N (p .marks) e ≡ true → e < n) es
       spans-of [] q = tt
-      spans-of (e ∷ es) q = (λ z. q .0 (λ y. finds-used F (p .marks) e y z) .0, spans-of es (q .1))
+      spans-of (e ∷ es) q = (λ z. q .0 (λ y. finds-used N (p .marks) e y z) .0, spans-of es (q .1))
 
-      at : (e : ℕ) → Unheld n (p .marks .ids) e × (finds F (p .marks) e ≡ true → getD (written F (p .marks) (p .stack) (p .marks) .ids) e 0 ≡ 0 → ⊥)
-          → (finds F (p .marks) e ≡ true) ⊎ (finds F (p .marks) e ≡ false)
-          → left F (p .marks) e ≡ fresh (written F (p .marks) (p .stack) (p .marks) .ids) e
-      at e h (inl z) = left-yes F (p .marks) e z ∙ sym (fresh-some (written F (p .marks) (p .stack) (p .marks) .ids) e (h .1 z))
+      at : (e : ℕ) → Unheld n (p .marks .ids) e × (finds N (p .marks) e ≡ true → getD (written N (p .marks) (p .stack) (p .marks) .ids) e 0 ≡ 0 → ⊥)
+          → (finds N (p .marks) e ≡ true) ⊎ (finds N (p .marks) e ≡ false)
+          → left N (p .marks) e ≡ fresh (written N (p .marks) (p .stack) (p .marks) .ids) e
+      at e h (inl z) = left-yes N (p .marks) e z ∙ sym (fresh-some (written N (p .marks) (p .stack) (p .marks) .ids) e (h .1 z))
       at e h (inr z) =
-          left-no F (p .marks) e z
+          left-no N (p .marks) e z
           ∙ elim (ℕ-discrete e none) [
-            | yes y ↦ y ∙ sym (fresh-used (written F (p .marks) (p .stack) (p .marks) .ids) e y)
-            | no y ↦ sym (fresh-zero (written F (p .marks) (p .stack) (p .marks) .ids) e (written-keeps F (p .marks) e z (p .stack) (p .marks) ∙ h .0 y .1))
+            | yes y ↦ y ∙ sym (fresh-used (written N (p .marks) (p .stack) (p .marks) .ids) e y)
+            | no y ↦ sym (fresh-zero (written N (p .marks) (p .stack) (p .marks) .ids) e (written-keeps N (p .marks) e z (p .stack) (p .marks) ∙ h .0 y .1))
           ]
 
   -- a round's stack, from the stack at the start
-  pub round-fresh : (es : List ℕ) → p .stack ≡ map (fresh (p .marks .ids)) es → round F p .stack ≡ map (fresh (round F p .marks .ids)) es
+  pub round-fresh : (es : List ℕ) → p .stack ≡ map (fresh (p .marks .ids)) es → round N p .stack ≡ map (fresh (round N p .marks .ids)) es
   unfolding round
   round-fresh es e =
-      round-tidy ∙ ap (λ (l : List ℕ). map (fresh (round F p .marks .ids)) l) e
-      ∙ map-twice (fresh (round F p .marks .ids)) (fresh (p .marks .ids)) (fresh (round F p .marks .ids)) es
-      (fresh-twice (p .marks .ids) (round F p .marks .ids) (λ x h. written-stays F (p .marks) x (p .stack) (p .marks) h))
+      round-tidy ∙ ap (λ (l : List ℕ). map (fresh (round N p .marks .ids)) l) e
+      ∙ map-twice (fresh (round N p .marks .ids)) (fresh (p .marks .ids)) (fresh (round N p .marks .ids)) es
+      (fresh-twice (p .marks .ids) (round N p .marks .ids) (λ x h. written-stays N (p .marks) x (p .stack) (p .marks) h))
 
   -- a list with the members of the changes makes the round's marks
-  pub wave-marks : (cs : List ℕ) → length (p .marks .src) ≡ n → ((x : ℕ) → has x cs ≡ true → has x (changes F p) ≡ true) → ((x : ℕ) → has x (changes F p) ≡ true → has x cs ≡ true)
-      → written F (p .marks) cs (p .marks) ≡ round F p .marks
+  pub wave-marks : (cs : List ℕ) → length (p .marks .src) ≡ n → ((x : ℕ) → has x cs ≡ true → has x (changes N p) ≡ true) → ((x : ℕ) → has x (changes N p) ≡ true → has x cs ≡ true)
+      → written N (p .marks) cs (p .marks) ≡ round N p .marks
   unfolding changes round
   wave-marks cs l f g =
-      written-set F (p .marks) cs (p .stack) (p .marks) (l ∙ sym (o .idents))
+      written-set N (p .marks) cs (p .stack) (p .marks) (l ∙ sym (o .idents))
       (λ x. same-test _ _
-      (λ z. f x (keep-out (finds F (p .marks)) x cs z .0))
-      (λ z. keep-in (finds F (p .marks)) x cs (g x z) (keep-out (finds F (p .marks)) x (p .stack) z .1)))
+      (λ z. f x (keep-out (finds N (p .marks)) x cs z .0))
+      (λ z. keep-in (finds N (p .marks)) x cs (g x z) (keep-out (finds N (p .marks)) x (p .stack) z .1)))
 
 -- an entry that is left found nothing
 left-one : (p : ℕ → Bool) (x e : ℕ) → (x ≡ none → ⊥) → (b : Bool) → p e ≡ b → x ≡ (if b then none else e) → p x ≡ false
@@ -346,21 +347,21 @@ left-out p x (e ∷ es) n h =
     let r = left-out p x es n in
     has-split (p x ≡ false) x (if p e then none else e) (map (λ e. if p e then none else e) es) h (λ q. left-one p x e n (p e) refl q) r
 
-pub round-left : (F : Field) (p : Spread) (x : ℕ) → (x ≡ none → ⊥) → has x (round F p .stack) ≡ true → finds F (p .marks) x ≡ false
+pub round-left : (N : Net) (p : Spread) (x : ℕ) → (x ≡ none → ⊥) → has x (round N p .stack) ≡ true → finds N (p .marks) x ≡ false
 unfolding round
-round-left F p x n h = left-out (finds F (p .marks)) x (p .stack) n h
+round-left N p x n h = left-out (finds N (p .marks)) x (p .stack) n h
 
 -- ---------------------------------------------------------------- rounds
 
-module _ (F : Field) (k : ℕ) (p : Spread) where
-  pub rounds-on : any (finds F (p .marks)) (p .stack) ≡ true → rounds F (suc k) p ≡ rounds F k (round F p)
+module _ (N : Net) (k : ℕ) (p : Spread) where
+  pub rounds-on : any (finds N (p .marks)) (p .stack) ≡ true → rounds N (suc k) p ≡ rounds N k (round N p)
   unfolding rounds if_then_else_
   rounds-on z = rw z
 
-  pub rounds-off : any (finds F (p .marks)) (p .stack) ≡ false → rounds F (suc k) p ≡ p
+  pub rounds-off : any (finds N (p .marks)) (p .stack) ≡ false → rounds N (suc k) p ≡ p
   unfolding rounds if_then_else_
   rounds-off z = rw z
 
-pub rounds-none : (F : Field) (p : Spread) → rounds F 0 p ≡ p
+pub rounds-none : (N : Net) (p : Spread) → rounds N 0 p ≡ p
 unfolding rounds
-rounds-none F p = refl
+rounds-none N p = refl

@@ -6,29 +6,29 @@ use Prim.Native.Nat.{ℕ, _+_, _-_, _*_, _≤_, _<_}
 use native.Mathlib.Omega.{arith}
 use lib.ListN.{length, getD}
 use lib.Seq.{getD-take}
-use Rattle.rules.specs.Field.{Field}
-use Rattle.rules.specs.Growth.{round, rounds}
+use Rattle.rules.specs.Net.{Net}
+use Rattle.rules.specs.Growth.{rounds}
 use Rattle.laws.proofs.NextId.{zeros, zeros-le}
-use Rattle.flood.specs.Site.{Lent, SomeLent}
-use Rattle.flood.specs.Stack.{marksAt}
+use Rattle.net.specs.Table.{netAt, Closed, Mutual}
+use Rattle.net.proofs.Tables.{net-same, spans-at}
 use Rattle.expand.specs.Layout.{listAt, Past, Calm, Ok}
-use Rattle.expand.specs.Front.{SomeMutual, Up, Entry, Board, Moved, Beside, Spans, Entered, Writing, frontOf, Lit, Begun, Going, Gone}
-use Rattle.expand.proofs.Lists.{listAt-cong, length-listAt, lent-past}
+use Rattle.expand.specs.Front.{Up, Entry, Board, Moved, Beside, Spans, Entered, Writing, frontOf, Lit, Begun, Going, Gone}
+use Rattle.expand.proofs.Lists.{listAt-cong, length-listAt}
 use Rattle.expand.proofs.Waves.{rounds-none}
 use Rattle.expand.proofs.Fronts.{front-same, front-tried, front-next, front-round, round-ok, round-only, front-off, front-on}
 
 -- source distances in the workspace
 pub low-calm : (n a fill : ℕ) (ids ws : List ℕ) → n ≤ 32000 → n ≤ length ws → Ok n (frontOf n a fill ids ws) → Calm n ws
-unfolding frontOf marksAt
+unfolding frontOf
 low-calm n a fill ids ws f l o = record { fits = l; most = λ x g. omega (arith, o .low .bound x, getD-take n ws x 0 g) }
 
 free-few : (ws : List ℕ) (f n k : ℕ) → k ≤ zeros (listAt ws f n) → k ≤ n
 free-few ws f n k h = omega (arith, zeros-le (listAt ws f n), length-listAt ws f n)
 
-pub mutual-some : (w : ℕ) (is ar cs : List ℕ) (b : ℕ) (ws : List ℕ) → SomeMutual w is ar cs b ws → SomeLent w is ar cs b ws
-mutual-some w is ar cs b ws x = record { F = x .F; lent = x .lent }
+pub mutual-closed : (N : Net) → Mutual N → Closed N
+mutual-closed N x = x .closed
 
-module _ (w : ℕ) (is ar cs : List ℕ) (a e b fill most : ℕ) (ids₀ ws₀ : List ℕ) (x : SomeMutual w is ar cs b ws₀) (z : Lit (length ar) a e b fill ids₀ ws₀) where
+module _ (ar : List ℕ) (a e b fill most : ℕ) (ids₀ ws₀ : List ℕ) (x : Mutual (netAt b ar ws₀)) (z : Lit (length ar) a e b fill ids₀ ws₀) where
   pub lit-board : Board (length ar) e b 0 ids₀ ws₀
   lit-board = record {
     few = z .sizes .few;
@@ -42,21 +42,18 @@ module _ (w : ℕ) (is ar cs : List ℕ) (a e b fill most : ℕ) (ids₀ ws₀ :
     free = omega arith;
   }
 
-  module _ (ws : List ℕ) (k : ℕ) (m : Moved w is ar cs e b ids₀ ws₀ 0 ws k) where
+  module _ (ws : List ℕ) (k : ℕ) (m : Moved ar e b ids₀ ws₀ 0 ws k) where
     moved-past : (s : ℕ) → b ≤ s → getD ws s 0 ≡ getD ws₀ s 0
     moved-past s h = m .beyond s (omega (arith, z .sizes .past))
 
-    lent-back : (F : Field) → Lent F w is ar cs b ws → Lent F w is ar cs b ws₀
-    lent-back = lent-past w is ar cs b ws ws₀ (sym (m .size)) (λ s h. sym (moved-past s h))
-
-    lent-on : (F : Field) → Lent F w is ar cs b ws₀ → Lent F w is ar cs b ws
-    lent-on = lent-past w is ar cs b ws₀ ws (m .size) moved-past
+    tried-net : netAt b ar ws ≡ netAt b ar ws₀
+    tried-net = net-same b ar ws₀ ws (z .sizes .room) (m .size) moved-past
 
     same-front : frontOf (length ar) a fill ids₀ ws ≡ frontOf (length ar) a fill ids₀ ws₀
     same-front = front-same (length ar) a fill ids₀ ws₀ ws (m .marks) (λ y g u. m .kept y (omega (arith, z .sizes .low)) (omega (arith, z .sizes .apart, z .entries .filled)))
 
-    pub tried-mutual : SomeMutual w is ar cs b ws
-    tried-mutual = record { F = x .F; lent = lent-on (x .F) (x .lent); back = x .back }
+    pub tried-mutual : Mutual (netAt b ar ws)
+    tried-mutual = rw tried-net x
 
     pub tried-begun : Begun (length ar) a e b fill ids₀ ws
     tried-begun = record {
@@ -65,7 +62,7 @@ module _ (w : ℕ) (is ar cs : List ℕ) (a e b fill most : ℕ) (ids₀ ws₀ :
     }
 
     -- what the first round changes is noted
-    pub going-start : 0 < most → Entered w is ar cs a e b ids₀ ws₀ ws fill → Going w is ar cs a e b fill most ids₀ ws ids₀ ws 0 k most
+    pub going-start : 0 < most → Entered ar a e b ids₀ ws₀ ws fill → Going ar a e b fill most ids₀ ws ids₀ ws 0 k most
     going-start h t = record {
       some = h;
       order = omega arith;
@@ -75,15 +72,15 @@ module _ (w : ℕ) (is ar cs : List ℕ) (a e b fill most : ℕ) (ids₀ ws₀ :
       beyond = λ y l. refl;
       rest = λ y l u. m .past y l u ∙ z .clear .blank y (omega arith) u;
       free = m .free;
-      front = λ F l. front-tried w is ar cs a e b fill ids₀ ws₀ 0 ws k F (lent-back F l) (z .sizes .low) (z .sizes .apart) (z .entries .filled) (z .ok) m
+      front = rw tried-net (front-tried ar a e b fill ids₀ ws₀ 0 ws k (z .sizes .low) (z .sizes .apart) (z .entries .filled) (z .ok) m
           (λ s g u. let n = z .only s g u in (n, z .bare s g n))
           (λ s g n _. z .up s g n)
-          (λ s g u. let n = z .only s g (m .down s g u) in (rw (n .is) at (t .cold F (lent-back F l) (n .at) (n .below))) g u);
-      same = λ F l. refl;
+          (λ s g u. let n = z .only s g (m .down s g u) in (rw (n .is) at (t .tried (n .at) (n .below) .cold)) g u));
+      same = refl;
     }
 
     -- from before the first
-    pub gone-from : (ids ws′ : List ℕ) (r : ℕ) → Gone w is ar cs a e b fill most ids₀ ws ids ws′ r → Gone w is ar cs a e b fill most ids₀ ws₀ ids ws′ r
+    pub gone-from : (ids ws′ : List ℕ) (r : ℕ) → Gone ar a e b fill most ids₀ ws ids ws′ r → Gone ar a e b fill most ids₀ ws₀ ids ws′ r
     gone-from ids ws′ r g = record {
       size₁ = g .size₁;
       size₂ = g .size₂ ∙ m .size;
@@ -93,12 +90,12 @@ module _ (w : ℕ) (is ar cs : List ℕ) (a e b fill most : ℕ) (ids₀ ws₀ :
       rest = g .rest;
       only = g .only;
       ok = g .ok;
-      same = λ F l. g .same F (lent-on F l) ∙ ap (rounds F most) same-front;
+      same = rw tried-net at (g .same) ∙ ap (rounds (netAt b ar ws₀) most) same-front;
     }
 
 -- rounds, from where the first one's changes are noted
-module _ (w : ℕ) (is ar cs : List ℕ) (a e b fill most : ℕ) (ids₀ ws₀ : List ℕ) (x : SomeMutual w is ar cs b ws₀) (z : Begun (length ar) a e b fill ids₀ ws₀) where
-  module _ (ids ws : List ℕ) (lo hi more : ℕ) (v : Going w is ar cs a e b fill most ids₀ ws₀ ids ws lo hi more) where
+module _ (ar : List ℕ) (a e b fill most : ℕ) (ids₀ ws₀ : List ℕ) (x : Mutual (netAt b ar ws₀)) (z : Begun (length ar) a e b fill ids₀ ws₀) where
+  module _ (ids ws : List ℕ) (lo hi more : ℕ) (v : Going ar a e b fill most ids₀ ws₀ ids ws lo hi more) where
     sized : length ids ≡ length ar
     sized = v .size₁ ∙ z .sizes .idents
 
@@ -117,16 +114,16 @@ module _ (w : ℕ) (is ar cs : List ℕ) (a e b fill most : ℕ) (ids₀ ws₀ :
     })
 
     pub going-spans : Spans (length ids) e lo hi ws
-    going-spans = rw sized (record { order = v .order; span = λ i l u. v .front (x .F) (x .lent) .right i l u .span })
+    going-spans = rw sized (record { order = v .order; span = λ i l u. v .front .right i l u .span })
 
     pub going-few : hi ≤ length ids
     going-few = rw sized few-hi
 
     going-only : (s : ℕ) → s < length ar → Up (length ar) e ws s → Entry ws a fill s
-    going-only s h u = v .front (x .F) (x .lent) .cold s h u .0
+    going-only s h u = v .front .cold s h u .0
 
     -- nothing is noted
-    pub going-end : hi ≤ lo → Gone w is ar cs a e b fill most ids₀ ws₀ ids ws hi
+    pub going-end : hi ≤ lo → Gone ar a e b fill most ids₀ ws₀ ids ws hi
     going-end h = record {
       size₁ = v .size₁;
       size₂ = v .size₂;
@@ -135,8 +132,8 @@ module _ (w : ℕ) (is ar cs : List ℕ) (a e b fill most : ℕ) (ids₀ ws₀ :
       few = few-hi;
       rest = v .rest;
       only = going-only;
-      ok = v .front (x .F) (x .lent) .ok;
-      same = λ F l. sym (front-off F (length ar) a e fill ids ws lo hi (v .front F l) room-ws (z .sizes .few) more h (v .order) (v .some)) ∙ v .same F l;
+      ok = v .front .ok;
+      same = sym (front-off (netAt b ar ws₀) (length ar) a e fill ids ws lo hi (v .front) room-ws (z .sizes .few) more h (v .order) (v .some)) ∙ v .same;
     }
 
     module _ (ids₁ ws₁ : List ℕ) (y : Writing (length ids) e lo hi ids ws ids₁ ws₁ hi) (g : lo < hi) where
@@ -152,17 +149,14 @@ module _ (w : ℕ) (is ar cs : List ℕ) (a e b fill most : ℕ) (ids₀ ws₀ :
       past₁ : (s : ℕ) → b ≤ s → getD ws₁ s 0 ≡ getD ws₀ s 0
       past₁ s h = made .kept s (omega (arith, z .sizes .past, low-e)) ∙ v .beyond s (omega (arith, z .sizes .past))
 
-      lent₁ : (F : Field) → Lent F w is ar cs b ws₀ → Lent F w is ar cs b ws₁
-      lent₁ = lent-past w is ar cs b ws₀ ws₁ size-ws₁ past₁
+      net₁ : netAt b ar ws₁ ≡ netAt b ar ws₀
+      net₁ = net-same b ar ws₀ ws₁ (z .sizes .room) size-ws₁ past₁
 
-      mutual₁ : SomeMutual w is ar cs b ws₁
-      mutual₁ = record { F = x .F; lent = lent₁ (x .F) (x .lent); back = x .back }
-
-      pub written-some : SomeLent w is ar cs b ws₁
-      written-some = record { F = x .F; lent = lent₁ (x .F) (x .lent) }
+      pub written-closed : Closed (netAt b ar ws₁)
+      written-closed = rw net₁ (x .closed)
 
       ok₁ : Ok (length ar) (frontOf (length ar) a fill ids₁ ws₁)
-      ok₁ = round-ok (x .F) (length ar) a e fill ids ws lo hi (v .front (x .F) (x .lent)) (v .order) room-ws (z .sizes .few) ids₁ ws₁ made (z .sizes .low)
+      ok₁ = round-ok (netAt b ar ws₀) (length ar) a e fill ids ws lo hi (v .front) (v .order) room-ws (z .sizes .few) ids₁ ws₁ made (z .sizes .low)
 
       pub written-board : Board (length ar) e b hi ids₁ ws₁
       written-board = record {
@@ -178,15 +172,15 @@ module _ (w : ℕ) (is ar cs : List ℕ) (a e b fill most : ℕ) (ids₀ ws₀ :
       }
 
       pub written-spans : Spans (length ar) e lo hi ws₁
-      written-spans = record { order = v .order; span = λ i l u. rw (made .kept (e + 3 * i) (omega (arith, low-e))) (v .front (x .F) (x .lent) .right i l u .span) }
+      written-spans = record { order = v .order; span = λ i l u. rw (made .kept (e + 3 * i) (omega (arith, low-e))) (v .front .right i l u .span) }
 
-      same₁ : (F : Field) → Lent F w is ar cs b ws₀ → rounds F (more - 1) (frontOf (length ar) a fill ids₁ ws₁) ≡ rounds F most (frontOf (length ar) a fill ids₀ ws₀)
-      same₁ F l =
-          ap (rounds F (more - 1)) (front-round F (length ar) a e fill ids ws lo hi (v .front F l) (v .order) room-ws (z .sizes .few) ids₁ ws₁ made (z .sizes .low))
-          ∙ sym (front-on F (length ar) a e fill ids ws lo hi (v .front F l) room-ws (z .sizes .few) more g (v .some)) ∙ v .same F l
+      same₁ : rounds (netAt b ar ws₀) (more - 1) (frontOf (length ar) a fill ids₁ ws₁) ≡ rounds (netAt b ar ws₀) most (frontOf (length ar) a fill ids₀ ws₀)
+      same₁ =
+          ap (rounds (netAt b ar ws₀) (more - 1)) (front-round (netAt b ar ws₀) (length ar) a e fill ids ws lo hi (v .front) (v .order) room-ws (z .sizes .few) ids₁ ws₁ made (z .sizes .low))
+          ∙ sym (front-on (netAt b ar ws₀) (length ar) a e fill ids ws lo hi (v .front) room-ws (z .sizes .few) more g (v .some)) ∙ v .same
 
       -- the last round is made
-      pub going-last : more ≡ 1 → Gone w is ar cs a e b fill most ids₀ ws₀ ids₁ ws₁ hi
+      pub going-last : more ≡ 1 → Gone ar a e b fill most ids₀ ws₀ ids₁ ws₁ hi
       going-last q = record {
         size₁ = made .size₁ ∙ v .size₁;
         size₂ = size-ws₁;
@@ -194,13 +188,13 @@ module _ (w : ℕ) (is ar cs : List ℕ) (a e b fill most : ℕ) (ids₀ ws₀ :
         beyond = λ s l. made .kept s (omega (arith, low-e)) ∙ v .beyond s l;
         few = few-hi;
         rest = λ s l u. made .kept s (omega (arith, low-e)) ∙ v .rest s l u;
-        only = λ s h u. round-only (x .F) (length ar) a e fill ids ws lo hi (v .front (x .F) (x .lent)) (v .order) room-ws (z .sizes .few) ids₁ ws₁ made (z .sizes .low) low-e s h u .0;
+        only = λ s h u. round-only (netAt b ar ws₀) (length ar) a e fill ids ws lo hi (v .front) (v .order) room-ws (z .sizes .few) ids₁ ws₁ made (z .sizes .low) low-e s h u .0;
         ok = ok₁;
-        same = λ F l. let p : more - 1 ≡ 0 = omega arith in sym (rounds-none F (frontOf (length ar) a fill ids₁ ws₁)) ∙ rw p at (same₁ F l);
+        same = let p : more - 1 ≡ 0 = omega arith in sym (rounds-none (netAt b ar ws₀) (frontOf (length ar) a fill ids₁ ws₁)) ∙ rw p at same₁;
       }
 
-      pub going-next : (more ≡ 1 → ⊥) → (ws₂ : List ℕ) (k : ℕ) → Moved w is ar cs e b ids₁ ws₁ hi ws₂ k → Beside w is ar cs e b ids₁ ws₁ ws₂ lo hi
-          → Going w is ar cs a e b fill most ids₀ ws₀ ids₁ ws₂ hi k (more - 1)
+      pub going-next : (more ≡ 1 → ⊥) → (ws₂ : List ℕ) (k : ℕ) → Moved ar e b ids₁ ws₁ hi ws₂ k → Beside ar e b ids₁ ws₁ ws₂ lo hi
+          → Going ar a e b fill most ids₀ ws₀ ids₁ ws₂ hi k (more - 1)
       going-next q ws₂ k m t = record {
         some = omega (arith, v .some);
         order = m .more;
@@ -210,6 +204,7 @@ module _ (w : ℕ) (is ar cs : List ℕ) (a e b fill most : ℕ) (ids₀ ws₀ :
         beyond = λ s l. m .beyond s l ∙ made .kept s (omega (arith, low-e)) ∙ v .beyond s l;
         rest = λ s l u. m .past s l u ∙ made .kept s (omega (arith, low-e)) ∙ v .rest s (omega (arith, m .more)) u;
         free = m .free;
-        front = λ F l. front-next w is ar cs a e b fill ids ws lo hi F (v .front F l) (v .order) room-ws (z .sizes .few) (z .sizes .low) (z .sizes .apart) (z .filled) ids₁ ws₁ made mutual₁ (lent₁ F l) ws₂ k m t;
-        same = λ F l. ap (rounds F (more - 1)) (front-same (length ar) a fill ids₁ ws₁ ws₂ (m .marks) (λ s l u. m .kept s (omega (arith, z .sizes .low)) (omega (arith, z .sizes .apart, z .filled)))) ∙ same₁ F l;
+        front = front-next ar a e b fill ids ws lo hi (netAt b ar ws₀) (v .front) (v .order) room-ws (z .sizes .few) (z .sizes .low) (z .sizes .apart) (z .filled) ids₁ ws₁ made
+            net₁ x (spans-at b ar ws₀) ws₂ k m t;
+        same = ap (rounds (netAt b ar ws₀) (more - 1)) (front-same (length ar) a fill ids₁ ws₁ ws₂ (m .marks) (λ s l u. m .kept s (omega (arith, z .sizes .low)) (omega (arith, z .sizes .apart, z .filled)))) ∙ same₁;
       }

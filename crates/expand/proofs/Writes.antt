@@ -8,6 +8,7 @@ use lib.ListN.{length, getD, set, length-set}
 use lib.Seq.{getD-set-other, take-set-lt}
 use Rattle.rules.specs.Growth.{Marks, put}
 use Rattle.flood.specs.Stack.{marksAt}
+use Rattle.net.specs.Table.{lastPlace}
 use Rattle.expand.specs.Layout.{changesAt, applied, Past}
 use Rattle.expand.specs.Front.{Spans, Writing}
 use Rattle.expand.proofs.Lists.{changesAt-snoc, applied-snoc}
@@ -17,7 +18,7 @@ pub set-is : (l : List ℕ) (s v s′ v′ : ℕ) → s ≡ s′ → v ≡ v′ 
 set-is l s v s′ v′ e f = rw (e, f)
 
 put-marks : (n : ℕ) (ids ws : List ℕ) (s id far : ℕ) → s < n → marksAt n (set ids s id) (set ws s far) ≡ put (marksAt n ids ws) s id far
-unfolding marksAt put
+unfolding put
 put-marks n ids ws s id far h = rw (take-set-lt n ws s far h)
 
 next-change : (ws : List ℕ) (e lo i : ℕ) (m : Marks) → lo ≤ i
@@ -40,7 +41,7 @@ module _ (e lo hi : ℕ) (ids₀ ws₀ : List ℕ) where
     pub writing-at : i < hi → hi ≤ length ids₀ → e + 3 * i + 2 < length ws
     writing-at h g = omega (arith, z .room, v .size₂)
 
-    pub writing-small : i < hi → hi ≤ length ids₀ → e + 3 * i ≤ 9000000
+    pub writing-small : i < hi → hi ≤ length ids₀ → e + 3 * i ≤ lastPlace
     writing-small h g = omega (arith, z .close)
 
     pub writing-wide : length ids ≤ length ws

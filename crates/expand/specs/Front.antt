@@ -1,25 +1,19 @@
--- Rounds by their frontier. A flag is up for each span that stands in the stack with no id and is not noted as a change; changes of all rounds stand in one queue.
+-- Rounds by their frontier. A flag is up for each span that stands in the stack with no id and is not noted as a change; changes of all rounds stand
+-- in one queue.
 use mathlib.Core.Path.{_≡_}
 use mathlib.Core.Bool.{true, false}
 use mathlib.Core.Logic.{_⊎_}
 use mathlib.Core.List.{List, map}
-use Prim.Native.Nat.{ℕ, _+_, _-_, _*_, _%_, _≤_, _<_}
+use Prim.Native.Nat.{ℕ, _+_, _-_, _*_, _≤_, _<_}
 use lib.ListN.{length, getD, take}
-use Rattle.rules.specs.Field.{Field, spans, none, near}
+use Rattle.rules.specs.Field.{none}
+use Rattle.rules.specs.Net.{Net, near}
 use Rattle.rules.specs.Growth.{Marks, finds, takes, Spread, rounds}
 use Rattle.laws.proofs.NextId.{zeros}
-use Rattle.flood.specs.Site.{Lent, Site}
+use Rattle.space.specs.Space.{Clear}
+use Rattle.net.specs.Table.{netAt, lastPlace, mostSpans}
 use Rattle.flood.specs.Stack.{marksAt}
-use Rattle.expand.specs.Layout.{fresh, listAt, changesAt, applied, Sizes, Calm, Clear, Entries, Ok}
-
--- connections are mutual
-abbrev pub Back : Field → Type 0
-Back F = (s d : ℕ) → s < spans F → d < 4 → (near F s d ≡ none → ⊥) → near F (near F s d) ((d + 2) % 4) ≡ s
-
-pub record SomeMutual (w : ℕ) (index area con : List ℕ) (b : ℕ) (ws : List ℕ) : Type 0 where
-  pub F : Field
-  pub lent : Lent F w index area con b ws
-  pub back : Back F
+use Rattle.expand.specs.Layout.{fresh, listAt, changesAt, applied, Sizes, Calm, Entries, Ok}
 
 -- the flag of span x is up
 abbrev pub Up : ℕ → ℕ → List ℕ → ℕ → Type 0
@@ -39,32 +33,32 @@ pub record Queued (ws : List ℕ) (e lo hi x : ℕ) : Type 0 where
   pub is : getD ws (e + 3 * at) 0 ≡ x
 
 -- the change of span s that the rule makes in marks m
-pub record Found (F : Field) (m : Marks) (n s id far : ℕ) : Type 0 where
+pub record Found (N : Net) (m : Marks) (n s id far : ℕ) : Type 0 where
   pub span : s < n
-  pub found : finds F m s ≡ true
-  pub id-is : id ≡ takes F m s .id
-  pub far-is : far ≡ takes F m s .far
+  pub found : finds N m s ≡ true
+  pub id-is : id ≡ takes N m s .id
+  pub far-is : far ≡ takes N m s .far
 
 -- change i
-abbrev pub FoundAt : Field → Marks → ℕ → ℕ → List ℕ → ℕ → Type 0
-FoundAt F m n e ws i = Found F m n (getD ws (e + 3 * i) 0) (getD ws (e + 3 * i + 1) 0) (getD ws (e + 3 * i + 2) 0)
+abbrev pub FoundAt : Net → Marks → ℕ → ℕ → List ℕ → ℕ → Type 0
+FoundAt N m n e ws i = Found N m n (getD ws (e + 3 * i) 0) (getD ws (e + 3 * i + 1) 0) (getD ws (e + 3 * i + 2) 0)
 
 -- ---------------------------------------------------------------- tries
 
--- what a try is lent besides the field: with k changes noted, there is room for one of every span whose flag is up
+-- what a try is lent besides the net: with k changes noted, there is room for one of every span whose flag is up
 pub record Board (n e b k : ℕ) (ids ws : List ℕ) : Type 0 where
-  pub few : n ≤ 32000
+  pub few : n ≤ mostSpans
   pub idents : length ids ≡ n
   pub low : n ≤ e
   pub past : e + 4 * n ≤ b
-  pub room : b + n ≤ length ws
-  pub close : b ≤ 8388608
+  pub room : b + 4 * n ≤ length ws
+  pub close : b ≤ lastPlace
   pub calm : Calm n ws
   pub most : k ≤ n
   pub free : k ≤ zeros (listAt ws (e + 3 * n) n)
 
 -- what tries leave: a flag falls only as its span is noted, with what the rule finds for it
-pub record Moved (w : ℕ) (index area con : List ℕ) (e b : ℕ) (ids ws : List ℕ) (k : ℕ) (ws′ : List ℕ) (k′ : ℕ) : Type 0 where
+pub record Moved (area : List ℕ) (e b : ℕ) (ids ws : List ℕ) (k : ℕ) (ws′ : List ℕ) (k′ : ℕ) : Type 0 where
   pub size : length ws′ ≡ length ws
   pub marks : take (length area) ws′ ≡ take (length area) ws
   pub more : k ≤ k′
@@ -76,31 +70,20 @@ pub record Moved (w : ℕ) (index area con : List ℕ) (e b : ℕ) (ids ws : Lis
   pub fall : (x : ℕ) → x < length area → Up (length area) e ws x → Up (length area) e ws′ x ⊎ Queued ws′ e k k′ x
   pub inside : (i : ℕ) → k ≤ i → i < k′ → getD ws′ (e + 3 * i) 0 < length area
   pub lit : (i : ℕ) → k ≤ i → i < k′ → Up (length area) e ws (getD ws′ (e + 3 * i) 0)
-  pub right : (F : Field) → Lent F w index area con b ws → (i : ℕ) → k ≤ i → i < k′ → FoundAt F (marksAt (length area) ids ws) (length area) e ws′ i
+  pub right : (i : ℕ) → k ≤ i → i < k′ → FoundAt (netAt b area ws) (marksAt (length area) ids ws) (length area) e ws′ i
 
 -- span x is tried: if its flag is still up, it finds nothing
-abbrev pub Cold : Field → List ℕ → ℕ → List ℕ → List ℕ → List ℕ → ℕ → Type 0
-Cold F area e ids ws ws′ x = x < length area → Up (length area) e ws′ x → finds F (marksAt (length area) ids ws) x ≡ false
+pub record Tried (area : List ℕ) (e b : ℕ) (ids ws ws′ : List ℕ) (x : ℕ) : Type 0 where
+  pub cold : x < length area → Up (length area) e ws′ x → finds (netAt b area ws) (marksAt (length area) ids ws) x ≡ false
 
-pub record Tried (w : ℕ) (index area con : List ℕ) (e b : ℕ) (ids ws ws′ : List ℕ) (x : ℕ) : Type 0 where
-  pub cold : (F : Field) → Lent F w index area con b ws → Cold F area e ids ws ws′ x
-
--- the neighbours in the first d directions of a span in cell c with the connections cons are tried
-pub record Sides (w : ℕ) (index area con : List ℕ) (e b : ℕ) (ids ws cons : List ℕ) (c : ℕ) (ws′ : List ℕ) (d : ℕ) : Type 0 where
+-- the neighbours of span s in the first d directions are tried
+pub record Sides (area : List ℕ) (e b : ℕ) (ids ws ws′ : List ℕ) (s d : ℕ) : Type 0 where
   pub few : d ≤ 4
-  pub cold : (F : Field) (s : ℕ) → Site F w index area cons c s → Lent F w index area con b ws → (k : ℕ) → k < d → Cold F area e ids ws ws′ (near F s k)
-
--- the neighbour in direction d is tried
-pub record Side (w : ℕ) (index area con : List ℕ) (e b : ℕ) (ids ws cons : List ℕ) (c : ℕ) (ws′ : List ℕ) (d : ℕ) : Type 0 where
-  pub cold : (F : Field) (s : ℕ) → Site F w index area cons c s → Lent F w index area con b ws → Cold F area e ids ws ws′ (near F s d)
-
--- all neighbours of span s are tried
-pub record Around (w : ℕ) (index area con : List ℕ) (e b : ℕ) (ids ws ws′ : List ℕ) (s : ℕ) : Type 0 where
-  pub cold : (F : Field) → Lent F w index area con b ws → (d : ℕ) → d < 4 → Cold F area e ids ws ws′ (near F s d)
+  pub tried : (k : ℕ) → k < d → Tried area e b ids ws ws′ (near (netAt b area ws) s k)
 
 -- all neighbours of the changes lo .. i are tried
-pub record Beside (w : ℕ) (index area con : List ℕ) (e b : ℕ) (ids ws ws′ : List ℕ) (lo i : ℕ) : Type 0 where
-  pub cold : (F : Field) → Lent F w index area con b ws → (j : ℕ) → lo ≤ j → j < i → (d : ℕ) → d < 4 → Cold F area e ids ws ws′ (near F (getD ws (e + 3 * j) 0) d)
+pub record Beside (area : List ℕ) (e b : ℕ) (ids ws ws′ : List ℕ) (lo i : ℕ) : Type 0 where
+  pub tried : (j : ℕ) → lo ≤ j → j < i → Sides area e b ids ws ws′ (getD ws (e + 3 * j) 0) 4
 
 -- each change lo .. hi is of a span
 pub record Spans (n e lo hi : ℕ) (ws : List ℕ) : Type 0 where
@@ -108,8 +91,8 @@ pub record Spans (n e lo hi : ℕ) (ws : List ℕ) : Type 0 where
   pub span : (i : ℕ) → lo ≤ i → i < hi → getD ws (e + 3 * i) 0 < n
 
 -- the entries before j are tried
-pub record Entered (w : ℕ) (index area con : List ℕ) (a e b : ℕ) (ids ws ws′ : List ℕ) (j : ℕ) : Type 0 where
-  pub cold : (F : Field) → Lent F w index area con b ws → (i : ℕ) → i < j → Cold F area e ids ws ws′ (getD ws (a + i) 0)
+pub record Entered (area : List ℕ) (a e b : ℕ) (ids ws ws′ : List ℕ) (j : ℕ) : Type 0 where
+  pub tried : (i : ℕ) → i < j → Tried area e b ids ws ws′ (getD ws (a + i) 0)
 
 -- ---------------------------------------------------------------- writes
 
@@ -124,13 +107,13 @@ pub record Writing (n e lo hi : ℕ) (ids₀ ws₀ ids ws : List ℕ) (i : ℕ) 
 
 -- ---------------------------------------------------------------- flags of entries
 
--- the flags of the entries before j are v
-pub record Flagging (n a e fill v : ℕ) (ws₀ ws : List ℕ) (j : ℕ) : Type 0 where
+-- with the flags from f on, those of the entries before j are v
+pub record Flagging (n a f fill v : ℕ) (ws₀ ws : List ℕ) (j : ℕ) : Type 0 where
   pub within : j ≤ fill
   pub size : length ws ≡ length ws₀
-  pub same : (x : ℕ) → (x < e + 3 * n) ⊎ (e + 4 * n ≤ x) → getD ws x 0 ≡ getD ws₀ x 0
-  pub done : (i : ℕ) → i < j → (getD ws₀ (a + i) 0 ≡ none → ⊥) → getD ws (e + 3 * n + getD ws₀ (a + i) 0) 0 ≡ v
-  pub else : (x : ℕ) → x < n → (getD ws (e + 3 * n + x) 0 ≡ getD ws₀ (e + 3 * n + x) 0) ⊎ Entry ws₀ a j x
+  pub same : (x : ℕ) → (x < f) ⊎ (f + n ≤ x) → getD ws x 0 ≡ getD ws₀ x 0
+  pub done : (i : ℕ) → i < j → (getD ws₀ (a + i) 0 ≡ none → ⊥) → getD ws (f + getD ws₀ (a + i) 0) 0 ≡ v
+  pub else : (x : ℕ) → x < n → (getD ws (f + x) 0 ≡ getD ws₀ (f + x) 0) ⊎ Entry ws₀ a j x
 
 -- ---------------------------------------------------------------- rounds
 
@@ -154,15 +137,15 @@ pub record Begun (n a e b fill : ℕ) (ids ws : List ℕ) : Type 0 where
   pub filled : fill ≤ n
 
 -- what the next round changes is noted in lo .. hi, and flags are up for what is left of the stack after it
-pub record Front (F : Field) (n a e fill : ℕ) (ids ws : List ℕ) (lo hi : ℕ) : Type 0 where
+pub record Front (N : Net) (n a e fill : ℕ) (ids ws : List ℕ) (lo hi : ℕ) : Type 0 where
   pub ok : Ok n (frontOf n a fill ids ws)
-  pub right : (i : ℕ) → lo ≤ i → i < hi → FoundAt F (marksAt n ids ws) n e ws i
+  pub right : (i : ℕ) → lo ≤ i → i < hi → FoundAt N (marksAt n ids ws) n e ws i
   pub entry : (i : ℕ) → lo ≤ i → i < hi → Entry ws a fill (getD ws (e + 3 * i) 0) × (getD ids (getD ws (e + 3 * i) 0) 0 ≡ 0)
-  pub cold : (x : ℕ) → x < n → Up n e ws x → Entry ws a fill x × (getD ids x 0 ≡ 0) × (finds F (marksAt n ids ws) x ≡ false)
+  pub cold : (x : ℕ) → x < n → Up n e ws x → Entry ws a fill x × (getD ids x 0 ≡ 0) × (finds N (marksAt n ids ws) x ≡ false)
   pub all : (x : ℕ) → x < n → Entry ws a fill x → getD ids x 0 ≡ 0 → Up n e ws x ⊎ Queued ws e lo hi x
 
 -- the rounds that are still to come give what all of them give
-pub record Going (w : ℕ) (index area con : List ℕ) (a e b fill most : ℕ) (ids₀ ws₀ ids ws : List ℕ) (lo hi more : ℕ) : Type 0 where
+pub record Going (area : List ℕ) (a e b fill most : ℕ) (ids₀ ws₀ ids ws : List ℕ) (lo hi more : ℕ) : Type 0 where
   pub some : 0 < more
   pub order : lo ≤ hi
   pub size₁ : length ids ≡ length ids₀
@@ -171,11 +154,11 @@ pub record Going (w : ℕ) (index area con : List ℕ) (a e b fill most : ℕ) (
   pub beyond : (x : ℕ) → e + 4 * length area ≤ x → getD ws x 0 ≡ getD ws₀ x 0
   pub rest : (x : ℕ) → e + 3 * hi ≤ x → x < e + 3 * length area → getD ws x 0 ≡ 0
   pub free : hi ≤ zeros (listAt ws (e + 3 * length area) (length area))
-  pub front : (F : Field) → Lent F w index area con b ws₀ → Front F (length area) a e fill ids ws lo hi
-  pub same : (F : Field) → Lent F w index area con b ws₀ → rounds F more (frontOf (length area) a fill ids ws) ≡ rounds F most (frontOf (length area) a fill ids₀ ws₀)
+  pub front : Front (netAt b area ws₀) (length area) a e fill ids ws lo hi
+  pub same : rounds (netAt b area ws₀) more (frontOf (length area) a fill ids ws) ≡ rounds (netAt b area ws₀) most (frontOf (length area) a fill ids₀ ws₀)
 
 -- what the rounds leave, with k changes in the queue
-pub record Gone (w : ℕ) (index area con : List ℕ) (a e b fill most : ℕ) (ids₀ ws₀ ids ws : List ℕ) (k : ℕ) : Type 0 where
+pub record Gone (area : List ℕ) (a e b fill most : ℕ) (ids₀ ws₀ ids ws : List ℕ) (k : ℕ) : Type 0 where
   pub size₁ : length ids ≡ length ids₀
   pub size₂ : length ws ≡ length ws₀
   pub kept : (x : ℕ) → length area ≤ x → x < e → getD ws x 0 ≡ getD ws₀ x 0
@@ -184,7 +167,7 @@ pub record Gone (w : ℕ) (index area con : List ℕ) (a e b fill most : ℕ) (i
   pub rest : (x : ℕ) → e + 3 * k ≤ x → x < e + 3 * length area → getD ws x 0 ≡ 0
   pub only : (x : ℕ) → x < length area → Up (length area) e ws x → Entry ws a fill x
   pub ok : Ok (length area) (frontOf (length area) a fill ids ws)
-  pub same : (F : Field) → Lent F w index area con b ws₀ → frontOf (length area) a fill ids ws ≡ rounds F most (frontOf (length area) a fill ids₀ ws₀)
+  pub same : frontOf (length area) a fill ids ws ≡ rounds (netAt b area ws₀) most (frontOf (length area) a fill ids₀ ws₀)
 
 -- ---------------------------------------------------------------- the end
 

@@ -1,27 +1,36 @@
 -- Expansion over sections of one workspace: source distances at 0 .. n, the stack at a .. a + fill, the changes of all rounds at e .. e + 3n, three
--- numbers each, a flag for each span at e + 3n .. e + 4n, changes and flags zero when not in use, and the cell of each span from b on.
+-- numbers each, a flag for each span at e + 3n .. e + 4n, changes and flags zero when not in use, and the table of neighbours from b on.
 use mathlib.Core.Path.{_≡_}
 use mathlib.Core.Logic.{_⊎_}
+use mathlib.Core.Bool.{Bool}
 use mathlib.Core.List.{List, [], _∷_, _++_, map}
 use Prim.Native.Nat.{ℕ, zero, suc, _+_, _-_, _*_, _≤_, _<_}
 use lib.ListN.{length, getD, set, take}
 use lib.Dec.{eqb}
 use Rattle.rules.specs.Base.{_and_, if_then_else_, tab, keep}
-use Rattle.rules.specs.Field.{Field, spans, none}
-use Rattle.rules.specs.Growth.{Marks, idOf, put, walkable, finds, Spread}
+use Rattle.rules.specs.Field.{none}
+use Rattle.rules.specs.Net.{Net}
+use Rattle.rules.specs.Growth.{Marks, Taken, put, walkable, finds, Spread}
 use Rattle.laws.proofs.Basics.{All}
 use Rattle.laws.proofs.NextId.{zeros}
+use Rattle.space.specs.Space.{Clear}
+use Rattle.net.specs.Table.{netAt, lastPlace, mostSpans, Closed}
 use Rattle.flood.specs.Stack.{marksAt}
+use Rattle.expand.specs.declared.look.Taken as code
 
 -- ---------------------------------------------------------------- what the rules write inside of a round, by name
 
 -- an entry after a round
-unfoldable pub left : Field → Marks → ℕ → ℕ
-left F m e = if finds F m e then none else e
+unfoldable pub left : Net → Marks → ℕ → ℕ
+left N m e = if finds N m e then none else e
 
 -- an entry before the first: used if it has an id
 unfoldable pub fresh : List ℕ → ℕ → ℕ
 fresh ids e = if eqb (getD ids e 0) 0 then e else none
+
+-- what the code has of a find is the rule's
+abbrev pub takenOf : code.Taken → Taken
+takenOf t = record { id = t .id; far = t .far }
 
 -- the number of rounds: no limit at level 0, where each but the last uses up an entry
 unfoldable pub mostAt : ℕ → ℕ → ℕ
@@ -52,53 +61,58 @@ applied (c ∷ cs) out = applied cs (put out (c .span) (c .id) (c .far))
 unfoldable pub noted : ℕ → ℕ → ℕ → ℕ → ℕ → List ℕ → List ℕ
 noted i c s id far ws = set (set (set (set ws i 0) c s) (c + 1) id) (c + 2) far
 
--- the flag of span s is v, unless s is a used entry
-unfoldable pub flagged : ℕ → ℕ → ℕ → ℕ → List ℕ → List ℕ
-flagged n e s v ws = if eqb s none then ws else set ws (e + 3 * n + s) v
+-- the flag of span s, with the flags from f on, is v, unless s is a used entry
+unfoldable pub flagged : ℕ → ℕ → ℕ → List ℕ → List ℕ
+flagged f s v ws = if eqb s none then ws else set ws (f + s) v
 
 -- ---------------------------------------------------------------- what holds of the workspace
 
 -- where the sections lie
 pub record Sizes (n a e b : ℕ) (ids ws : List ℕ) : Type 0 where
-  pub few : n ≤ 32000
+  pub few : n ≤ mostSpans
   pub idents : length ids ≡ n
   pub low : n ≤ a
   pub apart : a + n ≤ e
   pub past : e + 4 * n ≤ b
-  pub room : b + n ≤ length ws
-  pub close : b ≤ 8388608
+  pub room : b + 4 * n ≤ length ws
+  pub close : b ≤ lastPlace
 
 -- the section i .. z lies past the n source distances
 pub record Past (n i z : ℕ) (ws : List ℕ) : Type 0 where
-  pub few : n ≤ 32000
+  pub few : n ≤ mostSpans
   pub low : n ≤ i
   pub room : z ≤ length ws
-  pub close : z ≤ 9000000
+  pub close : z ≤ lastPlace
 
 -- source distances to which 2 can be added
 pub record Calm (n : ℕ) (ws : List ℕ) : Type 0 where
   pub fits : n ≤ length ws
-  pub most : (x : ℕ) → x < n → getD ws x 0 ≤ 64000
+  pub most : (x : ℕ) → x < n → getD ws x 0 ≤ 2 * mostSpans
+
+-- what span s is lent to look around: a net, and source distances to which 2 can be added
+pub record Sight (b : ℕ) (areas ids ws : List ℕ) (s : ℕ) : Type 0 where
+  pub closed : Closed (netAt b areas ws)
+  pub room : b + 4 * length areas ≤ length ws
+  pub close : b ≤ lastPlace
+  pub idents : length ids ≡ length areas
+  pub calm : Calm (length areas) ws
+  pub span : s < length areas
 
 -- an entry is used or a span
 pub record Entries (n a fill : ℕ) (ws : List ℕ) : Type 0 where
   pub filled : fill ≤ n
-  pub spans : (j : ℕ) → j < fill → (getD ws (a + j) 0 ≡ 65535 → ⊥) → getD ws (a + j) 0 < n
+  pub spans : (j : ℕ) → j < fill → (getD ws (a + j) 0 ≡ none → ⊥) → getD ws (a + j) 0 < n
 
 -- no source distance passes twice the number of spans that have an id; so it and 2 more stay in 16 bits
 pub record Low (n : ℕ) (m : Marks) : Type 0 where
   pub bound : (x : ℕ) → getD (m .src) x 0 + 2 * zeros (m .ids) ≤ 2 * n
-
--- zeros at i .. z
-pub record Clear (i z : ℕ) (ws : List ℕ) : Type 0 where
-  pub blank : (x : ℕ) → i ≤ x → x < z → getD ws x 0 ≡ 0
 
 -- but for source distances and the stack all is as it was
 pub record Kept (n a fill : ℕ) (ws ws′ : List ℕ) : Type 0 where
   pub size : length ws′ ≡ length ws
   pub same : (x : ℕ) → n ≤ x → (x < a) ⊎ (a + fill ≤ x) → getD ws′ x 0 ≡ getD ws x 0
 
--- what an expansion is lent besides the field, and gives back
+-- what an expansion is lent besides the net, and gives back
 pub record Given (n a e b fill : ℕ) (ids ws : List ℕ) : Type 0 where
   pub sizes : Sizes n a e b ids ws
   pub entries : Entries n a fill ws
@@ -128,29 +142,28 @@ pub record Using (n a fill : ℕ) (ids ws₀ ws : List ℕ) (j : ℕ) : Type 0 w
 
 -- ---------------------------------------------------------------- the last expansion's stack
 
+-- walkable, with no id
+abbrev pub vacant : List ℕ → List ℕ → ℕ → Bool
+vacant areas ids s = walkable areas s and eqb (getD ids s 0) 0
+
 -- span s goes to place i
-unfoldable pub pushAt : Field → Marks → ℕ → ℕ → List ℕ → List ℕ
-pushAt F m s i ws = if walkable F s and eqb (idOf m s) 0 then set ws i s else ws
+unfoldable pub pushAt : List ℕ → List ℕ → ℕ → ℕ → List ℕ → List ℕ
+pushAt areas ids s i ws = if vacant areas ids s then set ws i s else ws
 
-unfoldable pub fillAt : Field → Marks → ℕ → ℕ → ℕ
-fillAt F m s fill = if walkable F s and eqb (idOf m s) 0 then fill + 1 else fill
+unfoldable pub fillAt : List ℕ → List ℕ → ℕ → ℕ → ℕ
+fillAt areas ids s fill = if vacant areas ids s then fill + 1 else fill
 
--- s spans are looked at, and fill of them stacked at n
-pub record Filling (F : Field) (n : ℕ) (ids ws₀ ws : List ℕ) (s fill : ℕ) : Type 0 where
+-- s spans of n are looked at, and fill of them stacked at n
+pub record Filling (n : ℕ) (areas ids ws₀ ws : List ℕ) (s fill : ℕ) : Type 0 where
   pub within : s ≤ n
   pub few : fill ≤ s
   pub size : length ws ≡ length ws₀
   pub marks : take n ws ≡ take n ws₀
-  pub stack : keep (λ x. walkable F x and eqb (getD ids x 0) 0) (tab n 0 (λ x. x))
-      ≡ listAt ws n fill ++ keep (λ x. walkable F x and eqb (getD ids x 0) 0) (tab (n - s) s (λ x. x))
+  pub stack : keep (λ x. vacant areas ids x) (tab n 0 (λ x. x)) ≡ listAt ws n fill ++ keep (λ x. vacant areas ids x) (tab (n - s) s (λ x. x))
   pub spans : (j : ℕ) → j < fill → getD ws (n + j) 0 < n
   pub unseen : (x : ℕ) → n + fill ≤ x → getD ws x 0 ≡ getD ws₀ x 0
 
--- the same for every field that has the areas
-pub record Filled (area ids ws₀ ws : List ℕ) (s fill : ℕ) : Type 0 where
-  pub each : (F : Field) → F .area ≡ area → Filling F (length area) ids ws₀ ws s fill
-
--- what the last expansion is lent besides the field
+-- what the last expansion is lent besides the net
 pub record Last (n e b : ℕ) (ids ws : List ℕ) : Type 0 where
   pub sizes : Sizes n n e b ids ws
   pub low : Low n (marksAt n ids ws)

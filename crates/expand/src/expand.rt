@@ -1,25 +1,33 @@
 // The expansion of a stack at a level, and of all that is left at the end.
+use crate::Stack;
 use crate::flags::flag_all;
 use crate::round::rounds;
 use field::place::NO_SPAN;
 use field::read::at8;
 use field::read::at16;
-use space::clear;
+use net::Sections;
+use space::clear_part;
 ghost use mathlib.Core.Path.{_≡_};
 ghost use Prim.Native.Nat.{_+_, _*_, _<_, _≤_};
 ghost use lib.ListN.{length, getD, set, drop};
-ghost use Rattle.rules.specs.Field.{Field};
-ghost use Rattle.rules.specs.Growth.{Marks, expand, blank};
+ghost use Rattle.rules.specs.Field.{none};
+ghost use Rattle.rules.specs.Growth.{expand, blank};
 ghost use Rattle.space.specs.Space.{sec};
-ghost use Rattle.flood.specs.Site.{Lent};
+ghost use Rattle.net.specs.Table.{netAt, lastPlace, mostSpans, Mutual};
 ghost use Rattle.flood.specs.Stack.{marksAt};
-ghost use Rattle.expand.specs.Layout.{fresh, mostAt, pushAt, fillAt, Past, Entries, Low, Kept, Given, Using, Filled, Last};
-ghost use Rattle.expand.specs.Front.{SomeMutual, Settled};
+ghost use Rattle.expand.specs.Layout.{fresh, mostAt, pushAt, fillAt, Past, Entries, Low, Kept, Given, Using, Filling, Last};
+ghost use Rattle.expand.specs.Front.{Settled};
+
+// A used entry: NO_SPAN in 16 bits.
+const USED: u16 = 65535;
+
+// How many rounds an expansion has at a level above 0.
+const ROUNDS: usize = 8;
 
 // The entry at i is marked used if it has an id.
 fn use_one(ids: &[u16], ws: &mut [u16], i: usize)
-    requires { ⌜ (i < length (now ws)) × (length (now ids) ≤ 32000) × (i ≤ 9000000) ⌝ }
-    requires span { ⌜ ((getD (now ws) i 0 ≡ 65535 → ⊥) → getD (now ws) i 0 < length (now ids)) ⌝ }
+    requires { ⌜ (i < length (now ws)) × (length (now ids) ≤ mostSpans) × (i ≤ lastPlace) ⌝ }
+    requires span { ⌜ ((getD (now ws) i 0 ≡ none → ⊥) → getD (now ws) i 0 < length (now ids)) ⌝ }
     ensures { λ _. ⌜ now (ws .exit) ≡ set (now (ws .entry)) i (fresh (now (ids .entry)) (getD (now (ws .entry)) i 0)) ⌝ }
 {
     let e = at16(ws, i);
@@ -29,74 +37,79 @@ fn use_one(ids: &[u16], ws: &mut [u16], i: usize)
     if at16(ids, e) == 0 {
         return;
     }
-    ws[i] = 65535;
+    ws[i] = USED;
 }
 
 // "first, entries that have an id are marked used"
-fn use_up(ids: &[u16], ws: &mut [u16], a: usize, fill: usize)
-    requires { ⌜ Past (length (now ids)) a (a + length (now ids)) (now ws) × Entries (length (now ids)) a fill (now ws) ⌝ }
-    ensures { λ _. ⌜ Using (length (now (ids .entry))) a fill (now (ids .entry)) (now (ws .entry)) (now (ws .exit)) fill ⌝ }
+fn use_up(ids: &[u16], ws: &mut [u16], stack: Stack)
+    requires { ⌜ Past (length (now ids)) (stack .at) (stack .at + length (now ids)) (now ws) ⌝ }
+    requires { ⌜ Entries (length (now ids)) (stack .at) (stack .fill) (now ws) ⌝ }
+    ensures { λ _. ⌜ (let n = length (now (ids .entry)) in
+        Using n (stack .at) (stack .fill) (now (ids .entry)) (now (ws .entry)) (now (ws .exit)) (stack .fill)) ⌝ }
 {
     let mut j: usize = 0;
-    while j < fill {
-        use_one(ids, ws, a + j);
+    while j < stack.fill {
+        use_one(ids, ws, stack.at + j);
         j += 1;
     }
 }
 
 // "at a level above 0, so does the eighth round"
 fn most_rounds(level: u16, fill: usize) -> usize
-    requires { ⌜ fill ≤ 32000 ⌝ }
+    requires { ⌜ fill ≤ mostSpans ⌝ }
     ensures { λ r. ⌜ r ≡ mostAt level fill ⌝ }
 {
     if level == 0 {
         return fill + 1;
     }
-    8
+    ROUNDS
 }
 
 // After the rounds, with k changes noted: flags and changes are zeroed, and entries that have an id now are marked used.
-fn settle(ids: &[u16], ws: &mut [u16], n: usize, cb: usize, a: usize, fill: usize, k: usize)
-    requires { ⌜ (length (now ids) ≡ n) × Past n a cb (now ws) × Past n cb (cb + 4 * n) (now ws) × (a + n ≤ cb) × Entries n a fill (now ws) × (k ≤ n) ⌝ }
-    ensures { λ _. ⌜ Settled n a cb fill k (now (ids .entry)) (now (ws .entry)) (now (ws .exit)) ⌝ }
+fn settle(ids: &[u16], ws: &mut [u16], n: usize, at: Sections, stack: Stack, k: usize)
+    requires { ⌜ (length (now ids) ≡ n) × (at .stack ≡ at .changes + 3 * n) × (stack .at + n ≤ at .changes) × (k ≤ n) ⌝ }
+    requires { ⌜ Past n (stack .at) (at .changes) (now ws) × Past n (at .changes) (at .changes + 4 * n) (now ws) ⌝ }
+    requires { ⌜ Entries n (stack .at) (stack .fill) (now ws) ⌝ }
+    ensures { λ _. ⌜ Settled n (stack .at) (at .changes) (stack .fill) k (now (ids .entry)) (now (ws .entry)) (now (ws .exit)) ⌝ }
 {
-    flag_all(ws, n, cb, a, fill, 0);
-    use_up(ids, ws, a, fill);
-    clear(&mut ws[cb..cb + 3 * k]);
+    flag_all(ws, n, at.stack, stack, 0);
+    use_up(ids, ws, stack);
+    clear_part(ws, at.changes, at.changes + 3 * k);
 }
 
-// Expands the stack of ws[a .. a + fill] at a level.
+// Expands the stack at a level.
 pub fn expand_regions(
-    w: usize,
-    index: &[u32],
     area: &[u8],
-    con: &[u8],
     ids: &mut [u16],
     ws: &mut [u16],
-    b: usize,
-    cb: usize,
-    a: usize,
-    fill: usize,
+    at: Sections,
+    stack: Stack,
     level: u16,
 )
-    requires { ⌜ SomeMutual w (now index) (now area) (now con) b (now ws) × Given (length (now area)) a cb b fill (now ids) (now ws) ⌝ }
-    ensures { λ _. ⌜ ((F : Field) → Lent F w (now (index .entry)) (now (area .entry)) (now (con .entry)) b (now (ws .entry)) → record { marks = marksAt (length (now (area .entry))) (now (ids .exit)) (now (ws .exit)); stack = sec a fill (now (ws .exit)) } ≡ expand F level (marksAt (length (now (area .entry))) (now (ids .entry)) (now (ws .entry))) (sec a fill (now (ws .entry)))) ⌝ }
-    ensures { λ _. ⌜ Kept (length (now (area .entry))) a fill (now (ws .entry)) (now (ws .exit)) ⌝ }
-    ensures { λ _. ⌜ Given (length (now (area .entry))) a cb b fill (now (ids .exit)) (now (ws .exit)) ⌝ }
+    requires { ⌜ Mutual (netAt (at .table) (now area) (now ws)) × (at .stack ≡ at .changes + 3 * length (now area)) ⌝ }
+    requires { ⌜ Given (length (now area)) (stack .at) (at .changes) (at .table) (stack .fill) (now ids) (now ws) ⌝ }
+    ensures { λ _. ⌜ (let n = length (now (area .entry)) in
+        let net = netAt (at .table) (now (area .entry)) (now (ws .entry)) in
+        let before = marksAt n (now (ids .entry)) (now (ws .entry)) in
+        record { marks = marksAt n (now (ids .exit)) (now (ws .exit)); stack = sec (stack .at) (stack .fill) (now (ws .exit)) }
+        ≡ expand net level before (sec (stack .at) (stack .fill) (now (ws .entry)))) ⌝ }
+    ensures { λ _. ⌜ Kept (length (now (area .entry))) (stack .at) (stack .fill) (now (ws .entry)) (now (ws .exit)) ⌝ }
+    ensures { λ _. ⌜ Given (length (now (area .entry))) (stack .at) (at .changes) (at .table) (stack .fill) (now (ids .exit)) (now (ws .exit)) ⌝ }
 {
     let n = area.len();
-    use_up(ids, ws, a, fill);
-    flag_all(ws, n, cb, a, fill, 1);
-    let most = most_rounds(level, fill);
-    let k = rounds(w, index, area, con, ids, ws, b, cb, a, fill, most);
-    settle(ids, ws, n, cb, a, fill, k);
+    use_up(ids, ws, stack);
+    flag_all(ws, n, at.stack, stack, 1);
+    let most = most_rounds(level, stack.fill);
+    let k = rounds(area, ids, ws, at, stack, most);
+    settle(ids, ws, n, at, stack, k);
 }
 
 // Span s is stacked, with fill spans on the stack at n, if it is walkable and has id 0. Gives the stack's new fill.
 fn fill_one(area: &[u8], ids: &[u16], ws: &mut [u16], s: usize, fill: usize) -> usize
-    requires { ⌜ (length (now area) ≤ 32000) × (length (now ids) ≡ length (now area)) × (2 * length (now area) ≤ length (now ws)) × (s < length (now area)) × (fill ≤ s) ⌝ }
-    ensures { λ _. ⌜ ((F : Field) (m : Marks) → F .area ≡ now (area .entry) → m .ids ≡ now (ids .entry) → now (ws .exit) ≡ pushAt F m s (length (now (area .entry)) + fill) (now (ws .entry))) ⌝ }
-    ensures { λ r. ⌜ ((F : Field) (m : Marks) → F .area ≡ now (area .entry) → m .ids ≡ now (ids .entry) → r ≡ fillAt F m s fill) ⌝ }
+    requires { ⌜ (length (now area) ≤ mostSpans) × (length (now ids) ≡ length (now area)) × (2 * length (now area) ≤ length (now ws)) ⌝ }
+    requires { ⌜ (s < length (now area)) × (fill ≤ s) ⌝ }
+    ensures { λ _. ⌜ now (ws .exit) ≡ pushAt (now (area .entry)) (now (ids .entry)) s (length (now (area .entry)) + fill) (now (ws .entry)) ⌝ }
+    ensures { λ r. ⌜ r ≡ fillAt (now (area .entry)) (now (ids .entry)) s fill ⌝ }
 {
     if at8(area, s) == 0 {
         return fill;
@@ -110,8 +123,9 @@ fn fill_one(area: &[u8], ids: &[u16], ws: &mut [u16], s: usize, fill: usize) -> 
 
 // "all walkable spans of id 0", in scan order, which is that of their numbers. Gives the stack's fill.
 fn fill_stack(area: &[u8], ids: &[u16], ws: &mut [u16]) -> usize
-    requires { ⌜ (length (now area) ≤ 32000) × (length (now ids) ≡ length (now area)) × (2 * length (now area) ≤ length (now ws)) ⌝ }
-    ensures { λ r. ⌜ Filled (now (area .entry)) (now (ids .entry)) (now (ws .entry)) (now (ws .exit)) (length (now (area .entry))) r ⌝ }
+    requires { ⌜ (length (now area) ≤ mostSpans) × (length (now ids) ≡ length (now area)) × (2 * length (now area) ≤ length (now ws)) ⌝ }
+    ensures { λ r. ⌜ (let n = length (now (area .entry)) in
+        Filling n (now (area .entry)) (now (ids .entry)) (now (ws .entry)) (now (ws .exit)) n r) ⌝ }
 {
     let mut fill: usize = 0;
     let mut s: usize = 0;
@@ -122,26 +136,21 @@ fn fill_stack(area: &[u8], ids: &[u16], ws: &mut [u16]) -> usize
     fill
 }
 
-// Expands all walkable spans of id 0 at level 0, with no limit of rounds. Gives how many they were.
-pub fn expand_last(
-    w: usize,
-    index: &[u32],
-    area: &[u8],
-    con: &[u8],
-    ids: &mut [u16],
-    ws: &mut [u16],
-    b: usize,
-    cb: usize,
-) -> usize
-    requires { ⌜ SomeMutual w (now index) (now area) (now con) b (now ws) × Last (length (now area)) cb b (now ids) (now ws) ⌝ }
-    ensures { λ _. ⌜ ((F : Field) → Lent F w (now (index .entry)) (now (area .entry)) (now (con .entry)) b (now (ws .entry)) → marksAt (length (now (area .entry))) (now (ids .exit)) (now (ws .exit)) ≡ expand F 0 (marksAt (length (now (area .entry))) (now (ids .entry)) (now (ws .entry))) (blank F (marksAt (length (now (area .entry))) (now (ids .entry)) (now (ws .entry)))) .marks) ⌝ }
-    ensures { λ r. ⌜ ((F : Field) → Lent F w (now (index .entry)) (now (area .entry)) (now (con .entry)) b (now (ws .entry)) → r ≡ length (blank F (marksAt (length (now (area .entry))) (now (ids .entry)) (now (ws .entry))))) ⌝ }
+// Expands all walkable spans of id 0 at level 0, with no limit of rounds; their stack is past the source distances. Gives how many they were.
+pub fn expand_last(area: &[u8], ids: &mut [u16], ws: &mut [u16], at: Sections) -> usize
+    requires { ⌜ Mutual (netAt (at .table) (now area) (now ws)) × (at .stack ≡ at .changes + 3 * length (now area)) ⌝ }
+    requires { ⌜ Last (length (now area)) (at .changes) (at .table) (now ids) (now ws) ⌝ }
+    ensures { λ _. ⌜ (let n = length (now (area .entry)) in
+        let net = netAt (at .table) (now (area .entry)) (now (ws .entry)) in
+        let before = marksAt n (now (ids .entry)) (now (ws .entry)) in
+        marksAt n (now (ids .exit)) (now (ws .exit)) ≡ expand net 0 before (blank (now (area .entry)) (now (ids .entry))) .marks) ⌝ }
+    ensures { λ r. ⌜ r ≡ length (blank (now (area .entry)) (now (ids .entry))) ⌝ }
     ensures { λ _. ⌜ drop (length (now (area .entry))) (now (ws .exit)) ≡ drop (length (now (area .entry))) (now (ws .entry)) ⌝ }
     ensures { λ _. ⌜ Low (length (now (area .entry))) (marksAt (length (now (area .entry))) (now (ids .exit)) (now (ws .exit))) ⌝ }
 {
     let n = area.len();
     let fill = fill_stack(area, ids, ws);
-    expand_regions(w, index, area, con, ids, ws, b, cb, n, fill, 0);
-    clear(&mut ws[n..n + fill]);
+    expand_regions(area, ids, ws, at, Stack { at: n, fill }, 0);
+    clear_part(ws, n, n + fill);
     fill
 }

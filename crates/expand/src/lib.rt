@@ -4,3 +4,9 @@ mod flags;
 mod look;
 mod round;
 mod tries;
+
+// A stack in the workspace: where its entries begin, and how many they are. An entry is a span, or NO_SPAN once it is used.
+pub struct Stack {
+    pub at: usize,
+    pub fill: usize,
+}

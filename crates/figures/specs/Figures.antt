@@ -8,6 +8,8 @@ use lib.ListN.{length, getD, replicate}
 use lib.Dec.{eqb, ltb}
 use Rattle.rules.specs.Base.{_and_, _or_, if_then_else_, upto, tab, every, any, keep, many}
 use Rattle.rules.specs.Field.{Field, spans, cellOf, cellTo, leaves, conOf, near, corner, areaOf}
+use Rattle.rules.specs.Net.{netOf, neighboursOf}
+use Rattle.rules.specs.Net as net
 use Rattle.rules.specs.Refusals.{goodCells, goodCon, goodBack, tooWide, tooMany, wrongLength, wrongCells, wrongReach, wrongBack, refusal, tooShort, tooFar, regionRefusal}
 use Rattle.rules.specs.Distance.{same, startAt, start, leastOf, lower, pass1, pass2, raw, greatest, term, blurAt, blur}
 use Rattle.rules.specs.Growth.{walkable, put, paintOf, painted, firstId, blank, sorted, remains, look, takes, finds, wrote, written, round, rounds, expand, sees, orElse, objects, pushed, visit, flow, flood, floods, loaded, turn, grown}
@@ -40,7 +42,7 @@ pub record Run : Type 0 where
   pub regions : RegionOutcome
 
 unfoldable pub run : Case → Run
-unfolding _and_ _or_ if_then_else_ upto tab every any keep many cellOf cellTo leaves conOf near corner areaOf
+unfolding _and_ _or_ if_then_else_ upto tab every any keep many cellOf cellTo leaves conOf near corner areaOf neighboursOf net.near net.corner net.areaOf
     goodCells goodCon goodBack tooWide tooMany wrongLength wrongCells wrongReach wrongBack refusal tooShort tooFar regionRefusal
     same startAt start leastOf lower pass1 pass2 raw greatest term blurAt blur
     walkable put paintOf painted firstId blank sorted remains look takes finds wrote written round rounds expand sees orElse objects pushed visit flow flood floods loaded turn grown
@@ -56,7 +58,7 @@ run c =
     record {
       wide = F .w;
       distances = a;
-      flooded = turn F (a .blurred) (2 * ((a .most + 1) / 2)) 0 (record { marks = painted F b; stacks = []; next = firstId b }) .marks .ids;
+      flooded = turn (netOf F) (a .blurred) (2 * ((a .most + 1) / 2)) 0 (record { marks = painted F b; stacks = []; next = firstId b }) .marks .ids;
       regions = regionOutcome F (a .blurred) (a .most) (c .sizes) (replicate (128 * spans F + 4096) 0) zeros;
     }
 

@@ -7,6 +7,8 @@ use lib.ListN.{take, drop}
 use lib.Dec.{eqb}
 use Rattle.rules.specs.Base.{_and_, _or_, if_then_else_, upto, tab, every, any, keep, many}
 use Rattle.rules.specs.Field.{spans, cellOf, cellTo, leaves, conOf, near, corner, areaOf}
+use Rattle.rules.specs.Net.{neighboursOf}
+use Rattle.rules.specs.Net as net
 use Rattle.rules.specs.Refusals.{goodCells, goodCon, goodBack, tooWide, tooMany, wrongLength, wrongCells, wrongReach, wrongBack, refusal, tooShort, tooFar, regionRefusal}
 use Rattle.rules.specs.Distance.{same, startAt, start, leastOf, lower, pass1, pass2, raw, greatest, term, blurAt, blur}
 use Rattle.rules.specs.Growth.{walkable, put, paintOf, painted, firstId, blank, sorted, remains, look, takes, finds, wrote, written, round, rounds, expand, sees, orElse, objects, pushed, visit, flow, flood, floods, loaded, turn, grown}
@@ -68,7 +70,7 @@ pub record Print : Type 0 where
 
 -- each file prints what stands beside it
 pub prints : List Print → Bool
-unfolding _and_ _or_ if_then_else_ upto tab every any keep many cellOf cellTo leaves conOf near corner areaOf
+unfolding _and_ _or_ if_then_else_ upto tab every any keep many cellOf cellTo leaves conOf near corner areaOf neighboursOf net.near net.corner net.areaOf
     goodCells goodCon goodBack tooWide tooMany wrongLength wrongCells wrongReach wrongBack refusal tooShort tooFar regionRefusal
     same startAt start leastOf lower pass1 pass2 raw greatest term blurAt blur
     walkable put paintOf painted firstId blank sorted remains look takes finds wrote written round rounds expand sees orElse objects pushed visit flow flood floods loaded turn grown

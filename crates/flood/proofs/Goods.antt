@@ -11,7 +11,7 @@ use lib.Seq.{getD-set-same, getD-set-other}
 use lib.Dec.{eqb}
 use borrow.Author.Tests.{eqb-true, eqb-false, eq-eqb, ne-eqb}
 use Rattle.rules.specs.Base.{_and_}
-use Rattle.rules.specs.Field.{Field, spans, near}
+use Rattle.rules.specs.Net.{Net, spans, near}
 use Rattle.rules.specs.Growth.{idOf, put, Seed, Flow, objects, pushed, visit}
 use Rattle.laws.proofs.Basics.{both, if-ind, upto-ind}
 use Rattle.laws.proofs.FloodEnds.{has-area}
@@ -79,31 +79,31 @@ pub record Fell (n id m : ℕ) (g : Flow) : Type 0 where
   pub good : Good n id g
   pub less : 5 * (n - g .count) + length (g .todo) < m
 
-module _ (F : Field) (dist : List ℕ) (q : Seed) (pos : 0 < q .id) (byte : q .area < 256) where
-  pub pushed-moves : (c d j : ℕ) (g₀ g : Flow) → Moved (spans F) (q .id) j g₀ g → Moved (spans F) (q .id) (suc j) g₀ (pushed F dist q c d g)
+module _ (N : Net) (dist : List ℕ) (q : Seed) (pos : 0 < q .id) (byte : q .area < 256) where
+  pub pushed-moves : (c d j : ℕ) (g₀ g : Flow) → Moved (spans N) (q .id) j g₀ g → Moved (spans N) (q .id) (suc j) g₀ (pushed N dist q c d g)
   unfolding pushed
   pushed-moves c d j g₀ g m =
-      if-ind (λ (v : Flow). Moved (spans F) (q .id) (suc j) g₀ v) _
+      if-ind (λ (v : Flow). Moved (spans N) (q .id) (suc j) g₀ v) _
       (λ e.
       let e2 = both _ _ (both _ _ e .0) in
-      let t = near F c d in
-      let inside : t < spans F = has-area F t (q .area) (λ w. omega arith) (eqb-true _ _ (e2 .0)) in
-      record { good = push-good (spans F) (q .id) pos t g inside (eqb-true _ _ (e2 .1)) (m .good); more = omega (arith, m .more); same = m .same })
+      let t = near N c d in
+      let inside : t < spans N = has-area N t (q .area) (λ w. omega arith) (eqb-true _ _ (e2 .0)) in
+      record { good = push-good (spans N) (q .id) pos t g inside (eqb-true _ _ (e2 .1)) (m .good); more = omega (arith, m .more); same = m .same })
       (λ _. record { good = m .good; more = omega (arith, m .more); same = m .same })
 
   -- span c was popped, and g is the flood without it
-  pub visit-fell : (c : ℕ) (g : Flow) → Good (spans F) (q .id) (record { todo = c ∷ g .todo; marks = g .marks; count = g .count })
-      → Fell (spans F) (q .id) (5 * (spans F - g .count) + suc (length (g .todo))) (visit F dist q c g)
+  pub visit-fell : (c : ℕ) (g : Flow) → Good (spans N) (q .id) (record { todo = c ∷ g .todo; marks = g .marks; count = g .count })
+      → Fell (spans N) (q .id) (5 * (spans N - g .count) + suc (length (g .todo))) (visit N dist q c g)
   unfolding visit
   visit-fell c g h =
-      if-ind (λ (v : Flow). Fell (spans F) (q .id) (5 * (spans F - g .count) + suc (length (g .todo))) v) (objects F (g .marks) q c)
+      if-ind (λ (v : Flow). Fell (spans N) (q .id) (5 * (spans N - g .count) + suc (length (g .todo))) v) (objects N (g .marks) q c)
       (λ _. record {
         good = record { sized = length-set (g .marks .ids) c 0 ∙ h .sized; held = omega (arith, h .held, fewer); once = once-clear (g .marks .ids) (q .id) c (g .todo) (h .once) };
         less = omega arith;
       })
       (λ _.
       let g₁ : Flow = record { todo = g .todo; marks = g .marks; count = suc (g .count) } in
-      let m = upto-ind (λ j (v : Flow). Moved (spans F) (q .id) j g₁ v) (pushed F dist q c) g₁ 4
+      let m = upto-ind (λ j (v : Flow). Moved (spans N) (q .id) j g₁ v) (pushed N dist q c) g₁ 4
       (record { good = record { sized = h .sized; held = omega (arith, h .held); once = once-rest (g .marks .ids) (q .id) c (g .todo) (h .once) }; more = omega arith; same = refl })
       (λ j v _ p. pushed-moves c j j g₁ v p) in
       record { good = m .good; less = omega (arith, m .more, m .same, h .held, h .sized, tally-le (q .id) (g .marks .ids)) })

@@ -1,2 +1,3 @@
-pub mod Site
+-- What the flood's contracts cite.
+pub mod Looks
 pub mod Stack

@@ -1,16 +1,17 @@
 // The objection test.
 use field::place::NO_LAYER;
-use field::place::Place;
-use field::place::connections;
-use field::place::follow;
+use field::place::NO_SPAN;
+use field::place::SpanIx;
+use net::neighbour;
+use region::RegionId;
 ghost use mathlib.Core.Path.{_≡_};
-ghost use mathlib.Core.List.{List};
-ghost use Prim.Native.Nat.{ℕ, _+_, _<_};
+ghost use Prim.Native.Nat.{_<_, _≤_};
 ghost use lib.ListN.{length};
-ghost use Rattle.rules.specs.Field.{Field, near};
+ghost use Rattle.rules.specs.Field.{none};
 ghost use Rattle.rules.specs.Growth.{other, sees, objects};
-ghost use Rattle.field.specs.Lent.{consAt};
-ghost use Rattle.flood.specs.Site.{Ground, SomeGround, objectsAt};
+ghost use Rattle.net.specs.Table.{netAt, mostSpans, AtSpan};
+ghost use Rattle.flood.specs.Looks.{seedOf, bears};
+ghost use Rattle.flood.specs.Stack.{marksAt};
 
 // What a flood has from its seed.
 pub struct Seed {
@@ -19,99 +20,99 @@ pub struct Seed {
     pub limit: u16,
 }
 
+// What a span sees in one direction: nothing, the end of the looking, or an objection.
+const NOTHING: u8 = 0;
+
+const THE_END: u8 = 1;
+
+const OBJECTION: u8 = 2;
+
 // Another nonzero id?
-fn other(r: u16, id: u16) -> bool
-    ensures { λ b. ⌜ b ≡ other id r ⌝ }
+fn other(region: u16, id: u16) -> bool
+    ensures { λ r. ⌜ r ≡ other id region ⌝ }
 {
-    if r == 0 {
+    if region == RegionId::NONE.0 {
         return false;
     }
-    r != id
+    region != id
 }
 
-// Has the neighbour in direction e of the span at place t the area, and another nonzero id?
-fn objects_at(
-    w: usize,
-    index: &[u32],
-    area: &[u8],
-    con: &[u8],
-    ids: &[u16],
-    t: Place,
-    e: usize,
-    q: Seed,
-) -> bool
-    requires { ⌜ SomeGround w (now index) (now area) (now con) (t .cell) (t .span .0) × (e < 4) × (length (now ids) ≡ length (now area)) × (q .area < 256) ⌝ }
-    ensures { λ r. ⌜ ((F : Field) (src : List ℕ) → Ground F w (now (index .entry)) (now (area .entry)) (now (con .entry)) (t .cell) (t .span .0) → r ≡ objectsAt F (record { ids = now (ids .entry); src = src }) (q .area) (q .id) (near F (t .span .0) e)) ⌝ }
+// Has the span, if it is one, the seed's area and another nonzero id?
+fn bears(area: &[u8], ids: &[u16], span: SpanIx, seed: Seed) -> bool
+    requires { ⌜ (length (now area) ≤ mostSpans) × ((span .0 ≡ none → ⊥) → span .0 < length (now area)) ⌝ }
+    requires { ⌜ (length (now ids) ≡ length (now area)) × (seed .area < 256) ⌝ }
+    ensures { λ r. ⌜ r ≡ bears (now (area .entry)) (now (ids .entry)) (seedOf seed) (span .0) ⌝ }
 {
-    let s = t.span;
-    let cons = connections(con, s);
-    if cons[e] == NO_LAYER {
+    let u = span.0;
+    if u == NO_SPAN {
         return false;
     }
-    let u = follow(w, index, cons, t.cell, e).span.0;
-    if area[u] != q.area {
+    if area[u] != seed.area {
         return false;
     }
-    other(ids[u], q.id)
+    let region = ids[u];
+    other(region, seed.id)
 }
 
-// What the span at place p sees in direction d: 0 go on looking, 1 stop looking with no objection, 2 an objection.
+// What a span that has the connections cons sees in direction d.
 fn sees(
-    w: usize,
-    index: &[u32],
     area: &[u8],
-    con: &[u8],
     ids: &[u16],
+    ws: &[u16],
+    table: usize,
     cons: [u8; 4],
-    p: Place,
+    span: SpanIx,
     d: usize,
-    q: Seed,
+    seed: Seed,
 ) -> u8
-    requires { ⌜ SomeGround w (now index) (now area) (now con) (p .cell) (p .span .0) × (cons ≡ consAt (now con) (p .span .0)) × (d < 4) × (length (now ids) ≡ length (now area)) × (q .area < 256) ⌝ }
-    ensures { λ r. ⌜ ((F : Field) (src : List ℕ) → Ground F w (now (index .entry)) (now (area .entry)) (now (con .entry)) (p .cell) (p .span .0) → r ≡ sees F (record { ids = now (ids .entry); src = src }) (record { area = q .area; id = q .id; limit = q .limit }) (p .span .0) d) ⌝ }
+    requires { ⌜ AtSpan table (now area) (now ws) cons (span .0) × (length (now ids) ≡ length (now area)) × (d < 4) × (seed .area < 256) ⌝ }
+    ensures { λ r. ⌜ (let net = netAt table (now (area .entry)) (now (ws .entry)) in
+        let marks = marksAt (length (now (area .entry))) (now (ids .entry)) (now (ws .entry)) in
+        r ≡ sees net marks (seedOf seed) (span .0) d) ⌝ }
 {
     if cons[d] == NO_LAYER {
-        return 0;
+        return NOTHING;
     }
-    let t = follow(w, index, cons, p.cell, d);
-    let a = t.span.0;
-    if area[a] != q.area {
-        return 0;
+    let t = neighbour(ws, table, span, d).0;
+    if area[t] != seed.area {
+        return NOTHING;
     }
-    let r = ids[a];
-    if 32768 <= r {
-        return 1;
+    let region = ids[t];
+    if RegionId(region).is_border() {
+        return THE_END;
     }
-    if other(r, q.id) {
-        return 2;
+    if other(region, seed.id) {
+        return OBJECTION;
     }
-    if objects_at(w, index, area, con, ids, t, (d + 1) % 4, q) {
-        return 2;
+    let corner = neighbour(ws, table, SpanIx(t), (d + 1) % 4);
+    if bears(area, ids, corner, seed) {
+        return OBJECTION;
     }
-    0
+    NOTHING
 }
 
-// Does the span at place p object to the id?
+// Does a span that has the connections cons object to the seed's id?
 pub(crate) fn objects(
-    w: usize,
-    index: &[u32],
     area: &[u8],
-    con: &[u8],
     ids: &[u16],
+    ws: &[u16],
+    table: usize,
     cons: [u8; 4],
-    p: Place,
-    q: Seed,
+    span: SpanIx,
+    seed: Seed,
 ) -> bool
-    requires { ⌜ SomeGround w (now index) (now area) (now con) (p .cell) (p .span .0) × (cons ≡ consAt (now con) (p .span .0)) × (length (now ids) ≡ length (now area)) × (q .area < 256) ⌝ }
-    ensures { λ r. ⌜ ((F : Field) (src : List ℕ) → Ground F w (now (index .entry)) (now (area .entry)) (now (con .entry)) (p .cell) (p .span .0) → r ≡ objects F (record { ids = now (ids .entry); src = src }) (record { area = q .area; id = q .id; limit = q .limit }) (p .span .0)) ⌝ }
+    requires { ⌜ AtSpan table (now area) (now ws) cons (span .0) × (length (now ids) ≡ length (now area)) × (seed .area < 256) ⌝ }
+    ensures { λ r. ⌜ (let net = netAt table (now (area .entry)) (now (ws .entry)) in
+        let marks = marksAt (length (now (area .entry))) (now (ids .entry)) (now (ws .entry)) in
+        r ≡ objects net marks (seedOf seed) (span .0)) ⌝ }
 {
     let mut d = 0;
     while d < 4 {
-        let l = sees(w, index, area, con, ids, cons, p, d, q);
-        if l == 1 {
+        let look = sees(area, ids, ws, table, cons, span, d, seed);
+        if look == THE_END {
             return false;
         }
-        if l == 2 {
+        if look == OBJECTION {
             return true;
         }
         d += 1;

@@ -1,43 +1,46 @@
--- Painted, with the cells in place, all is there for the turns; and what they leave is the rule's growth. Assumes nothing.
-use Prim.Native.Nat.{ℕ, _+_, _-_, _*_, _/_, _≤_, _<_}
+-- Painted, with the table of neighbours in place, all is there for the turns; and what they leave is the rule's growth. Assumes nothing.
+use Prim.Native.Nat.{ℕ, _+_, _*_, _/_, _≤_, _<_}
 use native.Mathlib.Omega.{arith}
 use native.Mathlib.Decide.{ℕ-discrete, decLt}
-use native.Mathlib.Nat.{zero-add}
 use mathlib.Core.Path.{_≡_, refl, sym, ap, _∙_}
-use mathlib.Core.List.{List, [], _++_}
-use lib.ListN.{length, getD, take, drop, replicate, length-replicate, getD-replicate, List·getD-append}
-use lib.Seq.{getD-take, length-take-le, ext-getD, getD-append-add}
-use Rattle.rules.specs.Base.{tab, upto}
-use Rattle.rules.specs.Field.{Field, cellOf}
-use Rattle.rules.specs.Growth.{Marks, Turn, turn, blank, painted, firstId, grown}
-use Rattle.laws.proofs.Basics.{tab-at, length-tab}
-use Rattle.laws.proofs.NextId.{zeros, zeros-le}
+use mathlib.Core.List.{List, []}
+use lib.ListN.{length, getD, take, replicate, length-replicate, getD-replicate}
+use lib.Seq.{getD-take, length-take-le, ext-getD}
+use Rattle.rules.specs.Base.{upto}
+use Rattle.rules.specs.Field.{Field}
+use Rattle.rules.specs.Net.{netOf}
+use Rattle.rules.specs.Growth.{Marks, Turn, turn, expand, blank, painted, firstId, grown}
+use Rattle.laws.proofs.NextId.{zeros-le}
 use Rattle.laws.proofs.Lengths.{painted-length}
-use Rattle.laws.proofs.Cells.{passed, near-none}
-use Rattle.laws.proofs.Strides.{back}
 use Rattle.laws.proofs.Grows.{first-few}
 use Rattle.rooms.proofs.Growing.{painted-grow}
-use Rattle.space.specs.Space.{Frame}
+use Rattle.space.specs.Space.{Frame, Clear}
 use Rattle.space.proofs.Laws.{getD-before, getD-after}
-use Rattle.field.specs.Lent.{lent}
+use Rattle.field.specs.Lent.{lent, Reached}
 use Rattle.field.proofs.Passed.{sound-reached}
 use Rattle.paint.specs.Paint.{Plot}
-use Rattle.flood.specs.Site.{Lent}
+use Rattle.net.specs.declared.Sections.{Sections}
+use Rattle.net.specs.Table.{netAt}
+use Rattle.net.proofs.Tables.{net-same}
+use Rattle.net.proofs.Fills.{net-lent, mutual-of}
 use Rattle.flood.specs.Stack.{marksAt}
-use Rattle.expand.specs.Layout.{Clear}
-use Rattle.expand.specs.Front.{Back}
-use Rattle.expand.proofs.Sources.{painted-low}
-use Rattle.growth.specs.Seas.{Seas}
-use Rattle.growth.specs.Turns.{Between, turnsOf}
+use Rattle.growth.specs.Floods.{IdsBelowNext}
+use Rattle.growth.specs.Turns.{SectionsFor, Between, turnsOf}
 use Rattle.growth.specs.Grow.{turnsFor, Grew, Poised, Full}
-use Rattle.growth.proofs.WholeTurn.{ids-of}
+use Rattle.growth.proofs.LowLaws.{painted-low}
 
 marks-eq : {a a′ s s′ : List ℕ} → a ≡ a′ → s ≡ s′ → _≡_ {A = Marks} (record { ids = a; src = s }) (record { ids = a′; src = s′ })
 marks-eq p q = rw (p, q)
 
 module _ (w h : ℕ) (is ks ar cs : List ℕ) (b : ℕ) (ids ws : List ℕ) (p : Poised w h is ks ar cs b ids ws) where
+  pub reached-first : Reached (lent w h is ks ar cs)
+  reached-first = sound-reached (lent w h is ks ar cs) (p .sound)
+
   pub cells-first : length ks ≡ w * h
-  cells-first = sound-reached (lent w h is ks ar cs) (p .sound) .celled .counted
+  cells-first = reached-first .celled .counted
+
+  pub few-first : length ar ≤ 32000
+  few-first = reached-first .celled .few
 
   pub size-first : length ids ≡ length ar
   size-first = ap length (p .none) ∙ length-replicate (length ar) (let z : ℕ = 0 in z)
@@ -47,41 +50,18 @@ module _ (w h : ℕ) (is ks ar cs : List ℕ) (b : ℕ) (ids ws : List ℕ) (p :
 
 module _ (w h : ℕ) (is ks ar cs dist : List ℕ) (b most border : ℕ) (ids ws : List ℕ) (p : Poised w h is ks ar cs b ids ws)
     (first : ℕ) (r : first ≡ firstId border) (ids₁ : List ℕ) (q : (F : Field) → F .w ≡ w → F .h ≡ h → F .count ≡ ks → F .area ≡ ar → ids₁ ≡ painted F border .ids)
-    (ws₁ : List ℕ) (m : ws₁ ≡ take b ws ++ (tab (length ar) 0 (cellOf ks) ++ drop (b + length ar) ws)) (f : Frame b (b + length ar) ws ws₁) (size : length ws₁ ≡ length ws) where
+    (ws₁ : List ℕ) (m : netAt b ar ws₁ ≡ netOf (lent w h is ks ar cs)) (f : Frame b (b + 4 * length ar) ws ws₁) (size : length ws₁ ≡ length ws) where
   abbrev G : Field
   G = lent w h is ks ar cs
+
+  few : length ar ≤ 32000
+  few = few-first w h is ks ar cs b ids ws p
 
   painted-ids : ids₁ ≡ painted G border .ids
   painted-ids = q G refl refl refl refl
 
   zero₁ : (x : ℕ) → x < b → getD ws₁ x 0 ≡ 0
   zero₁ x l = getD-before x f l ∙ p .clear .blank x (omega arith) l
-
-  cell₁ : (s : ℕ) → s < length ar → getD ws₁ (b + s) 0 ≡ cellOf ks s
-  cell₁ s l =
-      let t : length (take b ws) ≡ b = length-take-le b ws (omega (arith, p .room)) in
-      let e : getD (take b ws ++ (tab (length ar) 0 (cellOf ks) ++ drop (b + length ar) ws)) (b + s) 0 ≡ getD (tab (length ar) 0 (cellOf ks) ++ drop (b + length ar) ws) s 0
-      = rw t at (getD-append-add (take b ws) (tab (length ar) 0 (cellOf ks) ++ drop (b + length ar) ws) s 0) in
-      rw m (e ∙ List·getD-append (tab (length ar) 0 (cellOf ks)) (drop (b + length ar) ws) 0 s (rw (length-tab (length ar) 0 (cellOf ks)) l) ∙ tab-at (length ar) 0 (cellOf ks) s 0 l ∙ ap (cellOf ks) (zero-add s))
-
-  pub lent-first : Lent G w is ar cs b ws₁
-  lent-first = record {
-    reached = sound-reached G (p .sound);
-    wide = refl;
-    indexed = refl;
-    areas = refl;
-    linked = refl;
-    cells = cell₁;
-    room = omega (arith, p .room, size);
-    near = p .near;
-  }
-
-  -- connections are mutual, since refusal 6 does not meet the field
-  back-first : Back G
-  back-first s d l g y = back G [] (passed G [] (p .sound)) ar refl s d l g (λ k. y (near-none G s d k))
-
-  few : length ar ≤ 32000
-  few = sound-reached G (p .sound) .celled .few
 
   source₁ : take (length ar) ws₁ ≡ replicate (length ar) 0
   source₁ =
@@ -90,11 +70,11 @@ module _ (w h : ℕ) (is ks ar cs dist : List ℕ) (b most border : ℕ) (ids ws
       (λ i l. getD-take (length ar) ws₁ i 0 (omega (arith, l, t)) ∙ zero₁ i (omega (arith, l, t, p .past)) ∙ sym (getD-replicate (length ar) i 0 0 (omega (arith, l, t))))
 
   marks₁ : marksAt (length ar) ids₁ ws₁ ≡ painted G border
-  unfolding marksAt painted
+  unfolding painted
   marks₁ = marks-eq painted-ids source₁
 
-  seas₁ : Seas (length ar) first ids₁
-  seas₁ =
+  below₁ : IdsBelowNext (length ar) first ids₁
+  below₁ =
       let n : length ids₁ ≡ length ar = rw painted-ids (painted-length G border) in
       record {
         size = n;
@@ -106,40 +86,59 @@ module _ (w h : ℕ) (is ks ar cs dist : List ℕ) (b most border : ℕ) (ids ws
         room = omega (arith, r, first-few border, zeros-le ids₁, n, few);
       }
 
-  pub between-first : Between w is ar cs b first [] 7 ids₁ ws₁
-  between-first = record {
-    F = G;
-    lent = lent-first;
-    back = back-first;
-    few = few;
-    past = p .past;
-    turn = omega arith;
-    seas = seas₁;
-    low = rw marks₁ (painted-low G border);
-    changes = record { blank = λ x l u. zero₁ x (omega (arith, p .past)) };
-    stack = record { zeros = λ x l u. zero₁ x (omega (arith, p .past)) };
-    left = record { fits = λ z. absurd (z refl); stacked = λ z. absurd (z refl) };
-  }
+  pub between-first : (at : Sections) → SectionsFor (length ar) at → at .table ≡ b → Between ar cs at first [] 7 ids₁ ws₁
+  between-first at la e =
+      let room : at .table + 4 * length ar ≤ length ws₁ = omega (arith, p .room, size) in
+      let net : netAt (at .table) ar ws₁ ≡ netOf G = rw e m in
+      record {
+        lent = net-lent G (reached-first w h is ks ar cs b ids ws p) (at .table) ws₁ net room (omega (arith, p .close));
+        both-ways = rw net (mutual-of G (p .sound));
+        laid = la;
+        turn = omega arith;
+        ids-below = below₁;
+        low = rw marks₁ (painted-low G border);
+        changes = record { blank = λ x l u. zero₁ x (omega (arith, p .past, la .changes)) };
+        stack = record { zeros = λ x l u. zero₁ x (omega (arith, p .past, la .stack)) };
+        left = record { fits = λ z. absurd (z refl); stacked = λ z. absurd (z refl) };
+      }
 
-  same-turns : turnsOf G dist (turnsFor most) (length ar) ids₁ ws₁ first (turnsFor most)
-      ≡ upto (2 * turnsFor most / 2) (turn G dist (2 * turnsFor most)) (record { marks = painted G border; stacks = []; next = firstId border })
-  same-turns = let e : 2 * turnsFor most / 2 ≡ turnsFor most = omega arith in rw (marks₁, r, e)
+  same-turns : turnsOf (netAt b ar ws₁) dist (turnsFor most) (length ar) ids₁ ws₁ first (turnsFor most)
+      ≡ upto (2 * turnsFor most / 2) (turn (netOf G) dist (2 * turnsFor most)) (record { marks = painted G border; stacks = []; next = firstId border })
+  same-turns = let e : 2 * turnsFor most / 2 ≡ turnsFor most = omega arith in rw (m, marks₁, r, e)
 
-  pub full : (next : ℕ) (ids₂ ws₂ ws₃ : List ℕ) → Grew w is ar cs dist b most first ids₁ ws₁ next ids₂ ws₂ → Clear 0 (length ar) ws₃ → Frame 0 (length ar) ws₂ ws₃
-      → Full G dist most border b ws next ids₂ ws₃
+  abbrev T : Turn
+  T = turnsOf (netAt b ar ws₁) dist (turnsFor most) (length ar) ids₁ ws₁ first (turnsFor most)
+
+  rule-ids : expand (netAt b ar ws₁) 0 (T .marks) (blank ar (T .marks .ids)) .marks .ids ≡ grown G dist most border .ids
   unfolding grown
-  full next ids₂ ws₂ ws₃ g z y = record {
-    ids = sym (ids-of (length ar) ids₂ ws₂) ∙ ap (λ (v : Marks). v .ids) (g .marks G lent-first) ∙ rw same-turns;
-    id = g .id G lent-first ∙ ap (λ (v : Turn). v .next) same-turns;
-    clear = record {
-      blank = λ x l u. elim (decLt x (length ar)) [
-        | yes k ↦ z .blank x l k
-        | no k ↦ getD-after x y (omega arith) ∙ elim (decLt x (9 * length ar)) [
-          | yes j ↦ g .stacks .blank x (omega arith) j
-          | no j ↦ g .past x (omega arith) ∙ zero₁ x u
-        ]
-      ];
-    };
-    cells = λ s l. getD-after (b + s) y (omega (arith, p .past)) ∙ g .past (b + s) (omega (arith, p .past)) ∙ cell₁ s l;
-    after = λ x l. getD-after x y (omega (arith, p .past)) ∙ g .past x (omega (arith, p .past)) ∙ getD-after x f l;
-  }
+  rule-ids = rw (same-turns, m)
+
+  rule-next : T .next ≡ grown G dist most border .next
+  unfolding grown
+  rule-next = ap (λ (v : Turn). v .next) same-turns
+
+  pub full : (table next : ℕ) (ids₂ ws₂ ws₃ : List ℕ) → table ≡ b → Grew ar dist table most first ids₁ ws₁ next ids₂ ws₂ → length ws₃ ≡ length ws₂ → length ws₂ ≡ length ws₁
+      → Clear 0 (length ar) ws₃ → Frame 0 (length ar) ws₂ ws₃ → Full G dist most border b ws next ids₂ ws₃
+  full table next ids₂ ws₂ ws₃ tb g₀ s₃ s₂ z y =
+      let g : Grew ar dist b most first ids₁ ws₁ next ids₂ ws₂ = rw tb at g₀ in
+      record {
+        ids = grown-ids next ids₂ ws₂ g;
+        id = grown-id next ids₂ ws₂ g;
+        clear = record {
+          blank = λ x l u. elim (decLt x (length ar)) [
+            | yes k ↦ z .blank x l k
+            | no k ↦ getD-after x y (omega arith) ∙ elim (decLt x (9 * length ar)) [
+              | yes j ↦ g .stacks .blank x (omega arith) j
+              | no j ↦ g .past x (omega arith) ∙ zero₁ x u
+            ]
+          ];
+        };
+        net = net-same b ar ws₁ ws₃ (omega (arith, p .room, size)) (s₃ ∙ s₂) (λ x l. getD-after x y (omega (arith, p .past)) ∙ g .past x (omega (arith, p .past))) ∙ m;
+        after = λ x l. getD-after x y (omega (arith, p .past)) ∙ g .past x (omega (arith, p .past)) ∙ getD-after x f l;
+      }
+    where
+      grown-ids : (next : ℕ) (ids₂ ws₂ : List ℕ) → Grew ar dist b most first ids₁ ws₁ next ids₂ ws₂ → ids₂ ≡ grown G dist most border .ids
+      grown-ids next ids₂ ws₂ g = ap (λ (v : Marks). v .ids) (g .marks) ∙ rule-ids
+
+      grown-id : (next : ℕ) (ids₂ ws₂ : List ℕ) → Grew ar dist b most first ids₁ ws₁ next ids₂ ws₂ → next ≡ grown G dist most border .next
+      grown-id next ids₂ ws₂ g = g .id ∙ rule-next

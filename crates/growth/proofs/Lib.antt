@@ -1,12 +1,13 @@
 -- Laws of the growth.
-pub mod SeaLaws
-pub mod TurnLaws
+pub mod FloodLaws
 pub mod LowLaws
 pub mod SpreadLaws
 pub mod StackLaws
+pub mod LoadLaws
+pub mod KeptLaws
 pub mod ExpandTurn
 pub mod FloodTurn
 pub mod WholeTurn
-pub mod EbbLaws
+pub mod TurnsLaws
 pub mod GrowLaws
 pub mod FirstLaws

@@ -1,55 +1,60 @@
--- The level stacks lie past the source distances, so floods keep them and an expansion changes the turn's alone. Assumes nothing.
-use Prim.Native.Nat.{ℕ, zero, suc, _+_, _*_, _≤_, _<_}
+-- The level stacks lie past the source distances, so floods keep them and an expansion changes the turn's alone: two lists of stacks are the same where each
+-- stack is, and a stack is what stands in its section. Assumes nothing.
+use Prim.Native.Nat.{ℕ, suc, _+_, _*_, _≤_, _<_}
 use native.Mathlib.Omega.{arith}
-use native.Mathlib.Nat.{suc-mul}
-use native.Mathlib.Decide.{decLt}
-use mathlib.Core.Path.{_≡_, refl}
-use mathlib.Core.Logic.{_⊎_, inl, inr, ⊎-elim}
+use native.Mathlib.Decide.{ℕ-discrete, decLt}
+use mathlib.Core.Path.{_≡_, refl, sym, ap, _∙_}
+use mathlib.Core.Logic.{_⊎_, inl, inr}
 use mathlib.Core.List.{List, [], _∷_}
-use lib.ListN.{length, getD, set}
+use lib.ListN.{length, getD, set, drop, length-set}
+use lib.Seq.{ext-getD, getD-set-same, getD-set-other}
 use Rattle.space.specs.Space.{sec}
-use Rattle.space.proofs.Laws.{sec-same}
+use Rattle.space.proofs.Laws.{sec-same, sec-mid}
 use Rattle.levels.specs.Levels.{levelsAt}
-use Rattle.flood.specs.Stack.{Blank}
-use Rattle.expand.specs.Layout.{Clear}
+use Rattle.levels.proofs.LevelLaws.{levels-at, slots}
+use Rattle.growth.specs.Turns.{stacksAt, stackOf}
 
--- stacks that do not change
-levels-same : (ws ws′ : List ℕ) (b n : ℕ) (fs : List ℕ) → b + length fs * n ≤ length ws → length ws′ ≡ length ws → ((j : ℕ) → getD fs j 0 ≤ n)
-    → ((x : ℕ) → b ≤ x → x < b + length fs * n → getD ws′ x 0 ≡ getD ws x 0) → levelsAt ws′ b n fs ≡ levelsAt ws b n fs
+levels-length : (l : List ℕ) (n : ℕ) (fs : List ℕ) → length (levelsAt l n fs) ≡ length fs
 unfolding levelsAt
-levels-same ws ws′ b n [] h l f e = refl
-levels-same ws ws′ b n (g ∷ fs) h l f e =
-    let m = suc-mul (length fs) n in
-    let s : sec b g ws′ ≡ sec b g ws = sec-same ws ws′ b g (omega (arith, f 0)) l (λ x p q. e x p (omega (arith, f 0))) in
-    rw (s, levels-same ws ws′ (b + n) n fs (omega arith) l (λ j. f (suc j)) (λ x p q. e x (omega arith) (omega arith)))
+levels-length l n [] = refl
+levels-length l n (f ∷ fs) = ap suc (levels-length (drop n l) n fs)
 
--- stacks of which the one at k changes
-pub levels-changed : (ws ws′ : List ℕ) (b n k : ℕ) (fs : List ℕ) → k < length fs → b + length fs * n ≤ length ws → length ws′ ≡ length ws → ((j : ℕ) → getD fs j 0 ≤ n)
-    → ((x : ℕ) → b ≤ x → (x < b + k * n) ⊎ (b + k * n + n ≤ x) → getD ws′ x 0 ≡ getD ws x 0)
-    → levelsAt ws′ b n fs ≡ set (levelsAt ws b n fs) k (sec (b + k * n) (getD fs k 0) ws′)
-unfolding levelsAt
-levels-changed ws ws′ b n k [] i h l f e = absurd (omega arith)
-levels-changed ws ws′ b n zero (g ∷ fs) i h l f e =
-    let m = suc-mul (length fs) n in
-    let z : b + 0 * n ≡ b = omega arith in
-    rw (z, levels-same ws ws′ (b + n) n fs (omega arith) l (λ j. f (suc j)) (λ x p q. e x (omega arith) (inr (omega arith))))
-levels-changed ws ws′ b n (suc k) (g ∷ fs) i h l f e =
-    let m = suc-mul (length fs) n in
-    let mk = suc-mul k n in
-    let z : b + suc k * n ≡ b + n + k * n = omega arith in
-    let s : sec b g ws′ ≡ sec b g ws = sec-same ws ws′ b g (omega (arith, f 0)) l (λ x p q. e x p (inl (omega (arith, f 0)))) in
-    rw (z, s, levels-changed ws ws′ (b + n) n k fs (omega arith) (omega arith) l (λ j. f (suc j)) (λ x p q. e x (omega arith) (⊎-elim (λ (y : x < b + n + k * n). inl (omega arith)) (λ (y : b + n + k * n + n ≤ x). inr (omega arith)) q)))
+module _ (n : ℕ) (ws fs : List ℕ) where
+  stacks-length : length (stacksAt n ws fs) ≡ length fs
+  unfolding stacksAt
+  stacks-length = levels-length (sec n (8 * n) ws) n fs
 
--- what lies past the source distances stays: so do the stacks
-pub levels-past : (ws ws′ : List ℕ) (n : ℕ) (fs : List ℕ) → n + length fs * n ≤ length ws → length ws′ ≡ length ws → ((j : ℕ) → getD fs j 0 ≤ n)
-    → ((x : ℕ) → n ≤ x → getD ws′ x 0 ≡ getD ws x 0) → levelsAt ws′ n n fs ≡ levelsAt ws n n fs
-levels-past ws ws′ n fs h l f e = levels-same ws ws′ n n fs h l f (λ x p q. e x p)
+  -- the stack of turn number j
+  pub stack-at : (j : ℕ) → j < length fs → j * n + getD fs j 0 ≤ 8 * n → getD (stacksAt n ws fs) j [] ≡ stackOf n fs j ws
+  unfolding stacksAt
+  stack-at j h g = levels-at (sec n (8 * n) ws) n fs j h ∙ sec-mid n (8 * n) (j * n) (getD fs j 0) ws g
 
--- the flood's stack is empty at the expansion, which has its flags there
-pub flags-clear : (n : ℕ) (ws : List ℕ) → Clear (9 * n) (9 * n + 3 * n) ws → Blank n (12 * n) 0 ws → Clear (9 * n) (9 * n + 4 * n) ws
-flags-clear n ws c z = record {
-  blank = λ x l u. elim (decLt x (9 * n + 3 * n)) [
-    | yes h ↦ c .blank x l h
-    | no h ↦ z .zeros x (omega arith) (omega arith)
-  ];
-}
+module _ (n : ℕ) (ws fs ws′ : List ℕ) (room : 9 * n ≤ length ws) (size : length ws′ ≡ length ws) where
+  -- what lies past the source distances stays: so do the stacks
+  pub stacks-past : ((x : ℕ) → n ≤ x → getD ws′ x 0 ≡ getD ws x 0) → stacksAt n ws′ fs ≡ stacksAt n ws fs
+  unfolding stacksAt
+  stacks-past e = ap (λ (l : List ℕ). levelsAt l n fs) (sec-same ws ws′ n (8 * n) (omega arith) size (λ x p q. e x p))
+
+  -- one of them changes
+  module _ (j : ℕ) (i : j < 8) (eight : length fs ≡ 8) (most : (k : ℕ) → getD fs k 0 ≤ n)
+      (e : (x : ℕ) → n ≤ x → (x < n + j * n) ⊎ (n + j * n + n ≤ x) → getD ws′ x 0 ≡ getD ws x 0) where
+    at : (l : List ℕ) (k : ℕ) → k < 8 → getD (stacksAt n l fs) k [] ≡ stackOf n fs k l
+    at l k h = stack-at n l fs k (omega arith) (omega (arith, most k, slots k 8 n h))
+
+    -- another stack's section lies before or behind
+    other : (k : ℕ) → k < 8 → (k ≡ j → ⊥) → stackOf n fs k ws′ ≡ stackOf n fs k ws
+    other k h d = sec-same ws ws′ (n + k * n) (getD fs k 0) (omega (arith, most k, slots k 8 n h)) size
+        (λ x p q. e x (omega arith) (elim (decLt k j) [
+          | yes l ↦ inl (omega (arith, most k, slots k j n l))
+          | no l ↦ (let g : j < k = omega arith in inr (omega (arith, slots j k n g)))
+        ]))
+
+    pub stacks-changed : stacksAt n ws′ fs ≡ set (stacksAt n ws fs) j (stackOf n fs j ws′)
+    stacks-changed =
+        let b : length (stacksAt n ws fs) ≡ 8 = stacks-length n ws fs ∙ eight in
+        let b′ : length (stacksAt n ws′ fs) ≡ 8 = stacks-length n ws′ fs ∙ eight in
+        ext-getD [] (stacksAt n ws′ fs) (set (stacksAt n ws fs) j (stackOf n fs j ws′)) (b′ ∙ sym (length-set (stacksAt n ws fs) j (stackOf n fs j ws′) ∙ b))
+        (λ k h. let l : k < 8 = omega arith in elim (ℕ-discrete k j) [
+          | yes z ↦ rw z (at ws′ j i ∙ sym (getD-set-same (stacksAt n ws fs) j (stackOf n fs j ws′) [] (omega arith)))
+          | no z ↦ at ws′ k l ∙ other k l z ∙ sym (at ws k l) ∙ sym (getD-set-other (stacksAt n ws fs) j k (stackOf n fs j ws′) [] z)
+        ])

@@ -1,3 +1,4 @@
-pub mod Seas
+-- What growth's contracts cite.
+pub mod Floods
 pub mod Turns
 pub mod Grow

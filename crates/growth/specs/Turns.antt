@@ -2,17 +2,32 @@
 use Prim.Native.Nat.{ℕ, _+_, _*_, _%_, _≤_, _<_}
 use mathlib.Core.Path.{_≡_}
 use mathlib.Core.List.{List, []}
-use lib.ListN.{length, getD, set}
+use lib.ListN.{length, getD, set, take}
 use Rattle.rules.specs.Base.{upto}
-use Rattle.rules.specs.Field.{Field}
-use Rattle.rules.specs.Growth.{Turn, loaded, expand, floods, turn}
-use Rattle.space.specs.Space.{sec, Frame}
-use Rattle.levels.specs.Levels.{levelsAt, Fills, Stacked}
-use Rattle.flood.specs.Site.{Lent}
+use Rattle.rules.specs.Net.{Net}
+use Rattle.rules.specs.Growth.{sorted, remains, Turn, loaded, expand, floods, turn}
+use Rattle.space.specs.Space.{sec, Clear}
+use Rattle.net.specs.declared.Sections.{Sections}
+use Rattle.net.specs.Table.{netAt, Mutual, Lent}
+use Rattle.levels.specs.Levels.{levelsAt, Fills, appended, Stacked}
 use Rattle.flood.specs.Stack.{marksAt, Blank}
-use Rattle.expand.specs.Layout.{Low, Clear}
-use Rattle.expand.specs.Front.{Back}
-use Rattle.growth.specs.Seas.{Seas}
+use Rattle.expand.specs.Layout.{Low}
+use Rattle.growth.specs.Floods.{IdsBelowNext}
+
+-- Where the sections of growth lie with n spans: source distances at 0 .. n, the eight level stacks at n .. 9n, changes at 9n .. 12n, the flood's stack at
+-- 12n .. 13n, where the expansion has its flags, the table of neighbours past that.
+pub record SectionsFor (n : ℕ) (at : Sections) : Type 0 where
+  pub changes : at .changes ≡ 9 * n
+  pub stack : at .stack ≡ 12 * n
+  pub past : 13 * n ≤ at .table
+
+-- the eight stacks
+unfoldable pub stacksAt : ℕ → List ℕ → List ℕ → List (List ℕ)
+stacksAt n ws fills = levelsAt (sec n (8 * n) ws) n fills
+
+-- the stack of turn number j, as entries
+abbrev pub stackOf : ℕ → List ℕ → ℕ → List ℕ → List ℕ
+stackOf n fills j ws = sec (n + j * n) (getD fills j 0) ws
 
 -- the turn's number after turn number j
 abbrev pub after : ℕ → ℕ
@@ -21,114 +36,102 @@ after j = (j + 1) % 8
 -- the stacks that turn number j left, unless they are thrown away
 pub record Left (n : ℕ) (fills : List ℕ) (j : ℕ) (ws : List ℕ) : Type 0 where
   pub fits : (after j ≡ 0 → ⊥) → Fills n fills
-  pub stacked : (after j ≡ 0 → ⊥) → Stacked n (levelsAt ws n n fills) j
+  pub stacked : (after j ≡ 0 → ⊥) → Stacked n (stacksAt n ws fills) j
 
--- what loading the stacks of the next turn leaves
+-- what loading the stacks of the next turn leaves: sorted anew at number 0, at another with what remains of the stack before
 pub record Loaded (area dist ids : List ℕ) (level : ℕ) (fills : List ℕ) (j : ℕ) (ws fills′ : List ℕ) (j′ : ℕ) (ws′ : List ℕ) : Type 0 where
   pub turn : j′ ≡ after j
-  pub same : (F : Field) (t : Turn) → F .area ≡ area → t .marks .ids ≡ ids → ((after j ≡ 0 → ⊥) → t .stacks ≡ levelsAt ws (length area) (length area) fills)
-      → levelsAt ws′ (length area) (length area) fills′ ≡ loaded F dist level (after j) t
+  pub first : after j ≡ 0 → stacksAt (length area) ws′ fills′ ≡ sorted area dist ids level
+  pub later : (after j ≡ 0 → ⊥)
+      → stacksAt (length area) ws′ fills′ ≡ appended (after j) (remains ids (getD (stacksAt (length area) ws fills) j [])) (stacksAt (length area) ws fills)
   pub fits : Fills (length area) fills′
-  pub stacked : Stacked (length area) (levelsAt ws′ (length area) (length area) fills′) (after j)
-  pub frame : Frame (length area) (length area + 8 * length area) ws ws′
+  pub stacked : Stacked (length area) (stacksAt (length area) ws′ fills′) (after j)
+  pub marks : take (length area) ws′ ≡ take (length area) ws
+  pub past : (x : ℕ) → 9 * length area ≤ x → getD ws′ x 0 ≡ getD ws x 0
 
 -- a turn at a level, with its number
-unfoldable pub turnAt : Field → List ℕ → ℕ → ℕ → Turn → Turn
-turnAt F dist level j t =
-    let stacks = loaded F dist level j t in
-    let e = expand F level (t .marks) (getD stacks j []) in
-    let r = floods F dist level (e .stack) (e .marks) (t .next) in
+unfoldable pub turnAt : Net → List ℕ → ℕ → ℕ → Turn → Turn
+turnAt N dist level j t =
+    let stacks = loaded N dist level j t in
+    let e = expand N level (t .marks) (getD stacks j []) in
+    let r = floods N dist level (e .stack) (e .marks) (t .next) in
     record { marks = r .marks; stacks = set stacks j (e .stack); next = r .next }
 
--- the stacks of turn number j are loaded, and all else that the turn needs is there: source distances at 0 .. n, the stacks at n .. 9n, changes at 9n .. 12n,
--- the flood's stack at 12n .. 13n, where the expansion has its flags, the cells past that
-pub record Ready (w : ℕ) (index area con : List ℕ) (b next : ℕ) (fills : List ℕ) (j : ℕ) (ids ws : List ℕ) : Type 0 where
-  pub F : Field
-  pub lent : Lent F w index area con b ws
-  pub back : Back F
-  pub few : length area ≤ 32000
-  pub past : 13 * length area ≤ b
+-- what is there between turns; the last had number j
+pub record Between (area con : List ℕ) (at : Sections) (next : ℕ) (fills : List ℕ) (j : ℕ) (ids ws : List ℕ) : Type 0 where
+  pub lent : Lent (at .table) area con ws
+  pub both-ways : Mutual (netAt (at .table) area ws)
+  pub laid : SectionsFor (length area) at
   pub turn : j < 8
-  pub seas : Seas (length area) next ids
+  pub ids-below : IdsBelowNext (length area) next ids
   pub low : Low (length area) (marksAt (length area) ids ws)
-  pub changes : Clear (9 * length area) (9 * length area + 3 * length area) ws
-  pub stack : Blank (length area) (12 * length area) 0 ws
-  pub fits : Fills (length area) fills
-  pub stacked : Stacked (length area) (levelsAt ws (length area) (length area) fills) j
+  pub changes : Clear (at .changes) (at .changes + 3 * length area) ws
+  pub stack : Blank (length area) (at .stack) 0 ws
+  pub left : Left (length area) fills j ws
 
--- the stack of the turn, as entries
-abbrev pub stackOf : ℕ → List ℕ → ℕ → List ℕ → List ℕ
-stackOf n fills j ws = sec (n + j * n) (getD fills j 0) ws
+-- the same in turn number j, with its stacks loaded
+pub record Ready (area con : List ℕ) (at : Sections) (next : ℕ) (fills : List ℕ) (j : ℕ) (ids ws : List ℕ) : Type 0 where
+  pub between : Between area con at next fills j ids ws
+  pub fits : Fills (length area) fills
+  pub stacked : Stacked (length area) (stacksAt (length area) ws fills) j
 
 -- what the expansion of the turn's stack leaves
-pub record Expanded (w : ℕ) (index area con : List ℕ) (b next : ℕ) (fills : List ℕ) (j level : ℕ) (ids ws ids′ ws′ : List ℕ) : Type 0 where
-  pub ready : Ready w index area con b next fills j ids′ ws′
+pub record Expanded (area con : List ℕ) (at : Sections) (next : ℕ) (fills : List ℕ) (j level : ℕ) (ids ws ids′ ws′ : List ℕ) : Type 0 where
+  pub ready : Ready area con at next fills j ids′ ws′
   pub size : length ws′ ≡ length ws
   pub past : (x : ℕ) → 9 * length area ≤ x → getD ws′ x 0 ≡ getD ws x 0
-  pub same : (F : Field) → Lent F w index area con b ws
-      → record { marks = marksAt (length area) ids′ ws′; stack = stackOf (length area) fills j ws′ }
-      ≡ expand F level (marksAt (length area) ids ws) (getD (levelsAt ws (length area) (length area) fills) j [])
-  pub stacks : levelsAt ws′ (length area) (length area) fills ≡ set (levelsAt ws (length area) (length area) fills) j (stackOf (length area) fills j ws′)
+  pub same : record { marks = marksAt (length area) ids′ ws′; stack = stackOf (length area) fills j ws′ }
+      ≡ expand (netAt (at .table) area ws) level (marksAt (length area) ids ws) (getD (stacksAt (length area) ws fills) j [])
+  pub stacks : stacksAt (length area) ws′ fills ≡ set (stacksAt (length area) ws fills) j (stackOf (length area) fills j ws′)
 
 -- what the floods from the turn's stack leave
-pub record Washed (w : ℕ) (index area con dist : List ℕ) (b next : ℕ) (fills : List ℕ) (j level : ℕ) (ids ws : List ℕ) (r : ℕ) (ids′ ws′ : List ℕ) : Type 0 where
-  pub ready : Ready w index area con b r fills j ids′ ws′
+pub record Flooded (area con dist : List ℕ) (at : Sections) (next : ℕ) (fills : List ℕ) (j level : ℕ) (ids ws : List ℕ)
+    (r : ℕ) (ids′ ws′ : List ℕ) : Type 0 where
+  pub ready : Ready area con at r fills j ids′ ws′
   pub size : length ws′ ≡ length ws
   pub past : (x : ℕ) → length area ≤ x → getD ws′ x 0 ≡ getD ws x 0
-  pub same : (F : Field) → Lent F w index area con b ws
-      → record { marks = marksAt (length area) ids′ ws′; next = r } ≡ floods F dist level (stackOf (length area) fills j ws) (marksAt (length area) ids ws) next
-  pub stacks : levelsAt ws′ (length area) (length area) fills ≡ levelsAt ws (length area) (length area) fills
+  pub same : record { marks = marksAt (length area) ids′ ws′; next = r }
+      ≡ floods (netAt (at .table) area ws) dist level (stackOf (length area) fills j ws) (marksAt (length area) ids ws) next
+  pub stacks : stacksAt (length area) ws′ fills ≡ stacksAt (length area) ws fills
 
 -- the areas are bytes
 pub record Bytes (area : List ℕ) : Type 0 where
   pub byte : (s : ℕ) → s < length area → getD area s 0 < 256
 
--- what is there between turns; the last had number j
-pub record Between (w : ℕ) (index area con : List ℕ) (b next : ℕ) (fills : List ℕ) (j : ℕ) (ids ws : List ℕ) : Type 0 where
-  pub F : Field
-  pub lent : Lent F w index area con b ws
-  pub back : Back F
-  pub few : length area ≤ 32000
-  pub past : 13 * length area ≤ b
-  pub turn : j < 8
-  pub seas : Seas (length area) next ids
-  pub low : Low (length area) (marksAt (length area) ids ws)
-  pub changes : Clear (9 * length area) (9 * length area + 3 * length area) ws
-  pub stack : Blank (length area) (12 * length area) 0 ws
-  pub left : Left (length area) fills j ws
-
--- what a turn leaves
-pub record Turned (w : ℕ) (index area con dist : List ℕ) (b next : ℕ) (fills : List ℕ) (j level : ℕ) (ids ws : List ℕ) (next′ : ℕ) (fills′ : List ℕ) (j′ : ℕ) (ids′ ws′ : List ℕ) : Type 0 where
-  pub turn : j′ ≡ after j
-  pub between : Between w index area con b next′ fills′ j′ ids′ ws′
-  pub size : length ws′ ≡ length ws
-  pub past : (x : ℕ) → 9 * length area ≤ x → getD ws′ x 0 ≡ getD ws x 0
-  pub same : (F : Field) (t : Turn) → Lent F w index area con b ws → t .marks ≡ marksAt (length area) ids ws → t .next ≡ next
-      → ((after j ≡ 0 → ⊥) → t .stacks ≡ levelsAt ws (length area) (length area) fills)
-      → record { marks = marksAt (length area) ids′ ws′; stacks = levelsAt ws′ (length area) (length area) fills′; next = next′ } ≡ turnAt F dist level (after j) t
-
 -- the rule's turn is what is there
-pub record Stands (n next : ℕ) (fills : List ℕ) (j : ℕ) (ids ws : List ℕ) (t : Turn) : Type 0 where
+pub record TurnIs (n next : ℕ) (fills : List ℕ) (j : ℕ) (ids ws : List ℕ) (t : Turn) : Type 0 where
   pub marks : t .marks ≡ marksAt n ids ws
   pub id : t .next ≡ next
-  pub stacks : (after j ≡ 0 → ⊥) → t .stacks ≡ levelsAt ws n n fills
+  pub stacks : (after j ≡ 0 → ⊥) → t .stacks ≡ stacksAt n ws fills
 
--- the rule's turns, k of count, from what is there with no stacks
-abbrev pub turnsOf : Field → List ℕ → ℕ → ℕ → List ℕ → List ℕ → ℕ → ℕ → Turn
-turnsOf F dist count n ids ws next k = upto k (turn F dist (2 * count)) (record { marks = marksAt n ids ws; stacks = []; next = next })
-
--- what k turns of count leave
-pub record Ebb (w : ℕ) (index area con dist : List ℕ) (b count next : ℕ) (ids ws : List ℕ) (k next′ : ℕ) (fills′ : List ℕ) (j′ : ℕ) (ids′ ws′ : List ℕ) : Type 0 where
-  pub turn : after j′ ≡ k % 8
-  pub between : Between w index area con b next′ fills′ j′ ids′ ws′
+-- what a turn leaves
+pub record Turned (area con dist : List ℕ) (at : Sections) (next : ℕ) (fills : List ℕ) (j level : ℕ) (ids ws : List ℕ)
+    (next′ : ℕ) (fills′ : List ℕ) (j′ : ℕ) (ids′ ws′ : List ℕ) : Type 0 where
+  pub turn : j′ ≡ after j
+  pub between : Between area con at next′ fills′ j′ ids′ ws′
   pub size : length ws′ ≡ length ws
   pub past : (x : ℕ) → 9 * length area ≤ x → getD ws′ x 0 ≡ getD ws x 0
-  pub same : (F : Field) → Lent F w index area con b ws → Stands (length area) next′ fills′ j′ ids′ ws′ (turnsOf F dist count (length area) ids ws next k)
+  pub same : (t : Turn) → TurnIs (length area) next fills j ids ws t
+      → record { marks = marksAt (length area) ids′ ws′; stacks = stacksAt (length area) ws′ fills′; next = next′ }
+      ≡ turnAt (netAt (at .table) area ws) dist level (after j) t
+
+-- the rule's turns, k of count, from what is there with no stacks
+abbrev pub turnsOf : Net → List ℕ → ℕ → ℕ → List ℕ → List ℕ → ℕ → ℕ → Turn
+turnsOf N dist count n ids ws next k = upto k (turn N dist (2 * count)) (record { marks = marksAt n ids ws; stacks = []; next = next })
+
+-- what k turns of count leave
+pub record SomeTurns (area con dist : List ℕ) (at : Sections) (count next : ℕ) (ids ws : List ℕ)
+    (k next′ : ℕ) (fills′ : List ℕ) (j′ : ℕ) (ids′ ws′ : List ℕ) : Type 0 where
+  pub turn : after j′ ≡ k % 8
+  pub between : Between area con at next′ fills′ j′ ids′ ws′
+  pub size : length ws′ ≡ length ws
+  pub past : (x : ℕ) → 9 * length area ≤ x → getD ws′ x 0 ≡ getD ws x 0
+  pub same : TurnIs (length area) next′ fills′ j′ ids′ ws′ (turnsOf (netAt (at .table) area ws) dist count (length area) ids ws next k)
 
 -- what all turns leave
-pub record Ebbed (w : ℕ) (index area con dist : List ℕ) (b count next : ℕ) (ids ws : List ℕ) (next′ : ℕ) (ids′ ws′ : List ℕ) : Type 0 where
-  pub seas : Seas (length area) next′ ids′
+pub record AllTurns (area dist : List ℕ) (table count next : ℕ) (ids ws : List ℕ) (next′ : ℕ) (ids′ ws′ : List ℕ) : Type 0 where
+  pub ids-below : IdsBelowNext (length area) next′ ids′
   pub low : Low (length area) (marksAt (length area) ids′ ws′)
   pub past : (x : ℕ) → 9 * length area ≤ x → getD ws′ x 0 ≡ getD ws x 0
-  pub marks : (F : Field) → Lent F w index area con b ws → marksAt (length area) ids′ ws′ ≡ turnsOf F dist count (length area) ids ws next count .marks
-  pub id : (F : Field) → Lent F w index area con b ws → next′ ≡ turnsOf F dist count (length area) ids ws next count .next
+  pub marks : marksAt (length area) ids′ ws′ ≡ turnsOf (netAt table area ws) dist count (length area) ids ws next count .marks
+  pub id : next′ ≡ turnsOf (netAt table area ws) dist count (length area) ids ws next count .next

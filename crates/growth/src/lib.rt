@@ -1,4 +1,4 @@
 // Flood and expansion, rules 1 to 5.
-pub mod floods;
+mod floods;
 pub mod grow;
-pub mod turns;
+mod turns;

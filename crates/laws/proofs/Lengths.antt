@@ -7,6 +7,7 @@ use lib.ListN.{length, set, length-set, length-replicate, length-map}
 use lib.Dec.{eqb}
 use Rattle.rules.specs.Base.{upto, tab}
 use Rattle.rules.specs.Field.{Field, spans}
+use Rattle.rules.specs.Net.{Net, netOf}
 use Rattle.rules.specs.Distance.{start, lower, pass1, pass2, raw, blur}
 use Rattle.rules.specs.Growth.{Marks, put, painted, wrote, written, Spread, round, rounds, expand, Seed, Flow, pushed, visit, flow, flood, Ids, floods, Turn, turn, grown}
 use Rattle.rules.specs.Records.{Rec, fresh, addSpan, records}
@@ -49,48 +50,48 @@ pub painted-length : (F : Field) (b : ℕ) → length (painted F b .ids) ≡ spa
 unfolding painted
 painted-length F b = if-ind (λ (l : List ℕ). length l ≡ spans F) (eqb b 0) (λ _. length-replicate (spans F) _) (λ _. length-tab (spans F) 0 _)
 
-module _ (F : Field) where
-  wrote-length : (m : Marks) (e : ℕ) (out : Marks) → length (wrote F m e out .ids) ≡ length (out .ids)
+module _ (N : Net) where
+  wrote-length : (m : Marks) (e : ℕ) (out : Marks) → length (wrote N m e out .ids) ≡ length (out .ids)
   unfolding wrote put
   wrote-length m e out = if-ind (λ (x : Marks). length (x .ids) ≡ length (out .ids)) _ (λ _. length-set (out .ids) e _) (λ _. refl)
 
-  pub written-length : (m : Marks) (es : List ℕ) (out : Marks) → length (written F m es out .ids) ≡ length (out .ids)
+  pub written-length : (m : Marks) (es : List ℕ) (out : Marks) → length (written N m es out .ids) ≡ length (out .ids)
   unfolding written
   written-length m [] out = refl
-  written-length m (e ∷ es) out = written-length m es (wrote F m e out) ∙ wrote-length m e out
+  written-length m (e ∷ es) out = written-length m es (wrote N m e out) ∙ wrote-length m e out
 
-  rounds-length : (k : ℕ) (p : Spread) → length (rounds F k p .marks .ids) ≡ length (p .marks .ids)
+  rounds-length : (k : ℕ) (p : Spread) → length (rounds N k p .marks .ids) ≡ length (p .marks .ids)
   unfolding rounds round
   rounds-length zero p = refl
   rounds-length (suc k) p =
       if-ind (λ (x : Spread). length (x .marks .ids) ≡ length (p .marks .ids)) _
-      (λ _. rounds-length k (round F p) ∙ written-length (p .marks) (p .stack) (p .marks))
+      (λ _. rounds-length k (round N p) ∙ written-length (p .marks) (p .stack) (p .marks))
       (λ _. refl)
 
-  pub expand-length : (level : ℕ) (m : Marks) (es : List ℕ) → length (expand F level m es .marks .ids) ≡ length (m .ids)
+  pub expand-length : (level : ℕ) (m : Marks) (es : List ℕ) → length (expand N level m es .marks .ids) ≡ length (m .ids)
   unfolding expand
   expand-length level m es = rounds-length _ _
 
   module _ (dist : List ℕ) where
-    visit-length : (q : Seed) (c : ℕ) (f : Flow) → length (visit F dist q c f .marks .ids) ≡ length (f .marks .ids)
+    visit-length : (q : Seed) (c : ℕ) (f : Flow) → length (visit N dist q c f .marks .ids) ≡ length (f .marks .ids)
     unfolding visit pushed put
     visit-length q c f =
         if-ind (λ (x : Flow). length (x .marks .ids) ≡ length (f .marks .ids)) _
         (λ _. length-set (f .marks .ids) c 0)
-        (λ _. upto-ind (λ k (x : Flow). length (x .marks .ids) ≡ length (f .marks .ids)) (pushed F dist q c) _ 4 refl
+        (λ _. upto-ind (λ k (x : Flow). length (x .marks .ids) ≡ length (f .marks .ids)) (pushed N dist q c) _ 4 refl
         (λ k x _ p. if-ind (λ (y : Flow). length (y .marks .ids) ≡ length (f .marks .ids)) _ (λ _. length-set (x .marks .ids) _ _ ∙ p) (λ _. p)))
 
-    flow-length : (q : Seed) (k : ℕ) (todo : List ℕ) (m : Marks) (n : ℕ) → length (flow F dist q k todo m n .marks .ids) ≡ length (m .ids)
+    flow-length : (q : Seed) (k : ℕ) (todo : List ℕ) (m : Marks) (n : ℕ) → length (flow N dist q k todo m n .marks .ids) ≡ length (m .ids)
     unfolding flow
     flow-length q zero todo m n = refl
     flow-length q (suc k) [] m n = refl
     flow-length q (suc k) (c ∷ cs) m n = flow-length q k _ _ _ ∙ visit-length q c (record { todo = cs; marks = m; count = n })
 
-    pub flood-length : (level id : ℕ) (m : Marks) (s : ℕ) → length (flood F dist level id m s .marks .ids) ≡ length (m .ids)
+    pub flood-length : (level id : ℕ) (m : Marks) (s : ℕ) → length (flood N dist level id m s .marks .ids) ≡ length (m .ids)
     unfolding flood put
     flood-length level id m s = flow-length _ _ _ _ _ ∙ length-set (m .ids) s id
 
-    pub floods-length : (level : ℕ) (es : List ℕ) (m : Marks) (id : ℕ) → length (floods F dist level es m id .marks .ids) ≡ length (m .ids)
+    pub floods-length : (level : ℕ) (es : List ℕ) (m : Marks) (id : ℕ) → length (floods N dist level es m id .marks .ids) ≡ length (m .ids)
     unfolding floods
     floods-length level [] m id = refl
     floods-length level (e ∷ es) m id =
@@ -98,15 +99,15 @@ module _ (F : Field) where
         (λ _. floods-length level es _ _ ∙ flood-length level id m e)
         (λ _. floods-length level es m id)
 
-    pub turn-length : (top k : ℕ) (t : Turn) → length (turn F dist top k t .marks .ids) ≡ length (t .marks .ids)
+    pub turn-length : (top k : ℕ) (t : Turn) → length (turn N dist top k t .marks .ids) ≡ length (t .marks .ids)
     unfolding turn
     turn-length top k t = floods-length _ _ _ _ ∙ expand-length _ (t .marks) _
 
-    pub grown-length : (most b : ℕ) → length (grown F dist most b .ids) ≡ spans F
-    unfolding grown
-    grown-length most b =
-        expand-length 0 _ _
-        ∙ upto-ind (λ k (t : Turn). length (t .marks .ids) ≡ spans F) (turn F dist _) _ _ (painted-length F b) (λ k t _ p. turn-length _ k t ∙ p)
+pub grown-length : (F : Field) (dist : List ℕ) (most b : ℕ) → length (grown F dist most b .ids) ≡ spans F
+unfolding grown
+grown-length F dist most b =
+    expand-length (netOf F) 0 _ _
+    ∙ upto-ind (λ k (t : Turn). length (t .marks .ids) ≡ spans F) (turn (netOf F) dist _) _ _ (painted-length F b) (λ k t _ p. turn-length (netOf F) dist _ k t ∙ p)
 
 -- ---------------------------------------------------------------- records
 

@@ -5,6 +5,7 @@ pub mod Sums
 pub mod Plain
 pub mod Lengths
 pub mod Cells
+pub mod Nets
 pub mod Passes
 pub mod FloodArea
 pub mod FloodEnds

@@ -12,7 +12,8 @@ use lib.Seq.{getD-set-same, getD-set-other}
 use lib.Dec.{eqb}
 use borrow.Author.Tests.{eqb-true, eqb-false, eq-eqb, ne-eqb, lt-leb, not-true}
 use Rattle.rules.specs.Base.{if_then_else_, many}
-use Rattle.rules.specs.Field.{Field, spans, none, areaOf, near}
+use Rattle.rules.specs.Field.{none}
+use Rattle.rules.specs.Net.{Net, spans, areaOf, near}
 use Rattle.rules.specs.Growth.{Marks, idOf, put, Seed, Flow, pushed, visit, flow, flood, floods, Ids, objects, other, flagged}
 use Rattle.laws.proofs.Basics.{both, if-ind, upto-ind, All, All-map, many-set, many-le, getD-set-cases, nonzero-in}
 use Rattle.laws.proofs.FloodEnds.{Same, Blank, Fine, has-area, objects-same, pushed-fine, visit-fine, own-other}
@@ -54,16 +55,16 @@ pub record Keeps (base : Marks) (q : Seed) (o : ℕ → Bool) (f : Flow) : Type 
   pub hold : All (λ c. o c ≡ false → idOf (f .marks) c ≡ q .id) (f .todo)
   pub won : 0 < f .count → (w : ℕ) × (o w ≡ false) × (idOf (f .marks) w ≡ q .id) × (idOf base w ≡ 0)
 
-module _ (F : Field) (dist : List ℕ) (q : Seed) (base m₀ : Marks) (z : eqb (q .id) 0 ≡ false) (u : flagged (q .id) ≡ false) (a : q .area ≡ 256 → ⊥) where
-  pushed-keeps : (c d : ℕ) (f : Flow) → Fine F q m₀ f → Keeps base q (objects F m₀ q) f → Keeps base q (objects F m₀ q) (pushed F dist q c d f)
+module _ (N : Net) (dist : List ℕ) (q : Seed) (base m₀ : Marks) (z : eqb (q .id) 0 ≡ false) (u : flagged (q .id) ≡ false) (a : q .area ≡ 256 → ⊥) where
+  pushed-keeps : (c d : ℕ) (f : Flow) → Fine N q m₀ f → Keeps base q (objects N m₀ q) f → Keeps base q (objects N m₀ q) (pushed N dist q c d f)
   unfolding pushed put
   pushed-keeps c d f n h =
-      if-ind (λ (g : Flow). Keeps base q (objects F m₀ q) g) _
+      if-ind (λ (g : Flow). Keeps base q (objects N m₀ q) g) _
       (λ e.
-      let t = near F c d in
+      let t = near N c d in
       let e1 = both _ _ (both _ _ e .0) in
       let zero-id : idOf (f .marks) t ≡ 0 = eqb-true _ _ (e1 .1) in
-      let inside : t < length (f .marks .ids) = rw (n .size) (has-area F t (q .area) a (eqb-true _ _ (e1 .0))) in
+      let inside : t < length (f .marks .ids) = rw (n .size) (has-area N t (q .area) a (eqb-true _ _ (e1 .0))) in
       let stays : (s : ℕ) → idOf (f .marks) s ≡ q .id → getD (set (f .marks .ids) t (q .id)) s 0 ≡ q .id =
       λ s k. getD-set-cases (f .marks .ids) t (q .id) s (λ r. r ≡ q .id) (λ _. refl) k in
       record {
@@ -74,12 +75,12 @@ module _ (F : Field) (dist : List ℕ) (q : Seed) (base m₀ : Marks) (z : eqb (
       })
       (λ _. h)
 
-  visit-keeps : (c : ℕ) (f : Flow) → Blank q m₀ c → idOf base c ≡ 0 → (objects F m₀ q c ≡ false → idOf (f .marks) c ≡ q .id) → Fine F q m₀ f
-      → Keeps base q (objects F m₀ q) f → Keeps base q (objects F m₀ q) (visit F dist q c f)
+  visit-keeps : (c : ℕ) (f : Flow) → Blank q m₀ c → idOf base c ≡ 0 → (objects N m₀ q c ≡ false → idOf (f .marks) c ≡ q .id) → Fine N q m₀ f
+      → Keeps base q (objects N m₀ q) f → Keeps base q (objects N m₀ q) (visit N dist q c f)
   unfolding visit
   visit-keeps c f k b i n h =
-      let o = objects F m₀ q in
-      let same : objects F (f .marks) q c ≡ o c = objects-same F q m₀ (f .marks) (n .same) c in
+      let o = objects N m₀ q in
+      let same : objects N (f .marks) q c ≡ o c = objects-same N q m₀ (f .marks) (n .same) c in
       if-ind (λ (g : Flow). Keeps base q o g) _
       (λ e.
       let stays : (s : ℕ) → o s ≡ false → idOf (f .marks) s ≡ q .id → getD (set (f .marks .ids) c 0) s 0 ≡ q .id =
@@ -90,43 +91,43 @@ module _ (F : Field) (dist : List ℕ) (q : Seed) (base m₀ : Marks) (z : eqb (
         hold = All-map (f .todo) (λ s y x. stays s x (y x)) (h .hold);
         won = λ y. let w = h .won y in (w .0, w .1, stays (w .0) (w .1) (w .2), w .3);
       })
-      (λ e. upto-ind (λ j (g : Flow). Fine F q m₀ g × Keeps base q o g) (pushed F dist q c) _ 4 (
+      (λ e. upto-ind (λ j (g : Flow). Fine N q m₀ g × Keeps base q o g) (pushed N dist q c) _ 4 (
         record { same = n .same; size = n .size; blank = n .blank },
         record { down = h .down; back = h .back; hold = h .hold; won = λ _. (c, sym same ∙ e, i (sym same ∙ e), b) },
       )
-      (λ j g _ p. (pushed-fine F dist q m₀ z u a c j g (p .0) .0, pushed-keeps c j g (p .0) (p .1))) .1)
+      (λ j g _ p. (pushed-fine N dist q m₀ z u a c j g (p .0) .0, pushed-keeps c j g (p .0) (p .1))) .1)
 
-  flow-keeps : (k : ℕ) (todo : List ℕ) (m : Marks) (n : ℕ) → Fine F q m₀ (record { todo = todo; marks = m; count = n })
-      → Keeps base q (objects F m₀ q) (record { todo = todo; marks = m; count = n })
-      → Fine F q m₀ (flow F dist q k todo m n) × Keeps base q (objects F m₀ q) (flow F dist q k todo m n)
+  flow-keeps : (k : ℕ) (todo : List ℕ) (m : Marks) (n : ℕ) → Fine N q m₀ (record { todo = todo; marks = m; count = n })
+      → Keeps base q (objects N m₀ q) (record { todo = todo; marks = m; count = n })
+      → Fine N q m₀ (flow N dist q k todo m n) × Keeps base q (objects N m₀ q) (flow N dist q k todo m n)
   unfolding flow
   flow-keeps zero todo m n f h = (f, h)
   flow-keeps (suc k) [] m n f h = (f, h)
   flow-keeps (suc k) (c ∷ cs) m n f h =
       let g : Flow = record { todo = cs; marks = m; count = n } in
-      let f1 : Fine F q m₀ g = record { same = f .same; size = f .size; blank = f .blank .1 } in
-      let h1 : Keeps base q (objects F m₀ q) g = record { down = h .down; back = h .back .1; hold = h .hold .1; won = h .won } in
-      flow-keeps k _ _ _ (visit-fine F dist q m₀ z u a c g (f .blank .0) f1 .0) (visit-keeps c g (f .blank .0) (h .back .0) (h .hold .0) f1 h1)
+      let f1 : Fine N q m₀ g = record { same = f .same; size = f .size; blank = f .blank .1 } in
+      let h1 : Keeps base q (objects N m₀ q) g = record { down = h .down; back = h .back .1; hold = h .hold .1; won = h .won } in
+      flow-keeps k _ _ _ (visit-fine N dist q m₀ z u a c g (f .blank .0) f1 .0) (visit-keeps c g (f .blank .0) (h .back .0) (h .hold .0) f1 h1)
 
 -- a flood raises no number of zeros, and lowers it where it succeeds
-pub flood-zeros : (F : Field) (dist : List ℕ) (level id : ℕ) (m : Marks) (s : ℕ) → eqb id 0 ≡ false → flagged id ≡ false
-    → s < spans F → (areaOf F s ≡ 256 → ⊥) → length (m .ids) ≡ spans F → idOf m s ≡ 0
-    → (length (flood F dist level id m s .marks .ids) ≡ spans F)
-    × (zeros (flood F dist level id m s .marks .ids) + (if eqb (flood F dist level id m s .count) 0 then 0 else 1) ≤ zeros (m .ids))
+pub flood-zeros : (N : Net) (dist : List ℕ) (level id : ℕ) (m : Marks) (s : ℕ) → eqb id 0 ≡ false → flagged id ≡ false
+    → s < spans N → (areaOf N s ≡ 256 → ⊥) → length (m .ids) ≡ spans N → idOf m s ≡ 0
+    → (length (flood N dist level id m s .marks .ids) ≡ spans N)
+    × (zeros (flood N dist level id m s .marks .ids) + (if eqb (flood N dist level id m s .count) 0 then 0 else 1) ≤ zeros (m .ids))
 unfolding flood put Same Blank
-flood-zeros F dist level id m s z u h a n b =
-    let q : Seed = record { area = areaOf F s; id = id; limit = level - 2 } in
+flood-zeros N dist level id m s z u h a n b =
+    let q : Seed = record { area = areaOf N s; id = id; limit = level - 2 } in
     let m₀ = put m s id 0 in
     let at-s : idOf m₀ s ≡ id = getD-set-same (m .ids) s id 0 (rw n h) in
-    let r = flow-keeps F dist q m m₀ z u a (5 * spans F + 5) (s ∷ []) m₀ 0
-    (record { same = λ t. (refl, refl); size = simp length-set n; blank = ((ap flagged at-s ∙ u, ap (other id) at-s ∙ own-other F dist q m₀ z u a), tt) })
+    let r = flow-keeps N dist q m m₀ z u a (5 * spans N + 5) (s ∷ []) m₀ 0
+    (record { same = λ t. (refl, refl); size = simp length-set n; blank = ((ap flagged at-s ∙ u, ap (other id) at-s ∙ own-other N dist q m₀ z u a), tt) })
     (record {
       down = λ t. getD-set-cases (m .ids) s id t (λ r. r ≡ 0 → idOf m t ≡ 0) (λ _ k. absurd (eqb-false _ _ z k)) (λ k. k);
       back = (b, tt);
       hold = ((λ _. at-s), tt);
       won = λ k. absurd (omega arith);
     }) in
-    let f = flow F dist q (5 * spans F + 5) (s ∷ []) m₀ 0 in
+    let f = flow N dist q (5 * spans N + 5) (s ∷ []) m₀ 0 in
     let sized : length (f .marks .ids) ≡ length (m .ids) = r .0 .size ∙ sym n in (
       r .0 .size,
       if-ind (λ k. zeros (f .marks .ids) + k ≤ zeros (m .ids)) _
@@ -144,20 +145,20 @@ if-add true i = omega arith
 if-add false i = omega arith
 
 -- ids and zeros together do not grow
-pub floods-next : (F : Field) (dist : List ℕ) (level : ℕ) → ((s : ℕ) → s < spans F → areaOf F s < 256)
-    → (es : List ℕ) → All (λ e. (e ≡ none → ⊥) → e < spans F) es → (m : Marks) (id : ℕ) → 0 < id → id + zeros (m .ids) < 0x8000 → length (m .ids) ≡ spans F
-    → (floods F dist level es m id .next + zeros (floods F dist level es m id .marks .ids) ≤ id + zeros (m .ids))
-    × (length (floods F dist level es m id .marks .ids) ≡ spans F) × (id ≤ floods F dist level es m id .next)
+pub floods-next : (N : Net) (dist : List ℕ) (level : ℕ) → ((s : ℕ) → s < spans N → areaOf N s < 256)
+    → (es : List ℕ) → All (λ e. (e ≡ none → ⊥) → e < spans N) es → (m : Marks) (id : ℕ) → 0 < id → id + zeros (m .ids) < 0x8000 → length (m .ids) ≡ spans N
+    → (floods N dist level es m id .next + zeros (floods N dist level es m id .marks .ids) ≤ id + zeros (m .ids))
+    × (length (floods N dist level es m id .marks .ids) ≡ spans N) × (id ≤ floods N dist level es m id .next)
 unfolding floods
-floods-next F dist level bytes [] al m id p b n = (le-refl _, n, le-refl _)
-floods-next F dist level bytes (e ∷ es) al m id p b n =
-    if-ind (λ (r : Ids). (r .next + zeros (r .marks .ids) ≤ id + zeros (m .ids)) × (length (r .marks .ids) ≡ spans F) × (id ≤ r .next)) _
+floods-next N dist level bytes [] al m id p b n = (le-refl _, n, le-refl _)
+floods-next N dist level bytes (e ∷ es) al m id p b n =
+    if-ind (λ (r : Ids). (r .next + zeros (r .marks .ids) ≤ id + zeros (m .ids)) × (length (r .marks .ids) ≡ spans N) × (id ≤ r .next)) _
     (λ t.
     let t2 = both _ _ t in
-    let inside : e < spans F = al .0 (eqb-false _ _ (not-true _ (t2 .0))) in
-    let fl = flood-zeros F dist level id m e (ne-eqb id 0 (omega arith)) (lt-leb 0x8000 id (omega arith)) inside (λ k. omega (arith, bytes e inside)) n (eqb-true _ _ (t2 .1)) in
-    let f = flood F dist level id m e in
+    let inside : e < spans N = al .0 (eqb-false _ _ (not-true _ (t2 .0))) in
+    let fl = flood-zeros N dist level id m e (ne-eqb id 0 (omega arith)) (lt-leb 0x8000 id (omega arith)) inside (λ k. omega (arith, bytes e inside)) n (eqb-true _ _ (t2 .1)) in
+    let f = flood N dist level id m e in
     let k = if-add (eqb (f .count) 0) id in
-    let r = floods-next F dist level bytes es (al .1) (f .marks) (if eqb (f .count) 0 then id else suc id) (omega arith) (omega arith) (fl .0) in
+    let r = floods-next N dist level bytes es (al .1) (f .marks) (if eqb (f .count) 0 then id else suc id) (omega arith) (omega arith) (fl .0) in
     (omega arith, r .1, omega arith))
-    (λ _. floods-next F dist level bytes es (al .1) m id p b n)
+    (λ _. floods-next N dist level bytes es (al .1) m id p b n)

@@ -8,7 +8,8 @@ use mathlib.Core.List.{List, [], _∷_, map}
 use lib.ListN.{length, length-map}
 use lib.Dec.{eqb}
 use Rattle.rules.specs.Base.{if_then_else_, any, many}
-use Rattle.rules.specs.Field.{Field, none}
+use Rattle.rules.specs.Field.{none}
+use Rattle.rules.specs.Net.{Net}
 use Rattle.rules.specs.Growth.{Marks, Spread, finds, round, rounds, expand}
 use Rattle.laws.proofs.Basics.{both, if-ind, many-le, any-many}
 
@@ -40,24 +41,24 @@ unfolding many
 marked f h [] = refl
 marked f h (e ∷ es) = rw (spare (f e) e) (more (f e) (unused e) _ _ _ (h e) (marked f h es))
 
-finds-unused : (F : Field) (m : Marks) (e : ℕ) → finds F m e ≡ true → unused e ≡ true
+finds-unused : (N : Net) (m : Marks) (e : ℕ) → finds N m e ≡ true → unused e ≡ true
 unfolding finds unused
-finds-unused F m e h = both _ _ h .0
+finds-unused N m e h = both _ _ h .0
 
-pub settles : (F : Field) (k : ℕ) (p : Spread) → many unused (p .stack) < k
-    → any (finds F (rounds F k p .marks)) (rounds F k p .stack) ≡ false
+pub settles : (N : Net) (k : ℕ) (p : Spread) → many unused (p .stack) < k
+    → any (finds N (rounds N k p .marks)) (rounds N k p .stack) ≡ false
 unfolding rounds round
-settles F zero p h = absurd (omega arith)
-settles F (suc k) p h =
-    if-ind (λ (r : Spread). any (finds F (r .marks)) (r .stack) ≡ false) _
-    (λ e. settles F k (round F p) (omega (arith, any-many (finds F (p .marks)) (p .stack) e, marked (finds F (p .marks)) (finds-unused F (p .marks)) (p .stack))))
+settles N zero p h = absurd (omega arith)
+settles N (suc k) p h =
+    if-ind (λ (r : Spread). any (finds N (r .marks)) (r .stack) ≡ false) _
+    (λ e. settles N k (round N p) (omega (arith, any-many (finds N (p .marks)) (p .stack) e, marked (finds N (p .marks)) (finds-unused N (p .marks)) (p .stack))))
     (λ e. e)
 
 many-map-le : (p : ℕ → Bool) (f : ℕ → ℕ) (es : List ℕ) → many p (map f es) ≤ length es
 many-map-le p f es = omega (arith, many-le p (map f es), length-map es f)
 
 -- the rules' expansion at level 0
-pub expand-settles : (F : Field) (m : Marks) (es : List ℕ)
-    → any (finds F (expand F 0 m es .marks)) (expand F 0 m es .stack) ≡ false
+pub expand-settles : (N : Net) (m : Marks) (es : List ℕ)
+    → any (finds N (expand N 0 m es .marks)) (expand N 0 m es .stack) ≡ false
 unfolding expand if_then_else_
-expand-settles F m es = settles F (suc (length es)) _ (suc-le-suc (many-map-le unused _ es))
+expand-settles N m es = settles N (suc (length es)) _ (suc-le-suc (many-map-le unused _ es))

@@ -1,11 +1,12 @@
--- Spans that no stack gets: owned, or so near to a border that their stack is past the eight. A block of them is passed over.
+-- Spans that no stack gets: owned, or so near to a border that their stack is past the eight.
+-- A block of them is passed over, since each leaves the sorted stacks as they were.
 use Prim.Native.Nat.{ℕ, zero, suc, _+_, _-_, _*_, _/_, _≤_, _<_}
 use native.Mathlib.Omega.{arith}
 use native.Mathlib.Nat.{add-zero}
 use native.Mathlib.Numerals.{add-one}
 use native.Mathlib.Decide.{ℕ-discrete}
 use mathlib.Core.Path.{_≡_, refl, sym, _∙_}
-use mathlib.Core.Bool.{Bool, true, false, _&&_, _||_}
+use mathlib.Core.Bool.{Bool, false, _&&_, _||_}
 use mathlib.Core.List.{List}
 use lib.ListN.{length, getD, take, drop, length-drop}
 use lib.Seq.{getD-take, getD-drop, length-take-le}
@@ -13,7 +14,7 @@ use lib.Dec.{eqb, leb}
 use borrow.Author.Tests.{eq-eqb, leb-false}
 use Rattle.rules.specs.Base.{_and_, _or_}
 use Rattle.laws.proofs.Basics.{neither, code-and, code-or}
-use Rattle.levels.specs.Levels.{levelsAt, Fills, sortedTo, anyOpen, Moved}
+use Rattle.levels.specs.Levels.{lastStack, blockSize, levelsAt, Fills, sortedTo, anyOpen, Moved}
 use Rattle.levels.proofs.LevelLaws.{moved-none}
 use Rattle.levels.proofs.SortLaws.{skip-id, skip-high}
 
@@ -33,15 +34,16 @@ module _ (dist ids : List ℕ) (from i : ℕ) (found : Bool) (e : found ≡ anyO
 -- ---------------------------------------------------------------- a block without one
 
 module _ (area dist ids : List ℕ) (level : ℕ) where
-  skip-one : (i : ℕ) → (eqb (getD ids i 0) 0 and leb (2 * (level / 2 - 7)) (getD dist i 0)) ≡ false → sortedTo area dist ids level (i + 1) ≡ sortedTo area dist ids level i
+  skip-one : (i : ℕ) → (eqb (getD ids i 0) 0 and leb (2 * (level / 2 - lastStack)) (getD dist i 0)) ≡ false
+      → sortedTo area dist ids level (i + 1) ≡ sortedTo area dist ids level i
   unfolding _and_
   skip-one i e = elim (ℕ-discrete (getD ids i 0) 0) [
-    | yes q ↦ let h : getD dist i 0 < 2 * (level / 2 - 7) = leb-false _ _ (rw (eq-eqb _ 0 q) at e) in skip-high area dist ids level i _ refl (omega arith)
+    | yes q ↦ let h : getD dist i 0 < 2 * (level / 2 - lastStack) = leb-false _ _ (rw (eq-eqb _ 0 q) at e) in skip-high area dist ids level i _ refl (omega arith)
     | no q ↦ skip-id area dist ids level i q
   ]
 
   -- the first k of m spans from i on
-  skip-many : (i m k : ℕ) → k ≤ m → anyOpen (take m (drop i dist)) (take m (drop i ids)) (2 * (level / 2 - 7)) k ≡ false
+  skip-many : (i m k : ℕ) → k ≤ m → anyOpen (take m (drop i dist)) (take m (drop i ids)) (2 * (level / 2 - lastStack)) k ≡ false
       → sortedTo area dist ids level (i + k) ≡ sortedTo area dist ids level i
   unfolding anyOpen
   skip-many i m zero h e = rw (add-zero i)
@@ -52,12 +54,12 @@ module _ (area dist ids : List ℕ) (level : ℕ) where
       let n : i + suc k ≡ i + k + 1 = omega arith in
       rw n (skip-one (i + k) (rw (d, r) at (a .0)) ∙ skip-many i m k (omega arith) (a .1))
 
-  pub moved-over : (from i : ℕ) (ws : List ℕ) (base : ℕ) (fs : List ℕ) (b : Bool) → length dist ≡ length area → i + 16 ≤ length area → from ≡ 2 * (level / 2 - 7)
-      → Fills (length area) fs → levelsAt ws base (length area) fs ≡ sortedTo area dist ids level i
-      → b ≡ anyOpen (take (i + 16 - i) (drop i dist)) (take (i + 16 - i) (drop i ids)) from (length (take (i + 16 - i) (drop i dist))) → b ≡ false
-      → Moved (length area) base ws fs ws fs (sortedTo area dist ids level (i + 16))
-  moved-over from i ws base fs b l h g f s q e =
-      let n : i + 16 - i ≡ 16 = omega arith in
-      let m : length (take 16 (drop i dist)) ≡ 16 = length-take-le 16 (drop i dist) (rw (length-drop i dist) (omega arith)) in
-      let z : anyOpen (take 16 (drop i dist)) (take 16 (drop i ids)) (2 * (level / 2 - 7)) 16 ≡ false = rw (n, m, g) at (sym q ∙ e) in
-      moved-none ws (length area) base fs _ f (s ∙ sym (skip-many i 16 16 (omega arith) z))
+  pub moved-over : (from i : ℕ) (ws fs : List ℕ) (b : Bool) → length dist ≡ length area → i + blockSize ≤ length area → from ≡ 2 * (level / 2 - lastStack)
+      → Fills (length area) fs → levelsAt ws (length area) fs ≡ sortedTo area dist ids level i
+      → b ≡ anyOpen (take (i + blockSize - i) (drop i dist)) (take (i + blockSize - i) (drop i ids)) from (length (take (i + blockSize - i) (drop i dist))) → b ≡ false
+      → Moved (length area) ws fs ws fs (sortedTo area dist ids level (i + blockSize))
+  moved-over from i ws fs b l h g f s q e =
+      let n : i + blockSize - i ≡ blockSize = omega arith in
+      let m : length (take blockSize (drop i dist)) ≡ blockSize = length-take-le blockSize (drop i dist) (rw (length-drop i dist) (omega arith)) in
+      let z : anyOpen (take blockSize (drop i dist)) (take blockSize (drop i ids)) (2 * (level / 2 - lastStack)) blockSize ≡ false = rw (n, m, g) at (sym q ∙ e) in
+      moved-none ws (length area) fs _ f (s ∙ sym (skip-many i blockSize blockSize (omega arith) z))

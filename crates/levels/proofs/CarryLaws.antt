@@ -7,20 +7,19 @@ use mathlib.Core.Path.{_≡_, refl, _∙_}
 use mathlib.Core.List.{List, [], _∷_, _++_, append-nil, append-assoc}
 use lib.ListN.{length, getD, set, drop, length-set, length-append}
 use lib.Seq.{set-getD, set-set, getD-set-same}
-use Rattle.rules.specs.Field.{none}
-use Rattle.rules.specs.Growth.{Marks, remains}
+use Rattle.rules.specs.Growth.{remains}
 use Rattle.laws.proofs.Basics.{All, keep-all, keep-length, append-all, set-cases}
-use Rattle.levels.specs.Levels.{joined, total, Stacked}
+use Rattle.levels.specs.Levels.{stackCount, Entry, appended, total, Stacked}
 
--- ---------------------------------------------------------------- joined
+-- ---------------------------------------------------------------- appended
 
-pub joined-none : (k : ℕ) (ls : List (List ℕ)) → joined k [] ls ≡ ls
-unfolding joined
-joined-none k ls = rw (append-nil (getD ls k [])) (set-getD ls k [])
+pub appended-none : (k : ℕ) (ls : List (List ℕ)) → appended k [] ls ≡ ls
+unfolding appended
+appended-none k ls = rw (append-nil (getD ls k [])) (set-getD ls k [])
 
-pub joined-joined : (k : ℕ) (xs ys : List ℕ) (ls : List (List ℕ)) → k < length ls → joined k ys (joined k xs ls) ≡ joined k (xs ++ ys) ls
-unfolding joined
-joined-joined k xs ys ls h = rw (getD-set-same ls k (getD ls k [] ++ xs) [] h, set-set ls k (getD ls k [] ++ xs) (getD ls k [] ++ xs ++ ys), append-assoc (getD ls k []) xs ys)
+pub appended-appended : (k : ℕ) (xs ys : List ℕ) (ls : List (List ℕ)) → k < length ls → appended k ys (appended k xs ls) ≡ appended k (xs ++ ys) ls
+unfolding appended
+appended-appended k xs ys ls h = rw (getD-set-same ls k (getD ls k [] ++ xs) [] h, set-set ls k (getD ls k [] ++ xs) (getD ls k [] ++ xs ++ ys), append-assoc (getD ls k []) xs ys)
 
 -- ---------------------------------------------------------------- how many entries
 
@@ -30,11 +29,11 @@ one-of-total [] k = le-refl 0
 one-of-total (l ∷ ls) zero = omega arith
 one-of-total (l ∷ ls) (suc k) = omega (arith, one-of-total ls k)
 
-pub total-joined : (k : ℕ) (ys : List ℕ) (ls : List (List ℕ)) → total (joined k ys ls) ≤ total ls + length ys
-unfolding total joined
-total-joined k ys [] = omega arith
-total-joined zero ys (l ∷ ls) = omega (arith, length-append l ys)
-total-joined (suc k) ys (l ∷ ls) = omega (arith, total-joined k ys ls)
+pub total-appended : (k : ℕ) (ys : List ℕ) (ls : List (List ℕ)) → total (appended k ys ls) ≤ total ls + length ys
+unfolding total appended
+total-appended k ys [] = omega arith
+total-appended zero ys (l ∷ ls) = omega (arith, length-append l ys)
+total-appended (suc k) ys (l ∷ ls) = omega (arith, total-appended k ys ls)
 
 -- from stack j on
 total-from : (j : ℕ) (ls : List (List ℕ)) → j < length ls → total (drop j ls) ≡ length (getD ls j []) + total (drop (suc j) ls)
@@ -51,9 +50,9 @@ total-set (suc j) v (l ∷ ls) h = total-set j v ls (omega arith)
 
 -- ---------------------------------------------------------------- from turn to turn
 
-remains-few : (m : Marks) (es : List ℕ) → length (remains m es) ≤ length es
+pub remains-few : (ids : List ℕ) (es : List ℕ) → length (remains ids es) ≤ length es
 unfolding remains
-remains-few m es = keep-length _ es
+remains-few ids es = keep-length _ es
 
 -- the stack before is counted beside this one
 total-two : (j : ℕ) (ls : List (List ℕ)) → 0 < j → j < length ls → total (drop (j - 1) ls) ≡ length (getD ls (j - 1) []) + (length (getD ls j []) + total (drop (suc j) ls))
@@ -64,29 +63,29 @@ total-two j ls p h =
     omega arith
 
 -- what is appended at turn j, at most as many as the stack before has, fits
-pub stacked-room : (n j : ℕ) (ls : List (List ℕ)) → Stacked n ls (j - 1) → 0 < j → j < 8 → length (getD ls (j - 1) []) + length (getD ls j []) ≤ n
+pub stacked-room : (n j : ℕ) (ls : List (List ℕ)) → Stacked n ls (j - 1) → 0 < j → j < stackCount → length (getD ls (j - 1) []) + length (getD ls j []) ≤ n
 stacked-room n j ls s p h = omega (arith, s .room, total-two j ls p (omega (arith, s .eight)))
 
 -- what holds of every entry holds of those appended
-pub append-each : (P : ℕ → Type 0) (j i : ℕ) (m : Marks) (ls : List (List ℕ)) → ((k : ℕ) → All P (getD ls k [])) → (k : ℕ) → All P (getD (joined j (remains m (getD ls i [])) ls) k [])
-unfolding joined remains
-append-each P j i m ls h k = set-cases ls j _ [] k (All P) (append-all P (getD ls j []) (remains m (getD ls i [])) (h j) (keep-all P _ (getD ls i []) (h i))) (h k)
+append-each : (P : ℕ → Type 0) (j i : ℕ) (ids : List ℕ) (ls : List (List ℕ)) → ((k : ℕ) → All P (getD ls k [])) → (k : ℕ) → All P (getD (appended j (remains ids (getD ls i [])) ls) k [])
+unfolding appended remains
+append-each P j i ids ls h k = set-cases ls j _ [] k (All P) (append-all P (getD ls j []) (remains ids (getD ls i [])) (h j) (keep-all P _ (getD ls i []) (h i))) (h k)
 
-pub stacked-append : (n j : ℕ) (m : Marks) (ls : List (List ℕ)) → Stacked n ls (j - 1) → 0 < j → j < 8 → Stacked n (joined j (remains m (getD ls (j - 1) [])) ls) j
-unfolding joined remains
-stacked-append n j m ls s p h =
+pub stacked-append : (n j : ℕ) (ids : List ℕ) (ls : List (List ℕ)) → Stacked n ls (j - 1) → 0 < j → j < stackCount → Stacked n (appended j (remains ids (getD ls (j - 1) [])) ls) j
+unfolding appended remains
+stacked-append n j ids ls s p h =
     let src = getD ls (j - 1) [] in
     let dst = getD ls j [] in
     let a = total-two j ls p (omega (arith, s .eight)) in
-    let c = total-set j (dst ++ remains m src) ls (omega (arith, s .eight)) in
+    let c = total-set j (dst ++ remains ids src) ls (omega (arith, s .eight)) in
     record {
       eight = length-set ls j _ ∙ s .eight;
-      room = omega (arith, s .room, length-append dst (remains m src), remains-few m src);
-      inside = append-each _ j (j - 1) m ls (s .inside);
+      room = omega (arith, s .room, length-append dst (remains ids src), remains-few ids src);
+      inside = append-each _ j (j - 1) ids ls (s .inside);
     }
 
 -- entries of the turn's stack are marked used
-pub stacked-used : (n j : ℕ) (es : List ℕ) (ls : List (List ℕ)) → Stacked n ls j → j < 8 → length es ≡ length (getD ls j []) → All (λ e. (e ≡ none → ⊥) → e < n) es
+pub stacked-used : (n j : ℕ) (es : List ℕ) (ls : List (List ℕ)) → Stacked n ls j → j < stackCount → length es ≡ length (getD ls j []) → All (Entry n) es
     → Stacked n (set ls j es) j
 stacked-used n j es ls s h l a =
     let b = total-from j ls (omega (arith, s .eight)) in

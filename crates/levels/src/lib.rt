@@ -5,31 +5,36 @@ ghost use Prim.Native.Nat.{_+_, _-_, _*_, _/_, _<_, _≤_};
 ghost use lib.ListN.{length, getD, replicate};
 ghost use lib.Dec.{eqb, leb};
 ghost use Rattle.rules.specs.Base.{_and_, _or_};
-ghost use Rattle.rules.specs.Field.{Field};
-ghost use Rattle.rules.specs.Growth.{Marks, sorted, remains};
-ghost use Rattle.levels.specs.Levels.{levelsAt, Fills, joined, sortedTo, anyOpen, left, Kept, Moved, Stacked};
+ghost use Rattle.rules.specs.Growth.{sorted, remains};
+ghost use Rattle.levels.specs.Levels.{stackCount, lastStack, blockSize, levelsAt, Fills, StackPart, SortLists, Entry};
+ghost use Rattle.levels.specs.Levels.{appended, Stacked, sortedTo, anyOpen, Kept, Moved};
 
-// The fill of each stack, beside the turn's number. Stack k lies at base + k * n .. base + (k + 1) * n of the workspace.
+const STACKS: usize = 8;
+
+// The number of the last stack.
+const LAST: u16 = 7;
+
+// So many spans are asked at a time whether there is one to sort.
+const BLOCK: usize = 16;
+
+// An entry that is used.
+const USED: u16 = 65535;
+
+// The fill of each stack, beside the turn's number. Stack k lies at k * n .. (k + 1) * n of the part that is lent for the stacks.
 pub struct LevelStacks {
-    pub fills: [u16; 8],
+    pub fills: [u16; STACKS],
     pub turn: usize,
 }
 
 // One more entry on stack k.
-fn push_level(
-    ws: &mut [u16],
-    base: usize,
-    n: usize,
-    l: LevelStacks,
-    k: usize,
-    x: u16,
-) -> LevelStacks
-    requires { ⌜ (k < 8) × (n ≤ 65535) × (getD (l .fills) k 0 < n) × Fills n (l .fills) × (base + 8 * n ≤ length (now ws)) ⌝ }
-    ensures { λ r. ⌜ Moved n base (now (ws .entry)) (l .fills) (now (ws .exit)) (r .fills) (joined k (x ∷ []) (levelsAt (now (ws .entry)) base n (l .fills))) ⌝ }
+fn push_level(stacks: &mut [u16], n: usize, l: LevelStacks, k: usize, x: u16) -> LevelStacks
+    requires { ⌜ StackPart n (now stacks) × Fills n (l .fills) × (k < stackCount) × (getD (l .fills) k 0 < n) ⌝ }
+    ensures { λ r. ⌜ (let before = levelsAt (now (stacks .entry)) n (l .fills) in
+        Moved n (now (stacks .entry)) (l .fills) (now (stacks .exit)) (r .fills) (appended k (x ∷ []) before)) ⌝ }
     ensures { λ r. ⌜ r .turn ≡ l .turn ⌝ }
 {
     let f = l.fills[k];
-    ws[base + (k * n + f as usize)] = x;
+    stacks[k * n + f as usize] = x;
     let mut out = l;
     out.fills[k] = f + 1;
     out
@@ -52,27 +57,28 @@ fn sort_one(
     area: &[u8],
     dist: &[u16],
     ids: &[u16],
-    ws: &mut [u16],
-    base: usize,
+    stacks: &mut [u16],
     level: u16,
     l: LevelStacks,
     i: usize,
 ) -> LevelStacks
-    requires { ⌜ (length (now area) ≤ 65535) × (length (now dist) ≡ length (now area)) × (length (now ids) ≡ length (now area)) × (base + 8 * length (now area) ≤ length (now ws)) × (i < length (now area)) × Fills (length (now area)) (l .fills) × (levelsAt (now ws) base (length (now area)) (l .fills) ≡ sortedTo (now area) (now dist) (now ids) level i) ⌝ }
-    ensures { λ r. ⌜ Moved (length (now (area .entry))) base (now (ws .entry)) (l .fills) (now (ws .exit)) (r .fills) (sortedTo (now (area .entry)) (now (dist .entry)) (now (ids .entry)) level (i + 1)) ⌝ }
+    requires { ⌜ SortLists (now area) (now dist) (now ids) (now stacks) × Fills (length (now area)) (l .fills) × (i < length (now area)) ⌝ }
+    requires { ⌜ levelsAt (now stacks) (length (now area)) (l .fills) ≡ sortedTo (now area) (now dist) (now ids) level i ⌝ }
+    ensures { λ r. ⌜ (let after = sortedTo (now (area .entry)) (now (dist .entry)) (now (ids .entry)) level (i + 1) in
+        Moved (length (now (area .entry))) (now (stacks .entry)) (l .fills) (now (stacks .exit)) (r .fills) after) ⌝ }
     ensures { λ r. ⌜ r .turn ≡ l .turn ⌝ }
 {
     if ids[i] != 0 {
         return l;
     }
     let k = stack_of(level, dist[i]);
-    if 8 <= k {
+    if STACKS <= k {
         return l;
     }
     if area[i] == 0 {
         return l;
     }
-    push_level(ws, base, area.len(), l, k, i as u16)
+    push_level(stacks, area.len(), l, k, i as u16)
 }
 
 // The spans from i up to e go to their stacks.
@@ -80,35 +86,36 @@ fn sort_some(
     area: &[u8],
     dist: &[u16],
     ids: &[u16],
-    ws: &mut [u16],
-    base: usize,
+    stacks: &mut [u16],
     level: u16,
     l: LevelStacks,
     i: usize,
     e: usize,
 ) -> LevelStacks
-    requires { ⌜ (length (now area) ≤ 65535) × (length (now dist) ≡ length (now area)) × (length (now ids) ≡ length (now area)) × (base + 8 * length (now area) ≤ length (now ws)) × (i ≤ e) × (e ≤ length (now area)) × Fills (length (now area)) (l .fills) × (levelsAt (now ws) base (length (now area)) (l .fills) ≡ sortedTo (now area) (now dist) (now ids) level i) ⌝ }
-    ensures { λ r. ⌜ Moved (length (now (area .entry))) base (now (ws .entry)) (l .fills) (now (ws .exit)) (r .fills) (sortedTo (now (area .entry)) (now (dist .entry)) (now (ids .entry)) level e) ⌝ }
+    requires { ⌜ SortLists (now area) (now dist) (now ids) (now stacks) × Fills (length (now area)) (l .fills) × (i ≤ e) × (e ≤ length (now area)) ⌝ }
+    requires { ⌜ levelsAt (now stacks) (length (now area)) (l .fills) ≡ sortedTo (now area) (now dist) (now ids) level i ⌝ }
+    ensures { λ r. ⌜ (let after = sortedTo (now (area .entry)) (now (dist .entry)) (now (ids .entry)) level e in
+        Moved (length (now (area .entry))) (now (stacks .entry)) (l .fills) (now (stacks .exit)) (r .fills) after) ⌝ }
     ensures { λ r. ⌜ r .turn ≡ l .turn ⌝ }
 {
     let mut out = l;
     let mut k = i;
     while k < e {
-        out = sort_one(area, dist, ids, ws, base, level, out, k);
+        out = sort_one(area, dist, ids, stacks, level, out, k);
         k += 1;
     }
     out
 }
 
-// The least distance whose stack is below 8.
+// The least distance whose stack is one of the eight.
 fn least(level: u16) -> u16
-    ensures { λ r. ⌜ r ≡ 2 * (level / 2 - 7) ⌝ }
+    ensures { λ r. ⌜ r ≡ 2 * (level / 2 - lastStack) ⌝ }
 {
     let a = level / 2;
-    if a < 8 {
+    if a <= LAST {
         return 0;
     }
-    2 * (a - 7)
+    2 * (a - LAST)
 }
 
 // Found before, or a span of that id and distance may go to a stack. No branch, so that the compiler can take many at once.
@@ -132,24 +139,26 @@ fn any_open(dist: &[u16], ids: &[u16], from: u16) -> bool
     found
 }
 
-// The sixteen spans from i on go to their stacks. Most blocks have none to sort, and are passed over.
+// The block of spans from i on goes to their stacks. Most blocks have none to sort, and are passed over.
 fn sort_block(
     area: &[u8],
     dist: &[u16],
     ids: &[u16],
-    ws: &mut [u16],
-    base: usize,
+    stacks: &mut [u16],
     level: u16,
     from: u16,
     l: LevelStacks,
     i: usize,
 ) -> LevelStacks
-    requires { ⌜ (length (now area) ≤ 65535) × (length (now dist) ≡ length (now area)) × (length (now ids) ≡ length (now area)) × (base + 8 * length (now area) ≤ length (now ws)) × (i + 16 ≤ length (now area)) × (from ≡ 2 * (level / 2 - 7)) × Fills (length (now area)) (l .fills) × (levelsAt (now ws) base (length (now area)) (l .fills) ≡ sortedTo (now area) (now dist) (now ids) level i) ⌝ }
-    ensures { λ r. ⌜ Moved (length (now (area .entry))) base (now (ws .entry)) (l .fills) (now (ws .exit)) (r .fills) (sortedTo (now (area .entry)) (now (dist .entry)) (now (ids .entry)) level (i + 16)) ⌝ }
+    requires { ⌜ SortLists (now area) (now dist) (now ids) (now stacks) × Fills (length (now area)) (l .fills) × (i + blockSize ≤ length (now area)) ⌝ }
+    requires { ⌜ levelsAt (now stacks) (length (now area)) (l .fills) ≡ sortedTo (now area) (now dist) (now ids) level i ⌝ }
+    requires { ⌜ from ≡ 2 * (level / 2 - lastStack) ⌝ }
+    ensures { λ r. ⌜ (let after = sortedTo (now (area .entry)) (now (dist .entry)) (now (ids .entry)) level (i + blockSize) in
+        Moved (length (now (area .entry))) (now (stacks .entry)) (l .fills) (now (stacks .exit)) (r .fills) after) ⌝ }
     ensures { λ r. ⌜ r .turn ≡ l .turn ⌝ }
 {
-    if any_open(&dist[i..i + 16], &ids[i..i + 16], from) {
-        return sort_some(area, dist, ids, ws, base, level, l, i, i + 16);
+    if any_open(&dist[i..i + BLOCK], &ids[i..i + BLOCK], from) {
+        return sort_some(area, dist, ids, stacks, level, l, i, i + BLOCK);
     }
     l
 }
@@ -160,66 +169,63 @@ pub fn sort_cells_by_level(
     area: &[u8],
     dist: &[u16],
     ids: &[u16],
-    ws: &mut [u16],
-    base: usize,
+    stacks: &mut [u16],
     level: u16,
 ) -> LevelStacks
-    requires { ⌜ (length (now area) ≤ 65535) × (length (now dist) ≡ length (now area)) × (length (now ids) ≡ length (now area)) × (base + 8 * length (now area) ≤ length (now ws)) ⌝ }
-    ensures { λ r. ⌜ ((F : Field) (m : Marks) → F .area ≡ now (area .entry) → m .ids ≡ now (ids .entry) → levelsAt (now (ws .exit)) base (length (now (area .entry))) (r .fills) ≡ sorted F (now (dist .entry)) m level) ⌝ }
-    ensures { λ r. ⌜ Kept (length (now (area .entry))) base (now (ws .entry)) (replicate 8 0) (now (ws .exit)) (r .fills) ⌝ }
-    ensures { λ r. ⌜ Stacked (length (now (area .entry))) (levelsAt (now (ws .exit)) base (length (now (area .entry))) (r .fills)) 0 ⌝ }
+    requires { ⌜ SortLists (now area) (now dist) (now ids) (now stacks) ⌝ }
+    ensures { λ r. ⌜ (let n = length (now (area .entry)) in
+        levelsAt (now (stacks .exit)) n (r .fills) ≡ sorted (now (area .entry)) (now (dist .entry)) (now (ids .entry)) level) ⌝ }
+    ensures { λ r. ⌜ Kept (length (now (area .entry))) (now (stacks .entry)) (replicate stackCount 0) (now (stacks .exit)) (r .fills) ⌝ }
+    ensures { λ r. ⌜ (let n = length (now (area .entry)) in
+        Stacked n (levelsAt (now (stacks .exit)) n (r .fills)) 0) ⌝ }
     ensures { λ r. ⌜ r .turn ≡ 0 ⌝ }
 {
     let mut l = LevelStacks {
-        fills: [0u16; 8],
+        fills: [0u16; STACKS],
         turn: 0,
     };
     let from = least(level);
     let n = area.len();
     let mut i = 0;
-    while 16 <= n - i {
-        l = sort_block(area, dist, ids, ws, base, level, from, l, i);
-        i += 16;
+    while BLOCK <= n - i {
+        l = sort_block(area, dist, ids, stacks, level, from, l, i);
+        i += BLOCK;
     }
-    sort_some(area, dist, ids, ws, base, level, l, i, n)
+    sort_some(area, dist, ids, stacks, level, l, i, n)
 }
 
 // Entry i of the stack before goes on stack j, if it remains.
-fn append_one(
-    ids: &[u16],
-    ws: &mut [u16],
-    base: usize,
-    l: LevelStacks,
-    j: usize,
-    i: usize,
-) -> LevelStacks
-    requires { ⌜ (length (now ids) ≤ 65535) × (base + 8 * length (now ids) ≤ length (now ws)) × (0 < j) × (j < 8) × Fills (length (now ids)) (l .fills) × (getD (l .fills) j 0 < length (now ids)) × (i < length (now ids)) × ((getD (now ws) (base + ((j - 1) * length (now ids) + i)) 0 ≡ 65535 → ⊥) → getD (now ws) (base + ((j - 1) * length (now ids) + i)) 0 < length (now ids)) ⌝ }
-    ensures { λ r. ⌜ Moved (length (now (ids .entry))) base (now (ws .entry)) (l .fills) (now (ws .exit)) (r .fills) (joined j (left (now (ids .entry)) (getD (now (ws .entry)) (base + ((j - 1) * length (now (ids .entry)) + i)) 0 ∷ [])) (levelsAt (now (ws .entry)) base (length (now (ids .entry))) (l .fills))) ⌝ }
+fn append_one(ids: &[u16], stacks: &mut [u16], l: LevelStacks, j: usize, i: usize) -> LevelStacks
+    requires { ⌜ StackPart (length (now ids)) (now stacks) × Fills (length (now ids)) (l .fills) × (0 < j) × (j < stackCount) ⌝ }
+    requires { ⌜ (getD (l .fills) j 0 < length (now ids)) × (i < length (now ids)) ⌝ }
+    requires { ⌜ Entry (length (now ids)) (getD (now stacks) ((j - 1) * length (now ids) + i) 0) ⌝ }
+    ensures { λ r. ⌜ (let n = length (now (ids .entry)) in
+        let one = getD (now (stacks .entry)) ((j - 1) * n + i) 0 ∷ [] in
+        let before = levelsAt (now (stacks .entry)) n (l .fills) in
+        Moved n (now (stacks .entry)) (l .fills) (now (stacks .exit)) (r .fills) (appended j (remains (now (ids .entry)) one) before)) ⌝ }
     ensures { λ r. ⌜ r .turn ≡ l .turn ⌝ }
 {
     let n = ids.len();
-    let e = ws[base + ((j - 1) * n + i)];
-    if e == 65535 {
+    let e = stacks[(j - 1) * n + i];
+    if e == USED {
         return l;
     }
     if ids[e as usize] != 0 {
         return l;
     }
-    push_level(ws, base, n, l, j, e)
+    push_level(stacks, n, l, j, e)
 }
 
 // "At other turns, what remains of the stack before is appended to this turn's."
-pub fn append_stacks(
-    ids: &[u16],
-    ws: &mut [u16],
-    base: usize,
-    l: LevelStacks,
-    j: usize,
-) -> LevelStacks
-    requires { ⌜ (length (now ids) ≤ 65535) × (base + 8 * length (now ids) ≤ length (now ws)) × (0 < j) × (j < 8) × Fills (length (now ids)) (l .fills) × Stacked (length (now ids)) (levelsAt (now ws) base (length (now ids)) (l .fills)) (j - 1) ⌝ }
-    ensures { λ r. ⌜ ((m : Marks) → m .ids ≡ now (ids .entry) → levelsAt (now (ws .exit)) base (length (now (ids .entry))) (r .fills) ≡ joined j (remains m (getD (levelsAt (now (ws .entry)) base (length (now (ids .entry))) (l .fills)) (j - 1) [])) (levelsAt (now (ws .entry)) base (length (now (ids .entry))) (l .fills))) ⌝ }
-    ensures { λ r. ⌜ Kept (length (now (ids .entry))) base (now (ws .entry)) (l .fills) (now (ws .exit)) (r .fills) ⌝ }
-    ensures { λ r. ⌜ Stacked (length (now (ids .entry))) (levelsAt (now (ws .exit)) base (length (now (ids .entry))) (r .fills)) j ⌝ }
+pub fn append_stacks(ids: &[u16], stacks: &mut [u16], l: LevelStacks, j: usize) -> LevelStacks
+    requires { ⌜ StackPart (length (now ids)) (now stacks) × Fills (length (now ids)) (l .fills) × (0 < j) × (j < stackCount) ⌝ }
+    requires { ⌜ Stacked (length (now ids)) (levelsAt (now stacks) (length (now ids)) (l .fills)) (j - 1) ⌝ }
+    ensures { λ r. ⌜ (let n = length (now (ids .entry)) in
+        let before = levelsAt (now (stacks .entry)) n (l .fills) in
+        levelsAt (now (stacks .exit)) n (r .fills) ≡ appended j (remains (now (ids .entry)) (getD before (j - 1) [])) before) ⌝ }
+    ensures { λ r. ⌜ Kept (length (now (ids .entry))) (now (stacks .entry)) (l .fills) (now (stacks .exit)) (r .fills) ⌝ }
+    ensures { λ r. ⌜ (let n = length (now (ids .entry)) in
+        Stacked n (levelsAt (now (stacks .exit)) n (r .fills)) j) ⌝ }
     ensures { λ r. ⌜ r .turn ≡ j ⌝ }
 {
     let src = j - 1;
@@ -228,7 +234,7 @@ pub fn append_stacks(
     out.turn = j;
     let mut i: usize = 0;
     while i < count {
-        out = append_one(ids, ws, base, out, j, i);
+        out = append_one(ids, stacks, out, j, i);
         i += 1;
     }
     out

@@ -11,7 +11,8 @@ use lib.Seq.{ext-getD}
 use lib.Dec.{eqb, leb, ltb}
 use borrow.Author.Tests.{ne-eqb, eq-eqb, le-leb, lt-ltb, leb-true, ltb-true}
 use Rattle.rules.specs.Base.{_and_, if_then_else_, tab}
-use Rattle.rules.specs.Field.{Field, spans, cellOf, areaOf}
+use Rattle.rules.specs.Field.{Field, spans, cellOf}
+use Rattle.rules.specs.Net.{areaOf}
 use Rattle.rules.specs.Growth.{walkable, paintOf, painted, firstId}
 use Rattle.laws.proofs.Basics.{tab-at, length-tab, same-test}
 use Rattle.laws.proofs.Cells.{cellOf-in}

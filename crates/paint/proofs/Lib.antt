@@ -1,4 +1,3 @@
 pub mod PutLaws
 pub mod CellLaws
 pub mod BorderLaws
-pub mod FillLaws

@@ -40,7 +40,3 @@ inCell count c s = eqb (cellOf count s) c
 -- span s is in a cell of columns x₀ to below x₁ and rows z₀ to below z₁
 unfoldable pub inRect : ℕ → List ℕ → ℕ → ℕ → ℕ → ℕ → ℕ → Bool
 inRect w count x₀ x₁ z₀ z₁ s = between x₀ x₁ (cellOf count s % w) and between z₀ z₁ (cellOf count s / w)
-
--- the cell of each span of the cells below c, and the rest as it was
-unfoldable pub cellsTo : List ℕ → ℕ → List ℕ → List ℕ
-cellsTo count c l = tab (length l) 0 (λ s. if ltb (cellOf count s) c then cellOf count s else getD l s 0)

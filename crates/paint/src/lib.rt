@@ -1,13 +1,10 @@
 // The border's painting (flood and expansion rule 1), and the cell of each span.
 ghost use mathlib.Core.Path.{_≡_};
-ghost use mathlib.Core.List.{_++_};
-ghost use Prim.Native.Nat.{ℕ, _+_, _*_, _<_, _≤_, min};
-ghost use lib.ListN.{length, getD, take, drop, replicate};
-ghost use Rattle.rules.specs.Base.{tab};
-ghost use Rattle.rules.specs.Field.{Field, cellOf};
+ghost use Prim.Native.Nat.{_+_, _*_, _<_, _≤_, min};
+ghost use lib.ListN.{length, getD, replicate};
+ghost use Rattle.rules.specs.Field.{Field};
 ghost use Rattle.rules.specs.Growth.{painted, firstId};
-ghost use Rattle.space.specs.Space.{Frame};
-ghost use Rattle.paint.specs.Paint.{Plot, putIf, walkIn, between, spanIs, inCell, inRect};
+ghost use Rattle.paint.specs.Paint.{Plot, putIf, walkIn, spanIs, inCell, inRect};
 
 // Span i, if walkable.
 fn paint_span(area: &[u8], ids: &mut [u16], i: usize, region: u16)
@@ -149,39 +146,4 @@ pub fn paint_border(
     paint_rect_region(w, index, count, area, ids, 0, w, 0, border_height, 0x8003);
     paint_rect_region(w, index, count, area, ids, 0, w, high, h, 0x8004);
     5
-}
-
-// The spans of cell c, from first to below last, get its number.
-fn fill_cell(cells: &mut [u16], first: usize, last: usize, c: u16)
-    requires { ⌜ (first ≤ last) × ((i : ℕ) → first ≤ i → i < last → i < length (now cells)) ⌝ }
-    ensures { λ _. ⌜ now (cells .exit) ≡ putIf (between first last) c (now (cells .entry)) ⌝ }
-{
-    let mut i = first;
-    while i < last {
-        cells[i] = c;
-        i += 1;
-    }
-}
-
-fn fill_part(index: &[u32], count: &[u8], cells: &mut [u16])
-    requires { ⌜ Plot (now index) (now count) (length (now cells)) ⌝ }
-    ensures { λ _. ⌜ now (cells .exit) ≡ tab (length (now (cells .entry))) 0 (cellOf (now (count .entry))) ⌝ }
-{
-    let mut c = 0;
-    while c < count.len() {
-        let first = first_span(index, c);
-        let last = first + span_count(count, c);
-        fill_cell(cells, first, last, c as u16);
-        c += 1;
-    }
-}
-
-// The cell of each of the n spans, from base on.
-pub fn fill_cells(index: &[u32], count: &[u8], ws: &mut [u16], base: usize, n: usize)
-    requires { ⌜ (base + n ≤ length (now ws)) × Plot (now index) (now count) n ⌝ }
-    ensures { λ _. ⌜ now (ws .exit) ≡ take base (now (ws .entry)) ++ (tab n 0 (cellOf (now (count .entry))) ++ drop (base + n) (now (ws .entry))) ⌝ }
-    ensures { λ _. ⌜ Frame base (base + n) (now (ws .entry)) (now (ws .exit)) ⌝ }
-{
-    let end = base + n;
-    fill_part(index, count, &mut ws[base..end]);
 }

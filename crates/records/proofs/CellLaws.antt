@@ -10,14 +10,24 @@ use mathlib.Core.List.{List, [], _∷_, map}
 use lib.ListN.{length, getD, set, take, drop, length-set, length-take}
 use lib.Seq.{getD-take, take-suc-set}
 use lib.Dec.{eqb, leb·suc-suc}
-use borrow.Author.Tests.{eqb-true, eq-eqb, ne-eqb, lt-ltb, le-ltb}
+use borrow.Author.Tests.{eqb-true, eq-eqb, ne-eqb, lt-ltb, le-ltb, leb-true, leb-false}
 use Rattle.rules.specs.Base.{_and_, _or_, if_then_else_, keep, tab, any}
-use Rattle.rules.specs.Growth.{plain}
+use Rattle.rules.specs.Growth.{flagged, plain}
 use Rattle.rules.specs.Merge.{place}
 use Rattle.rules.specs.Records.{has, once}
 use Rattle.laws.proofs.Basics.{if-ind, or-right, or-no, or-yes, or-swap}
+use Rattle.laws.proofs.Plain.{plain-flagged, plain-yes}
 use Rattle.table.proofs.SearchLaws.{has-cons, place-other, place-first}
 use Rattle.records.specs.Cell.{twin, twins, othersFrom, joinOne, Found, Joined}
+
+-- ---------------------------------------------------------------- ids of regions, as the code tests for them
+
+module _ (r : ℕ) (b : Bool) (e : b ≡ flagged r) where
+  pub border-not : b ≡ true → plain r ≡ false
+  border-not t = plain-flagged r (leb-true 32768 r (sym e ∙ t))
+
+  pub region-yes : (r ≡ 0 → ⊥) → b ≡ false → plain r ≡ true
+  region-yes n f = plain-yes r n (leb-false 32768 r (sym e ∙ f))
 
 -- ---------------------------------------------------------------- the own id
 
@@ -46,9 +56,10 @@ module _ (ids : List ℕ) (s own size t j : ℕ) (b : Bool) (e : b or twins ids 
       let z : twins ids s own (size - j) (t + j) ≡ false = rw q refl in
       sym (or-no b) ∙ sym (ap (λ x. b or x) z) ∙ e
 
-  pub twins-go : (c : Bool) → j < size → c ≡ b or twin ids (t + j) s own → c or twins ids s own (size - (j + 1)) (t + (j + 1)) ≡ twins ids s own size t
+  pub twins-go : (u : ℕ) → u ≡ t + j → (c : Bool) → j < size → c ≡ b or twin ids u s own → c or twins ids s own (size - (j + 1)) (t + (j + 1)) ≡ twins ids s own size t
   unfolding twins
-  twins-go c g q =
+  twins-go u eu c g v =
+      let q : c ≡ b or twin ids (t + j) s own = rw eu at v in
       let f : size - j ≡ suc (size - (j + 1)) = omega arith in
       let a : t + (j + 1) ≡ t + j + 1 = omega arith in
       let z : twins ids s own (size - j) (t + j) ≡ twin ids (t + j) s own or twins ids s own (size - (j + 1)) (t + (j + 1)) = rw (f, a) refl in

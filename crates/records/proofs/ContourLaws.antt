@@ -5,29 +5,39 @@ use native.Mathlib.Omega.{arith}
 use mathlib.Core.Path.{_≡_, refl, sym, ap, _∙_}
 use mathlib.Core.Bool.{Bool, true, false}
 use mathlib.Core.List.{List}
-use lib.ListN.{length, getD, set}
-use lib.Seq.{getD-set-same}
+use lib.ListN.{length, getD, set, length-set}
+use lib.Seq.{getD-set-same, getD-set-other}
 use lib.Dec.{eqb}
 use borrow.Author.Tests.{eq-eqb, ne-eqb}
 use Rattle.rules.specs.Base.{if_then_else_}
-use Rattle.rules.specs.Field.{Field, areaOf}
+use Rattle.rules.specs.Net.{Net, areaOf}
+use Rattle.rules.specs.Contour.{firstSolid}
 use Rattle.rules.specs.Growth.{plain}
 use Rattle.rules.specs.Records.{Rec, at, fresh, onceAll}
 use Rattle.laws.proofs.Basics.{many-le}
-use Rattle.flood.proofs.Sight.{area-is}
-use Rattle.contour.specs.Ways.{Ways}
+use Rattle.space.specs.Space.{sec}
+use Rattle.net.specs.Table.{netAt}
+use Rattle.net.proofs.Tables.{area-at, net-same}
+use Rattle.contour.specs.Pool.{Start}
+use Rattle.contour.proofs.Areas.{first-areas, contour-areas}
+use Rattle.contour.proofs.WalkLaws.{ways-same}
 use Rattle.table.specs.View.{startOf, endOf, listAt, recAt, view, recsOf}
 use Rattle.table.proofs.ViewLaws.{list-length, view-at, view-length, recs-at}
 use Rattle.records.specs.Cell.{twins, othersFrom}
-use Rattle.records.specs.Rows.{Keeping, Step, Tracing, traced, plusOne, overlaid, floored, celled, withArea, withList, contoured}
-use Rattle.records.specs.Stock.{Reach, SomeReach}
+use Rattle.records.specs.Rows.{Keeping, Step, Slack, traced, marked, plusOne, overlaid, floored, celled, withArea, withList, contoured}
+use Rattle.records.specs.Map.{poolIn}
+use Rattle.records.specs.Stock.{Reach}
 use Rattle.records.proofs.CellLaws.{twins-alone, others-alone}
 use Rattle.records.proofs.RowLaws.{list-parts, floor-parts, count-room, step-then, store-start, store-end}
-use Rattle.records.proofs.StepLaws.{step-none, overlaid-not, step-one, step-area}
+use Rattle.records.proofs.StepLaws.{step-none, overlaid-not, step-one, step-area, step-marked}
 use Rattle.records.proofs.TraceLaws.{list-tracing}
 
-pub reach-span : (w : ℕ) (is ar cs ids : List ℕ) (c s : ℕ) → SomeReach w is ar cs ids c s → s < length ar
-reach-span w is ar cs ids c s x = omega (arith, x .reach .ways .spot .stands .span, ap length (x .reach .areas))
+-- a contour reads no area, so it is the same with ids in their place
+traced-areas : (table : ℕ) (ar ids ws : List ℕ) (s : ℕ) → length ids ≡ length ar → traced (netAt table ids ws) ids s ≡ traced (netAt table ar ws) ids s
+unfolding netAt traced
+traced-areas table ar ids ws s e =
+    let l = sec table (4 * length ar) ws in
+    rw (e, first-areas l ids ar ids s, contour-areas l ids ar ids s (firstSolid (record { neighbours = l; areas = ar }) ids s)) refl
 
 -- a step under another name
 step-as : (f g : Rec → Rec) (ids : List ℕ) (m r top k : ℕ) (ws ws′ : List ℕ) → f (at (recsOf ws m) r) ≡ g (at (recsOf ws m) r) → Step f ids m r top k ws ws′ → Step g ids m r top k ws ws′
@@ -46,11 +56,11 @@ module _ (ids : List ℕ) (m top k : ℕ) (ws : List ℕ) (K : Keeping ids m top
   long = list-length ws m (7 * m) r (list-parts ids m top k ws K) h
 
   -- a record that has a list stays
-  pub contour-there : a < e → (F : Field) (s : ℕ) → Step (contoured F ids s) ids m r top k ws ws
+  pub contour-there : a < e → (N : Net) (s : ℕ) → Step (contoured N ids s) ids m r top k ws ws
   unfolding contoured recAt if_then_else_
-  contour-there g F s =
+  contour-there g N s =
       let n : eqb (length (listAt ws m (7 * m) r)) 0 ≡ false = ne-eqb (length (listAt ws m (7 * m) r)) 0 (λ (z : length (listAt ws m (7 * m) r) ≡ 0). omega (arith, long)) in
-      step-none (contoured F ids s) ids m r top k ws K (rw (recs-at ws m r h, n))
+      step-none (contoured N ids s) ids m r top k ws K (rw (recs-at ws m r h, n))
 
   module _ (g : e ≤ a) where
     pub none-yet : endOf ws m (7 * m) r ≤ startOf ws m (7 * m) r
@@ -67,18 +77,32 @@ module _ (ids : List ℕ) (m top k : ℕ) (ws : List ℕ) (K : Keeping ids m top
     pub area-keeping : (v : ℕ) → Keeping ids m top k (set ws (2 * m + r) v)
     area-keeping v = step-area ids m top k ws K r h v .keeping
 
-    module _ (w : ℕ) (is ar cs : List ℕ) (c s : ℕ) (er : r ≡ getD ids s 0) where
-      pub area-tracing : (r ≡ 0 → ⊥) → SomeReach w is ar cs ids c s → (v : ℕ) → Tracing w is cs ids c s (15 * m) top (set ws (2 * m + r) v)
-      area-tracing own x v = list-tracing w is cs ids c s m top k (set ws (2 * m + r) v) (area-keeping v) r er h (none-after v) own (x .F) (x .reach .ways)
+    module _ (table : ℕ) (ar cs : List ℕ) (s v : ℕ) (R : Reach (record { records = m; table = table }) ar cs ids ws s) (er : r ≡ getD ids s 0) where
+      low : 2 * m + r < table
+      low = omega (arith, R .past)
 
-      pub contour-taken : (v t : ℕ) → v ≡ getD ar s 0 → (ws′ : List ℕ) → ((F : Field) → Ways F w is cs ids c s → Step (withList (traced F ids s)) ids m r t k (set ws (2 * m + r) v) ws′)
-          → (F : Field) → Reach F w is ar cs ids c s → Step (contoured F ids s) ids m r t k ws ws′
+      -- the area's store leaves the net
+      net-left : netAt table ids (set ws (2 * m + r) v) ≡ netAt table ids ws
+      net-left = net-same table ids ws (set ws (2 * m + r) v) (R .ways .lent .room) (length-set ws (2 * m + r) v)
+          (λ i g. getD-set-other ws (2 * m + r) i v 0 (λ z. omega (arith, low)))
+
+      pub area-tracing : (r ≡ 0 → ⊥) → Start (poolIn (record { records = m; table = table })) cs ids s top (set ws (2 * m + r) v)
+      area-tracing own =
+          list-tracing (record { records = m; table = table }) cs ids s top k (set ws (2 * m + r) v) (area-keeping v) r er h (none-after v) own
+          (ways-same table cs ids ws (set ws (2 * m + r) v) (length-set ws (2 * m + r) v) net-left (R .ways)) (R .span) (R .past)
+
+      pub contour-taken : (t : ℕ) → v ≡ getD ar s 0 → (ws′ : List ℕ)
+          → Step (withList (traced (netAt table ids (set ws (2 * m + r) v)) ids s)) ids m r t k (set ws (2 * m + r) v) ws′
+          → Step (contoured (netAt table ar ws) ids s) ids m r t k ws ws′
       unfolding contoured withList withArea recAt if_then_else_
-      contour-taken v t ev ws′ q F l =
-          let n : s < length ar = omega (arith, l .ways .spot .stands .span, ap length (l .areas)) in
-          let ar-is : areaOf F s ≡ v = area-is F ar s (l .areas) n ∙ sym ev in
-          step-as (λ x. withList (traced F ids s) (withArea v x)) (contoured F ids s) ids m r t k ws ws′ (rw (recs-at ws m r h, empty, ar-is))
-          (step-then (withArea v) (withList (traced F ids s)) ids m r top t k k ws (set ws (2 * m + r) v) ws′ h (step-area ids m top k ws K r h v) (q F (l .ways)))
+      contour-taken t ev ws′ q =
+          let N = netAt table ar ws in
+          let l : traced (netAt table ids (set ws (2 * m + r) v)) ids s ≡ traced N ids s =
+          ap (λ (x : Net). traced x ids s) net-left ∙ traced-areas table ar ids ws s (R .sized) in
+          let ar-is : areaOf N s ≡ v = area-at table ar ws s (omega (arith, R .span, R .sized)) ∙ sym ev in
+          let p : Step (withList (traced N ids s)) ids m r t k (set ws (2 * m + r) v) ws′ = rw (← l) q in
+          step-as (λ x. withList (traced N ids s) (withArea v x)) (contoured N ids s) ids m r t k ws ws′ (rw (recs-at ws m r h, empty, ar-is))
+          (step-then (withArea v) (withList (traced N ids s)) ids m r top t k k ws (set ws (2 * m + r) v) ws′ h (step-area ids m top k ws K r h v) p)
 
 -- ---------------------------------------------------------------- the cell
 
@@ -109,8 +133,7 @@ module _ (ids : List ℕ) (m top s : ℕ) (ws : List ℕ) (K : Keeping ids m top
     pub counted-keeping : Keeping ids m top (s + 1) ws₁
     counted-keeping = one₁ .keeping
 
-    -- one span more is counted than has given its floors
-    pub counted-slack : endOf ws₁ m (11 * m) r + 62 ≤ startOf ws₁ m (11 * m) r + 62 * getD ws₁ (m + r) 0
+    pub counted-slack : Slack m r ws₁
     unfolding plusOne recAt
     counted-slack =
         let e = step-at _ ids m r top (s + 1) ws ws₁ own-in one₁ in
@@ -118,13 +141,13 @@ module _ (ids : List ℕ) (m top s : ℕ) (ws : List ℕ) (K : Keeping ids m top
         let f : listAt ws₁ m (11 * m) r ≡ listAt ws m (11 * m) r = ap (λ (x : Rec). x .floors) e in
         let l = list-length ws m (11 * m) r (floor-parts ids m top s ws K) own-in in
         let l₁ = list-length ws₁ m (11 * m) r (floor-parts ids m top (s + 1) ws₁ counted-keeping) own-in in
-        omega (arith, ap length f, K .rows r own-in .order′, K .rows r own-in .till′, counted-keeping .rows r own-in .order′)
+        record { slack = omega (arith, ap length f, K .rows r own-in .order′, K .rows r own-in .till′, counted-keeping .rows r own-in .order′) }
 
     -- floors and overlap do not touch each other, so either may come first
     pub cell-step : (ws₂ ws₃ : List ℕ) (b : Bool) → Step (floored (othersFrom ids s size from)) ids m r top (s + 1) ws₁ ws₂ → b ≡ twins ids s (getD ids s 0) size from
-        → ((ids′ : List ℕ) (top k : ℕ) → Keeping ids′ m top k ws₂ → Step (overlaid b) ids′ m r top k ws₂ ws₃) → Step (celled ids s size from) ids m r top (s + 1) ws ws₃
+        → ws₃ ≡ marked m r b ws₂ → Step (celled ids s size from) ids m r top (s + 1) ws ws₃
     unfolding celled floored overlaid
     cell-step ws₂ ws₃ b q e p =
         let two = step-then plusOne (floored (othersFrom ids s size from)) ids m r top top (s + 1) (s + 1) ws ws₁ ws₂ own-in one₁ q in
-        let three = step-then (λ x. floored (othersFrom ids s size from) (plusOne x)) (overlaid b) ids m r top top (s + 1) (s + 1) ws ws₂ ws₃ own-in two (p ids top (s + 1) (q .keeping)) in
+        let three = step-then (λ x. floored (othersFrom ids s size from) (plusOne x)) (overlaid b) ids m r top top (s + 1) (s + 1) ws ws₂ ws₃ own-in two (rw p (step-marked b ids m top (s + 1) ws₂ (q .keeping) r own-in)) in
         step-as _ (celled ids s size from) ids m r top (s + 1) ws ws₃ (rw e refl) three

@@ -13,6 +13,7 @@ use lib.Dec.{eqb, ltb}
 use borrow.Author.Tests.{eq-eqb, ne-eqb, ltb-true, not-true}
 use Rattle.rules.specs.Base.{_and_, keep, tab, many}
 use Rattle.rules.specs.Field.{Field, spans, cellOf}
+use Rattle.rules.specs.Net.{netOf}
 use Rattle.rules.specs.Growth.{plain}
 use Rattle.rules.specs.Contour.{firstSolid}
 use Rattle.rules.specs.Records.{Rec, fresh, at, has, once, onceAll, others, counted, addSpan, records}
@@ -20,6 +21,7 @@ use Rattle.laws.specs.Sums.{sumTo}
 use Rattle.laws.proofs.Basics.{both, if-ind, upto-ind, many-le, keep-length, tab-at, length-tab}
 use Rattle.laws.proofs.Sums.{sum-le, sum-times}
 use Rattle.laws.proofs.Cells.{Passed, passed, cellOf-in, cell-of, sum-of, before}
+use Rattle.laws.proofs.Strides.{answered}
 use Rattle.field.specs.Lent.{Sound}
 use Rattle.contour.proofs.Room.{contour-room}
 use Rattle.records.specs.Rows.{slot, mine}
@@ -113,9 +115,9 @@ module _ (F : Field) (sound : Sound F) (ids : List ℕ) (size : length ids ≡ s
     counted-list : (k : ℕ) (x : Rec) → k < spans F → plain i ≡ true → getD ids k 0 ≡ i → length (x .list) ≤ 4 * many (mine i) ids → length (counted F ids k x .list) ≤ 4 * many (mine i) ids
     unfolding counted _and_
     counted-list k x g pl e l =
-        if-ind (λ (y : List ℕ). length y ≤ 4 * many (mine i) ids) (eqb (length (x .list)) 0 and ltb (firstSolid F ids k) 4)
+        if-ind (λ (y : List ℕ). length y ≤ 4 * many (mine i) ids) (eqb (length (x .list)) 0 and ltb (firstSolid (netOf F) ids k) 4)
         (λ t.
-        let room = contour-room F [] ok ids size i (λ z. false≢true (rw z at pl)) k (firstSolid F ids k) g (ltb-true _ _ (both (eqb (length (x .list)) 0) (ltb (firstSolid F ids k) 4) t .1)) e in
+        let room = contour-room (netOf F) (answered F [] ok) ids size i (λ z. false≢true (rw z at pl)) k (firstSolid (netOf F) ids k) g (ltb-true _ _ (both (eqb (length (x .list)) 0) (ltb (firstSolid (netOf F) ids k) 4) t .1)) e in
         omega (arith, many-same (eqb i) (mine i) ids (mine-plain i pl)))
         (λ _. l)
 

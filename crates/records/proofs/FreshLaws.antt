@@ -31,8 +31,8 @@ module _ (m r : ℕ) (ws : List ℕ) where
   unfolding tallyOne if_then_else_
   tally-below h = rw (lt-ltb r m h)
 
-pub tallied-start : (ids : List ℕ) (m b : ℕ) (ws : List ℕ) → Blank ids m b ws → Tallied ids m 0 ws ws
-tallied-start ids m b ws B = record {
+pub tallied-start : (ids : List ℕ) (m : ℕ) (ws : List ℕ) → Blank ids m ws → Tallied ids m 0 ws ws
+tallied-start ids m ws B = record {
   low = omega arith;
   size = refl;
   counts = λ i h. B .zeros (m + i) (omega arith) ∙ sym (many-none (eqb i) ids);
@@ -40,8 +40,8 @@ tallied-start ids m b ws B = record {
 }
 
 module _ (ids : List ℕ) (m k : ℕ) (ws₀ ws : List ℕ) (T : Tallied ids m k ws₀ ws) (h : k < length ids) where
-  pub tally-fits : (b : ℕ) → Blank ids m b ws₀ → (r : ℕ) → (2 * m ≤ length ws) × (m < 32768) × (r < m → getD ws (m + r) 0 < 65535)
-  tally-fits b B r = (omega (arith, T .size, B .room, B .inside), B .few, λ g. omega (arith, T .counts r g, many-take-le (eqb r) ids k, many-le (eqb r) ids, B .spans))
+  pub tally-fits : Blank ids m ws₀ → (r : ℕ) → (2 * m ≤ length ws) × (m < 32768) × (r < m → getD ws (m + r) 0 < 65535)
+  tally-fits B r = (omega (arith, T .size, B .room), B .few, λ g. omega (arith, T .counts r g, many-take-le (eqb r) ids k, many-le (eqb r) ids, B .spans))
 
   pub tallied-next : (ws′ : List ℕ) (r : ℕ) → r ≡ getD ids k 0 → 2 * m ≤ length ws → ws′ ≡ tallyOne m r ws → Tallied ids m (k + 1) ws₀ ws′
   tallied-next ws′ r er l e =
@@ -68,8 +68,8 @@ tallied-end ids m k ws₀ ws T h = let e : k ≡ length ids = omega (arith, T .l
 
 -- ---------------------------------------------------------------- the records
 
-pub renewed-start : (ids : List ℕ) (m b : ℕ) (ws₀ ws : List ℕ) → Blank ids m b ws₀ → Tallied ids m (length ids) ws₀ ws → Renewed ids m 0 ws₀ ws
-renewed-start ids m b ws₀ ws B T = record {
+pub renewed-start : (ids : List ℕ) (m : ℕ) (ws₀ ws : List ℕ) → Blank ids m ws₀ → Tallied ids m (length ids) ws₀ ws → Renewed ids m 0 ws₀ ws
+renewed-start ids m ws₀ ws B T = record {
   low = omega arith;
   size = T .size;
   names = λ j h. absurd (omega arith);

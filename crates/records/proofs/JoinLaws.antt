@@ -38,15 +38,15 @@ module _ (ids part₀ : List ℕ) (s from size len : ℕ) (R : Roomy ids part₀
       record { low = omega arith; length′ = refl; same = rw (a, b); within = omega (arith, R .room, R .lower, R .upper); room₁ = λ _. omega (arith, R .room); room₂ = λ h. absurd (omega (arith, R .lower)) }
 
   module _ (part : List ℕ) (k j : ℕ) (J : Joining ids part₀ s from size len part k j) (h : j < size) where
-    pub join-room : (k ≤ length part) × ((from + j ≡ s → ⊥) → k < length part)
-    join-room =
+    room-there : (k ≤ length part) × ((from + j ≡ s → ⊥) → k < length part)
+    room-there =
         elim (decLt s (from + j)) [
           | yes g ↦ (let r = J .room₂ g in (omega arith, λ _. omega arith))
           | no g ↦ (let r = J .room₁ (omega arith) in (omega arith, λ n. omega (arith, n, R .upper)))
         ]
 
-    pub join-next : (part′ : List ℕ) (k′ : ℕ) → Joined (joinOne ids s (from + j) (take k part)) k part′ k′ → (from + j ≡ s → k′ ≡ k) → length part′ ≡ length part → Joining ids part₀ s from size len part′ k′ (j + 1)
-    join-next part′ k′ D z n = record {
+    next-there : (part′ : List ℕ) (k′ : ℕ) → Joined (joinOne ids s (from + j) (take k part)) k part′ k′ → (from + j ≡ s → k′ ≡ k) → length part′ ≡ length part → Joining ids part₀ s from size len part′ k′ (j + 1)
+    next-there part′ k′ D z n = record {
       low = omega arith;
       length′ = n ∙ J .length′;
       same =
@@ -60,6 +60,15 @@ module _ (ids part₀ : List ℕ) (s from size len : ℕ) (R : Roomy ids part₀
         | no e ↦ (let r = J .room₂ (omega (arith, e)) in omega (arith, D .high, n))
       ];
     }
+
+    -- the span in layer j, as the code has it
+    module _ (t : ℕ) (e : t ≡ from + j) where
+      pub join-room : (k ≤ length part) × ((t ≡ s → ⊥) → k < length part)
+      join-room = rw e room-there
+
+      pub join-next : (part′ : List ℕ) (k′ : ℕ) → Joined (joinOne ids s t (take k part)) k part′ k′ → (t ≡ s → k′ ≡ k) → length part′ ≡ length part
+          → Joining ids part₀ s from size len part′ k′ (j + 1)
+      join-next part′ k′ D z n = next-there part′ k′ (rw e at D) (rw e at z) n
 
   pub join-end : (part : List ℕ) (k j : ℕ) → Joining ids part₀ s from size len part k j → size ≤ j → JoinedAll (onceAll (take len part₀) (othersFrom ids s size from)) len part k
   unfolding othersFrom tab keep onceAll

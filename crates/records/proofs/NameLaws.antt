@@ -10,6 +10,7 @@ use lib.ListN.{length, getD}
 use lib.Dec.{eqb}
 use Rattle.rules.specs.Base.{keep, tab, upto}
 use Rattle.rules.specs.Field.{Field, cellOf}
+use Rattle.rules.specs.Net.{Net, netOf}
 use Rattle.rules.specs.Growth.{plain}
 use Rattle.rules.specs.Contour.{across, solid, firstSolid, Walker, stride, walk, trim, contour}
 use Rattle.rules.specs.Records.{Rec, fresh, at, has, once, onceAll, others, counted, addSpan}
@@ -37,28 +38,29 @@ module _ (ids : List ℕ) (m : ℕ) (some : 0 < m) (below : (x : ℕ) → plain 
       let r = plain-below l in
       if-ind (λ (x : List ℕ). All (λ v. v < m) x) (plain (getD ids t 0)) (λ e. (below t e, r)) (λ _. r)
 
-  module _ (F : Field) where
-    stride-under : (v : Walker) → All (λ x. x < 32768 → x < m) (v .listed) → All (λ x. x < 32768 → x < m) (stride F ids v .listed)
+  module _ (N : Net) where
+    stride-under : (v : Walker) → All (λ x. x < 32768 → x < m) (v .listed) → All (λ x. x < 32768 → x < m) (stride N ids v .listed)
     unfolding stride across
     stride-under v a =
-        if-ind (λ (x : Walker). All (λ x. x < 32768 → x < m) (x .listed)) (solid F ids (v .span) (v .dir))
+        if-ind (λ (x : Walker). All (λ x. x < 32768 → x < m) (x .listed)) (solid N ids (v .span) (v .dir))
         (λ _. if-ind (λ (l : List ℕ). All (λ x. x < 32768 → x < m) l) _ (λ _. a) (λ _. append-all (λ x. x < 32768 → x < m) (v .listed) _ a (id-under _, tt)))
         (λ _. a)
 
-    walk-under : (s d f : ℕ) (v : Walker) → All (λ x. x < 32768 → x < m) (v .listed) → All (λ x. x < 32768 → x < m) (walk F ids s d f v .listed)
+    walk-under : (s d f : ℕ) (v : Walker) → All (λ x. x < 32768 → x < m) (v .listed) → All (λ x. x < 32768 → x < m) (walk N ids s d f v .listed)
     unfolding walk
     walk-under s d zero v a = a
     walk-under s d (suc f) v a =
         let b = stride-under v a in
-        if-ind (λ (x : Walker). All (λ x. x < 32768 → x < m) (x .listed)) _ (λ _. b) (λ _. walk-under s d f (stride F ids v) b)
+        if-ind (λ (x : Walker). All (λ x. x < 32768 → x < m) (x .listed)) _ (λ _. b) (λ _. walk-under s d f (stride N ids v) b)
 
-    contour-under : (s d : ℕ) → All (λ x. x < 32768 → x < m) (contour F ids s d)
+    contour-under : (s d : ℕ) → All (λ x. x < 32768 → x < m) (contour N ids s d)
     unfolding contour trim across
     contour-under s d =
-        let l = walk F ids s d 40000 (record { span = s; dir = d; last = across F ids s d; listed = across F ids s d ∷ [] }) .listed in
+        let l = walk N ids s d 40000 (record { span = s; dir = d; last = across N ids s d; listed = across N ids s d ∷ [] }) .listed in
         let a : All (λ x. x < 32768 → x < m) l = walk-under s d 40000 _ (id-under _, tt) in
         if-ind (λ (x : List ℕ). All (λ x. x < 32768 → x < m) x) _ (λ _. take-all (λ x. x < 32768 → x < m) (length l - 1) l a) (λ _. a)
 
+  module _ (F : Field) where
     record Named (i : ℕ) (x : Rec) : Type 0 where
       id : i < m → x .id ≡ i
       list : All (λ x. x < 32768 → x < m) (x .list)
@@ -72,7 +74,7 @@ module _ (ids : List ℕ) (m : ℕ) (some : 0 < m) (below : (x : ℕ) → plain 
     unfolding counted
     counted-named s i x n = record {
       id = n .id;
-      list = if-ind (λ (l : List ℕ). All (λ x. x < 32768 → x < m) l) _ (λ _. contour-under s (firstSolid F ids s)) (λ _. n .list);
+      list = if-ind (λ (l : List ℕ). All (λ x. x < 32768 → x < m) l) _ (λ _. contour-under (netOf F) s (firstSolid (netOf F) ids s)) (λ _. n .list);
       floors = all-onceAll (λ x. x < m) (x .floors) (others F ids s) (n .floors) (others-below s);
     }
 

@@ -9,13 +9,13 @@ use mathlib.Core.List.{List}
 use lib.ListN.{length, getD, set, take}
 use lib.Seq.{getD-set-same, getD-set-other, set-getD}
 use lib.Dec.{eqb}
-use Rattle.rules.specs.Base.{_or_, many}
+use Rattle.rules.specs.Base.{_or_, if_then_else_, many}
 use Rattle.rules.specs.Growth.{plain}
 use Rattle.rules.specs.Records.{Rec, at, fresh}
 use Rattle.table.specs.View.{recAt, recsOf}
 use Rattle.table.proofs.ViewLaws.{rec-eq, recs-at}
 use Rattle.laws.proofs.Basics.{or-yes}
-use Rattle.records.specs.Rows.{walked, mine, Row, Keeping, Change, Step, plusOne, overlaid, withArea}
+use Rattle.records.specs.Rows.{walked, mine, Row, Keeping, Change, Step, plusOne, overlaid, marked, withArea}
 use Rattle.records.proofs.CountLaws.{many-same, many-counts, many-passes, mine-yes, mine-other}
 use Rattle.records.proofs.RowLaws.{list-parts, floor-parts, change-recs, change-keeping, store-start, store-end, store-list, store-change, store-walked, store-blank, store-after}
 
@@ -144,9 +144,17 @@ module _ (ids : List ℕ) (m top k : ℕ) (ws : List ℕ) (K : Keeping ids m top
 
 -- ---------------------------------------------------------------- as the code has it
 
-module _ (ws : List ℕ) (m r : ℕ) (h : r < m) (b : Bool) where
-  pub overlap-set : b ≡ true → (ids : List ℕ) (top k : ℕ) → Keeping ids m top k ws → Step (overlaid b) ids m r top k ws (set ws (3 * m + r) 1)
-  overlap-set t ids top k K = rw t (step-over ids m top k ws K r h)
+-- overlap as the code sets it
+module _ (ws : List ℕ) (m r : ℕ) (b : Bool) where
+  pub mark-set : b ≡ true → set ws (3 * m + r) 1 ≡ marked m r b ws
+  unfolding marked if_then_else_
+  mark-set t = rw t
 
-  pub overlap-left : b ≡ false → (ids : List ℕ) (top k : ℕ) → Keeping ids m top k ws → Step (overlaid b) ids m r top k ws ws
-  overlap-left f ids top k K = rw f (step-not-over ids m top k ws K r h)
+  pub mark-left : b ≡ false → ws ≡ marked m r b ws
+  unfolding marked if_then_else_
+  mark-left f = rw f
+
+pub step-marked : (b : Bool) (ids : List ℕ) (m top k : ℕ) (ws : List ℕ) → Keeping ids m top k ws → (r : ℕ) → r < m → Step (overlaid b) ids m r top k ws (marked m r b ws)
+unfolding marked if_then_else_
+step-marked true ids m top k ws K r h = step-over ids m top k ws K r h
+step-marked false ids m top k ws K r h = step-not-over ids m top k ws K r h

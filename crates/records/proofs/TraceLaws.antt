@@ -5,173 +5,77 @@ use native.Mathlib.Omega.{arith}
 use native.Mathlib.Decide.{ℕ-discrete, decLt}
 use mathlib.Core.Path.{_≡_, refl, sym, ap, _∙_}
 use mathlib.Core.Bool.{false, not}
-use mathlib.Core.List.{List, [], _++_}
-use lib.ListN.{length, getD, set, take, replicate, length-append, length-replicate, getD-replicate, List·getD-eq-default}
-use lib.Seq.{getD-append-add, length-take-le, take-at, drop-at}
+use mathlib.Core.List.{List, []}
+use lib.ListN.{length, getD, set}
 use lib.Dec.{eqb, ltb}
 use borrow.Author.Tests.{lt-ltb, le-ltb, ltb-true}
-use borrow.Rule.Slice.PartMut.{putMid, midOf, put-same, same-len-mid}
 use Rattle.rules.specs.Base.{_and_, if_then_else_, many}
-use Rattle.rules.specs.Field.{Field}
+use Rattle.rules.specs.Net.{Net}
 use Rattle.rules.specs.Contour.{firstSolid, contour}
 use Rattle.rules.specs.Records.{Rec, at}
 use Rattle.laws.proofs.Basics.{if-ind}
-use Rattle.laws.proofs.Cells.{passed}
 use Rattle.space.specs.Space.{sec, Frame}
-use Rattle.space.proofs.Laws.{sec-after, getD-before, getD-after, length-sec, getD-sec, frame-put, sec-put, sec-mid, sec-take}
-use Rattle.field.specs.Lent.{consAt}
-use Rattle.field.proofs.Places.{spot-con}
-use Rattle.contour.specs.Ways.{Edged, SomeEdged, Ways, edgeOf}
-use Rattle.contour.specs.Pool.{Laid, lay, Start}
+use Rattle.space.proofs.Laws.{sec-after, getD-before, getD-after}
+use Rattle.net.specs.Table.{netAt}
+use Rattle.net.proofs.Tables.{spans-at}
+use Rattle.contour.specs.Ways.{Ways, edgeNumber, edgeOf}
+use Rattle.contour.specs.Pool.{pooled, Start}
+use Rattle.contour.specs.declared.walk.Pool.{Pool}
 use Rattle.contour.specs.declared.edge.Edge.{Edge}
 use Rattle.contour.specs.declared.edge.Edge.the-variants.{At, Nowhere}
-use Rattle.contour.proofs.EdgeLaws.{ways-edged, edge-at, edge-none}
-use Rattle.contour.proofs.PoolLaws.{laid-whole}
+use Rattle.contour.proofs.EdgeLaws.{edge-at, edge-none}
+use Rattle.contour.proofs.PoolLaws.{start-laid, laid-whole, pooled-length, pooled-frame, pooled-list, pooled-blank, pooled-at}
+use Rattle.contour.proofs.WalkLaws.{ways-answered}
 use Rattle.contour.proofs.Room.{contour-room}
 use Rattle.table.specs.View.{part, startOf, endOf, listAt, recAt, recsOf, Placed}
 use Rattle.table.proofs.ViewLaws.{rec-eq, list-same, wide-same, recs-at}
-use Rattle.records.specs.Rows.{walked, Row, Keeping, Change, Step, Tracing, Traced, pooled, traced, withList}
+use Rattle.records.specs.Map.{poolIn}
+use Rattle.records.specs.Rows.{walked, Row, Keeping, Change, Step, Traced, traced, withList}
+use Rattle.records.specs.declared.grow.Plan.{Plan}
 use Rattle.records.proofs.CountLaws.{many-same, many-apart, many-more}
 use Rattle.records.proofs.RowLaws.{pool-fits, floors-past, list-parts, floor-parts, change-recs, change-keeping, walked-other}
 
--- ---------------------------------------------------------------- the pool after a list
-
-module _ (ws : List ℕ) (base size top : ℕ) (l : List ℕ) (h : base + size ≤ length ws) (g : top + length l ≤ size) where
-  mid-length : length (midOf base size ws) ≡ size
-  mid-length = length-sec base size ws h
-
-  front : length (take top (midOf base size ws)) ≡ top
-  front = length-take-le top (midOf base size ws) (omega (arith, mid-length))
-
-  lay-length : length (lay (midOf base size ws) top l) ≡ size
-  unfolding lay
-  lay-length =
-      let z = length-replicate (length (midOf base size ws) - (top + length l)) (let o : ℕ = 0 in o) in
-      length-append (take top (midOf base size ws)) _ ∙ rw (length-append l _) (omega (arith, front, mid-length, z))
-
-  pub pooled-length : length (pooled ws base size top l) ≡ length ws
-  unfolding pooled
-  pooled-length = same-len-mid base size ws (lay (midOf base size ws) top l) (lay-length ∙ sym mid-length)
-
-  pub pooled-frame : Frame base (base + size) ws (pooled ws base size top l)
-  unfolding pooled
-  pooled-frame =
-      let q : base + size - base ≡ size = omega arith in
-      rw q at (frame-put base (base + size) ws (lay (midOf base size ws) top l) (omega arith) h (rw q lay-length))
-
-  pub pooled-list : sec (base + top) (length l) (pooled ws base size top l) ≡ l
-  unfolding pooled lay
-  pooled-list =
-      sec-put base size top (length l) ws (lay (midOf base size ws) top l) (omega arith) (omega (arith, lay-length))
-      ∙ ap (take (length l)) (drop-at (take top (midOf base size ws)) _ top front) ∙ take-at l _ (length l) refl
-
-  -- a list before it
-  pub pooled-before : (a b : ℕ) → a ≤ b → b ≤ top → sec (base + a) (b - a) (pooled ws base size top l) ≡ sec (base + a) (b - a) ws
-  unfolding pooled lay
-  pooled-before a b k j =
-      let m = midOf base size ws in
-      sec-put base size a (b - a) ws (lay m top l) (omega arith) (omega (arith, lay-length))
-      ∙ sym (sec-take a (b - a) top (lay m top l) (omega arith)) ∙ ap (sec a (b - a)) (take-at (take top m) _ top front)
-      ∙ sec-take a (b - a) top m (omega arith) ∙ sec-mid base size a (b - a) ws (omega arith)
-
-  pub pooled-blank : (i : ℕ) → top + length l ≤ i → i < size → getD (pooled ws base size top l) (base + i) 0 ≡ 0
-  unfolding pooled lay
-  pooled-blank i k j =
-      let m = midOf base size ws in
-      let z = replicate (length m - (top + length l)) (let o : ℕ = 0 in o) in
-      let q : base + 0 ≡ base = omega arith in
-      let s : sec base size (putMid base size ws (lay m top l)) ≡ sec 0 size (lay m top l) = rw q at (sec-put base size 0 size ws (lay m top l) (omega arith) (omega (arith, lay-length))) in
-      let e : i ≡ top + (length l + (i - top - length l)) = omega arith in
-      let f : length l + (i - top - length l) ≡ i - top = omega arith in
-      sym (getD-sec base size i (putMid base size ws (lay m top l)) j) ∙ ap (λ (x : List ℕ). getD x i 0) s
-      ∙ getD-sec 0 size i (lay m top l) j
-      ∙ ap (λ (x : ℕ). getD (lay m top l) x 0) (let y : 0 + i ≡ length (take top m) + (length l + (i - top - length l)) = omega (arith, front) in y)
-      ∙ getD-append-add (take top m) (l ++ z) (length l + (i - top - length l)) 0 ∙ getD-append-add l z (i - top - length l) 0
-      ∙ getD-replicate (length m - (top + length l)) (i - top - length l) 0 0 (omega (arith, mid-length))
-
-  pub pooled-at : (i : ℕ) → i < top → getD (pooled ws base size top l) (base + i) 0 ≡ getD ws (base + i) 0
-  pooled-at i k =
-      let y : base + 0 + i ≡ base + i = omega arith in
-      let z : i < top - 0 = omega arith in
-      let e = pooled-before 0 top (omega arith) (omega arith) in
-      rw y at (sym (getD-sec (base + 0) (top - 0) i (pooled ws base size top l) z) ∙ ap (λ (x : List ℕ). getD x i 0) e ∙ getD-sec (base + 0) (top - 0) i ws z)
-
 -- ---------------------------------------------------------------- the trace
 
-module _ (w : ℕ) (is cs ids : List ℕ) (c s base top : ℕ) (ws : List ℕ) (T : Tracing w is cs ids c s base top ws) where
-  mid-laid : Laid (midOf base (4 * length ids) ws) top top (midOf base (4 * length ids) ws)
-  mid-laid =
-      let n : length (midOf base (4 * length ids) ws) ≡ 4 * length ids = length-sec base (4 * length ids) ws (T .inside) in
-      record {
-        order = omega arith;
-        within = omega (arith, n, T .room);
-        size = refl;
-        kept = refl;
-        blank = λ i g. elim (decLt i (4 * length ids)) [
-          | yes h ↦ getD-sec base (4 * length ids) i ws h ∙ T .blank i g h
-          | no h ↦ List·getD-eq-default (midOf base (4 * length ids) ws) 0 (omega (arith, n))
-        ];
-      }
+module _ (pool : Pool) (cs ids : List ℕ) (s top : ℕ) (ws : List ℕ) (T : Start pool cs ids s top ws) where
+  abbrev N : Net
+  N = netAt (pool .table) ids ws
 
-  pub trace-con : 4 * s + 3 < length cs
-  trace-con = spot-con w is cs c s (record { F = T .F; spot = T .ways .spot })
+  module _ (r : Edge) (e : edgeNumber r ≡ firstSolid N ids s) where
+    module _ (f : r ≡ edgeOf (edgeNumber r)) (d : ℕ) (q : r ≡ At d) where
+      found : (firstSolid N ids s ≡ d) × (d < 4)
+      found = edge-at r (firstSolid N ids s) e d f q
 
-  module _ (cons : List ℕ) (four : cons ≡ consAt cs s) where
-    pub trace-edged : SomeEdged w is cons ids c s
-    trace-edged = record { F = T .F; edged = ways-edged (T .F) w is cs cons ids c s four (T .ways) }
+      pub trace-dir : d < 4
+      trace-dir = found .1
 
-    module _ (r : Edge) (f : (F : Field) → Edged F w is cons ids c s → r ≡ edgeOf (firstSolid F ids s)) where
-      module _ (d : ℕ) (e : r ≡ At d) where
-        found : (F : Field) → Ways F w is cs ids c s → (firstSolid F ids s ≡ d) × (d < 4)
-        found F l = edge-at (firstSolid F ids s) d (sym (f F (ways-edged F w is cs cons ids c s four l)) ∙ e)
+      traced-at : traced N ids s ≡ contour N ids s d
+      unfolding traced if_then_else_
+      traced-at = rw (found .0, lt-ltb d 4 (found .1))
 
-        pub trace-start : (z : ℕ) → z ≡ base + 4 * length ids → Start w is cs ids c s d top (midOf base (z - base) ws)
-        trace-start z q =
-            let k : z - base ≡ 4 * length ids = omega arith in
-            let n : length (midOf base (4 * length ids) ws) ≡ 4 * length ids = length-sec base (4 * length ids) ws (T .inside) in
-            rw k (record {
-              F = T .F;
-              ways = T .ways;
-              dir = found (T .F) (T .ways) .1;
-              own = T .own;
-              room = omega (arith, n, T .room);
-              laid = mid-laid;
-            })
+      pub trace-at : (ws′ : List ℕ) (t : ℕ) → ws′ ≡ pooled ws (pool .at) (4 * length ids) top (contour N ids s d) → t ≡ top + length (contour N ids s d)
+          → Traced (traced N ids s) ids (pool .at) top ws ws′ t
+      trace-at ws′ t a b = record { end = rw traced-at b; pool = rw traced-at a }
 
-        traced-at : (F : Field) → Ways F w is cs ids c s → traced F ids s ≡ contour F ids s d
-        unfolding traced if_then_else_
-        traced-at F l = let q = found F l in rw (q .0, lt-ltb d 4 (q .1))
-
-        pub trace-at : (z : ℕ) → z ≡ base + 4 * length ids → (pool : List ℕ) (t : ℕ)
-            → ((F : Field) → Ways F w is cs ids c s → pool ≡ lay (midOf base (z - base) ws) top (contour F ids s d)) → ((F : Field) → Ways F w is cs ids c s → t ≡ top + length (contour F ids s d))
-            → (F : Field) → Ways F w is cs ids c s → Traced (traced F ids s) ids base top ws (putMid base (z - base) ws pool) t
-        unfolding pooled
-        trace-at z q pool t a b F l =
-            let k : z - base ≡ 4 * length ids = omega arith in
-            record {
-              end = rw (traced-at F l) (b F l);
-              pool = rw (traced-at F l, ← k) (ap (putMid base (z - base) ws) (a F l));
-            }
-
-      pub trace-none : r ≡ Nowhere → (F : Field) → Ways F w is cs ids c s → Traced (traced F ids s) ids base top ws ws top
-      unfolding pooled traced if_then_else_
-      trace-none e F l =
-          let g = edge-none (firstSolid F ids s) (sym (f F (ways-edged F w is cs cons ids c s four l)) ∙ e) in
-          record {
-            end = rw g (omega arith);
-            pool =
-                let m = midOf base (4 * length ids) ws in
-                let z : sec top (top - top) m ≡ [] = (let k : top - top ≡ 0 = omega arith in rw k refl) in
-                let y : m ≡ lay m top [] = laid-whole m m top top mid-laid ∙ ap (lay m top) z in
-                rw g (sym (put-same base (4 * length ids) ws) ∙ ap (putMid base (4 * length ids) ws) y);
-          }
+    pub trace-none : r ≡ Nowhere → Traced (traced N ids s) ids (pool .at) top ws ws top
+    unfolding traced if_then_else_
+    trace-none q =
+        let g = edge-none r (firstSolid N ids s) e q in
+        let z : sec (pool .at + top) (top - top) ws ≡ [] = (let k : top - top ≡ 0 = omega arith in rw k refl) in
+        record {
+          end = rw g (omega arith);
+          pool = rw g (laid-whole ws ws (pool .at) (4 * length ids) top top (start-laid pool cs ids ws s top T) ∙ ap (pooled ws (pool .at) (4 * length ids) top) z);
+        }
 
 -- a traced list has at most four ids for each span of the region
-pub traced-room : (F : Field) (w : ℕ) (is cs ids : List ℕ) (c s : ℕ) → Ways F w is cs ids c s → (getD ids s 0 ≡ 0 → ⊥) → length (traced F ids s) ≤ 4 * many (eqb (getD ids s 0)) ids
+pub traced-room : (table : ℕ) (cs ids ws : List ℕ) (s : ℕ) → Ways table cs ids ws → s < length ids → (getD ids s 0 ≡ 0 → ⊥)
+    → length (traced (netAt table ids ws) ids s) ≤ 4 * many (eqb (getD ids s 0)) ids
 unfolding traced
-traced-room F w is cs ids c s l own =
-    if-ind (λ (x : List ℕ). length x ≤ 4 * many (eqb (getD ids s 0)) ids) (ltb (firstSolid F ids s) 4)
-    (λ t. contour-room F [] (passed F [] (l .sound)) ids (l .idents) (getD ids s 0) own s (firstSolid F ids s) (l .spot .stands .span) (ltb-true _ _ t) refl)
+traced-room table cs ids ws s l h own =
+    let N = netAt table ids ws in
+    let n = spans-at table ids ws in
+    if-ind (λ (x : List ℕ). length x ≤ 4 * many (eqb (getD ids s 0)) ids) (ltb (firstSolid N ids s) 4)
+    (λ t. contour-room N (ways-answered table cs ids ws l) ids (sym n) (getD ids s 0) own s (firstSolid N ids s) (rw n h) (ltb-true _ _ t) refl)
     (λ _. omega arith)
 
 -- ---------------------------------------------------------------- the list of a record
@@ -326,31 +230,33 @@ module _ (ids : List ℕ) (m top k : ℕ) (ws : List ℕ) (K : Keeping ids m top
 
 -- ---------------------------------------------------------------- as the code has it
 
-module _ (w : ℕ) (is cs ids : List ℕ) (c s m top k : ℕ) (ws : List ℕ) (K : Keeping ids m top k ws) (r : ℕ) (er : r ≡ getD ids s 0) (h : r < m) (none : endOf ws m (7 * m) r ≤ startOf ws m (7 * m) r) where
-  pub list-tracing : (r ≡ 0 → ⊥) → (F : Field) → Ways F w is cs ids c s → Tracing w is cs ids c s (15 * m) top ws
-  list-tracing own F l = record {
-    F = F;
+module _ (plan : Plan) (cs ids : List ℕ) (s top k : ℕ) (ws : List ℕ) (K : Keeping ids (plan .records) top k ws) (r : ℕ) (er : r ≡ getD ids s 0) (h : r < plan .records)
+    (none : endOf ws (plan .records) (7 * plan .records) r ≤ startOf ws (plan .records) (7 * plan .records) r) where
+  abbrev m : ℕ
+  m = plan .records
+
+  pub list-tracing : (r ≡ 0 → ⊥) → Ways (plan .table) cs ids ws → s < length ids → 15 * m + 70 * length ids ≤ plan .table → Start (poolIn plan) cs ids s top ws
+  list-tracing own l g p = record {
     ways = l;
+    apart = omega arith;
+    span = g;
     own = λ z. own (er ∙ z);
-    inside = omega (arith, K .room);
     room = rw (← er) (list-room ids m top k ws K r h none);
     blank = λ i a b. K .blank (15 * m + i) (omega arith) (omega arith);
   }
 
-  module _ (T : Tracing w is cs ids c s (15 * m) top ws) (ws₁ : List ℕ) (t : ℕ) (D : (F : Field) → Ways F w is cs ids c s → Traced (traced F ids s) ids (15 * m) top ws ws₁ t) where
-    short : (F : Field) → Ways F w is cs ids c s → length (traced F ids s) ≤ 4 * many (eqb r) ids
-    short F l = rw er (traced-room F w is cs ids c s l (T .own))
+  module _ (T : Start (poolIn plan) cs ids s top ws) (ws₁ : List ℕ) (t : ℕ) (D : Traced (traced (netAt (plan .table) ids ws) ids s) ids (15 * m) top ws ws₁ t) where
+    short : length (traced (netAt (plan .table) ids ws) ids s) ≤ 4 * many (eqb r) ids
+    short = rw er (traced-room (plan .table) cs ids ws s (T .ways) (T .span) (T .own))
 
     pub list-fits : (15 * m + top < 4294967296) × (15 * m + t < 4294967296)
     list-fits =
-        let e = D (T .F) (T .ways) .end in
-        let g = short (T .F) (T .ways) in
         let j = list-room ids m top k ws K r h none in
-        (omega (arith, K .few, K .spans), omega (arith, K .few, K .spans))
+        (omega (arith, K .few, K .spans), omega (arith, K .few, K .spans, D .end, short))
 
     pub list-size : 11 * m ≤ length ws₁
-    list-size = omega (arith, K .room, traced-size ids m top k ws K r h none (traced (T .F) ids s) ws₁ t (D (T .F) (T .ways)) (short (T .F) (T .ways)))
+    list-size = omega (arith, K .room, traced-size ids m top k ws K r h none (traced (netAt (plan .table) ids ws) ids s) ws₁ t D short)
 
     pub list-step : (ws₂ : List ℕ) → Placed m (7 * m) r (15 * m + top) (15 * m + t) ws₁ ws₂ → length ws₂ ≡ length ws₁
-        → (F : Field) → Ways F w is cs ids c s → Step (withList (traced F ids s)) ids m r t k ws ws₂
-    list-step ws₂ P l₂ F l = step-list ids m top k ws K r h none (traced F ids s) ws₁ ws₂ t (D F l) (short F l) P l₂
+        → Step (withList (traced (netAt (plan .table) ids ws) ids s)) ids m r t k ws ws₂
+    list-step ws₂ P l₂ = step-list ids m top k ws K r h none (traced (netAt (plan .table) ids ws) ids s) ws₁ ws₂ t D short P l₂

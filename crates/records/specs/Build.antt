@@ -1,26 +1,57 @@
--- The loop over spans.
+-- The loops over cells and layers.
 use mathlib.Core.Path.{_≡_}
 use mathlib.Core.List.{List}
-use Prim.Native.Nat.{ℕ, _+_, _*_, _≤_}
-use lib.ListN.{length, getD}
-use Rattle.rules.specs.Base.{upto, tab}
-use Rattle.rules.specs.Field.{Field}
-use Rattle.rules.specs.Records.{fresh, addSpan}
+use Prim.Native.Nat.{ℕ, _+_, _≤_, _<_}
+use lib.ListN.{length, getD, set}
+use Rattle.rules.specs.Base.{if_then_else_, upto}
+use Rattle.rules.specs.Net.{Net}
+use Rattle.rules.specs.Growth.{plain}
+use Rattle.rules.specs.Records.{Rec, at}
+use Rattle.net.specs.Table.{netAt}
+use Rattle.contour.specs.Ways.{Ways}
 use Rattle.table.specs.View.{recsOf}
-use Rattle.records.specs.Rows.{Keeping}
-use Rattle.records.specs.Stock.{Given}
+use Rattle.records.specs.Map.{recordsEnd}
+use Rattle.records.specs.Cell.{Within}
+use Rattle.records.specs.Rows.{Keeping, celled, contoured}
+use Rattle.records.specs.Stock.{Reach}
+use Rattle.records.specs.declared.cell.Spans.{Spans}
+use Rattle.records.specs.declared.grow.Plan.{Plan}
 
--- what span s leaves
-pub record Added (w : ℕ) (index count area con ids : List ℕ) (b m top s : ℕ) (ws ws′ : List ℕ) : Type 0 where
-  pub keeping : Keeping ids m top (s + 1) ws′
-  pub same : (F : Field) → Given F w index count area con ids b ws → recsOf ws′ m ≡ addSpan F ids s (recsOf ws m)
+-- the rule's `addSpan`, of a span whose cell is at hand
+unfoldable pub added : Net → List ℕ → Spans → ℕ → List Rec → List Rec
+added N ids cell s rs =
+    let r = getD ids s 0 in
+    if plain r then set rs r (contoured N ids s (celled ids s (cell .size) (cell .from) (at rs r))) else rs
+
+-- span s of a cell is next
+pub record Standing (plan : Plan) (areas con ids : List ℕ) (cell : Spans) (s top : ℕ) (ws : List ℕ) : Type 0 where
+  pub reach : Reach plan areas con ids ws s
+  pub within : Within ids s cell
+  pub keeping : Keeping ids (plan .records) top s ws
+
+-- what it leaves, and the pool's end t
+pub record Added (plan : Plan) (areas ids : List ℕ) (cell : Spans) (s : ℕ) (ws : List ℕ) (t : ℕ) (ws′ : List ℕ) : Type 0 where
+  pub keeping : Keeping ids (plan .records) t (s + 1) ws′
+  pub same : recsOf ws′ (plan .records) ≡ added (netAt (plan .table) areas ws) ids cell s (recsOf ws (plan .records))
   pub size : length ws′ ≡ length ws
-  pub after : (j : ℕ) → 15 * m + 70 * length ids ≤ j → getD ws′ j 0 ≡ getD ws j 0
+  pub after : (j : ℕ) → recordsEnd (plan .records) (length ids) ≤ j → getD ws′ j 0 ≡ getD ws j 0
 
--- after s spans
-pub record Running (w : ℕ) (index count area con ids : List ℕ) (b m top s : ℕ) (ws₀ ws : List ℕ) : Type 0 where
-  pub low : s ≤ length ids
-  pub keeping : Keeping ids m top s ws
-  pub same : (F : Field) → Given F w index count area con ids b ws₀ → recsOf ws m ≡ upto s (addSpan F ids) (tab m 0 fresh)
+-- a cell is next; an empty one has no first span
+pub record Entering (plan : Plan) (areas con ids : List ℕ) (cell : Spans) (top : ℕ) (ws : List ℕ) : Type 0 where
+  pub ways : Ways (plan .table) con ids ws
+  pub sized : length ids ≡ length areas
+  pub past : recordsEnd (plan .records) (length ids) ≤ plan .table
+  pub few : cell .size ≤ 63
+  pub inside : 0 < cell .size → cell .from + cell .size ≤ length ids
+  pub keeping : 0 < cell .size → Keeping ids (plan .records) top (cell .from) ws
+
+-- what its first j spans leave, and the pool's end t
+pub record Entered (plan : Plan) (areas ids : List ℕ) (cell : Spans) (j top : ℕ) (ws₀ : List ℕ) (t : ℕ) (ws : List ℕ) : Type 0 where
+  pub low : j ≤ cell .size
+  pub same :
+      let N = netAt (plan .table) areas ws₀ in
+      recsOf ws (plan .records) ≡ upto j (λ i. added N ids cell (cell .from + i)) (recsOf ws₀ (plan .records))
+  pub keeping : 0 < cell .size → Keeping ids (plan .records) t (cell .from + j) ws
+  pub none : cell .size ≡ 0 → (t ≡ top) × (ws ≡ ws₀)
   pub size : length ws ≡ length ws₀
-  pub after : (j : ℕ) → 15 * m + 70 * length ids ≤ j → getD ws j 0 ≡ getD ws₀ j 0
+  pub after : (i : ℕ) → recordsEnd (plan .records) (length ids) ≤ i → getD ws i 0 ≡ getD ws₀ i 0

@@ -8,6 +8,8 @@ use lib.Dec.{eqb, ltb}
 use Rattle.rules.specs.Base.{_and_, _or_, if_then_else_, keep, tab}
 use Rattle.rules.specs.Growth.{plain}
 use Rattle.rules.specs.Records.{has, once, onceAll}
+use Rattle.net.specs.Table.{mostSpans}
+use Rattle.records.specs.declared.cell.Spans.{Spans}
 
 unfoldable pub twin : List ℕ → ℕ → ℕ → ℕ → Bool
 twin ids t s own = not (eqb t s) and eqb own (getD ids t 0)
@@ -43,8 +45,16 @@ pub record JoinedAll (l : List ℕ) (len : ℕ) (part′ : List ℕ) (k : ℕ) :
   pub same : take k part′ ≡ l
   pub within : k ≤ length part′
 
+-- span s is one of a cell's
+pub record Within (ids : List ℕ) (s : ℕ) (cell : Spans) : Type 0 where
+  pub few : cell .size ≤ 63
+  pub inside : cell .from + cell .size ≤ length ids
+  pub lower : cell .from ≤ s
+  pub upper : s < cell .from + cell .size
+
 -- s is one of the size spans from `from` on, and there is room for the others
 pub record Roomy (ids part : List ℕ) (s from size len : ℕ) : Type 0 where
+  pub spans : length ids ≤ mostSpans
   pub inside : from + size ≤ length ids
   pub lower : from ≤ s
   pub upper : s < from + size

@@ -1,3 +1,4 @@
+pub mod Map
 pub mod Cell
 pub mod Rows
 pub mod Fresh

@@ -1,98 +1,124 @@
-// The records of all regions, in one pass over the spans.
+// The records of all regions, in one pass over the cells.
+use crate::cell::Spans;
 use crate::fresh::renew;
+use crate::grow::Plan;
 use crate::grow::add_cell;
 use crate::grow::add_contour;
-use field::place::Place;
+use field::place::Layer;
 use field::place::SpanIx;
-use field::read::at8;
 use field::read::at32;
+use region::RegionId;
 use table::at;
 ghost use mathlib.Core.Path.{_≡_};
 ghost use mathlib.Core.Bool.{true};
 ghost use Prim.Native.Nat.{_+_, _*_, _≤_, _<_};
 ghost use lib.ListN.{length, getD};
 ghost use Rattle.rules.specs.Growth.{plain};
-ghost use Rattle.records.specs.Rows.{Keeping};
-ghost use Rattle.records.specs.Stock.{SomeGiven, Blank, Built};
-ghost use Rattle.records.specs.Build.{Added};
+ghost use Rattle.field.specs.Lent.{lent};
+ghost use Rattle.records.specs.Map.{recordsEnd};
+ghost use Rattle.records.specs.Stock.{Given, Blank, Built};
+ghost use Rattle.records.specs.Build.{Standing, Added, Entering, Entered};
 
 // A span of a region is added to its record. Gives the pool's new end.
 fn count_span(
-    w: usize,
-    index: &[u32],
-    count: &[u8],
     area: &[u8],
     con: &[u8],
     ids: &[u16],
     ws: &mut [u16],
-    b: usize,
-    m: usize,
-    s: usize,
+    plan: Plan,
+    cell: Spans,
+    span: SpanIx,
     top: usize,
 ) -> usize
-    requires { ⌜ SomeGiven w (now index) (now count) (now area) (now con) (now ids) b (now ws) × Keeping (now ids) m top s (now ws) × (s < length (now ids)) × (plain (getD (now ids) s 0) ≡ true) × (15 * m + 70 * length (now ids) ≤ b) ⌝ }
-    ensures { λ t. ⌜ Added w (now (index .entry)) (now (count .entry)) (now (area .entry)) (now (con .entry)) (now (ids .entry)) b m t s (now (ws .entry)) (now (ws .exit)) ⌝ }
+    requires { ⌜ Standing plan (now area) (now con) (now ids) cell (span .0) top (now ws) × (plain (getD (now ids) (span .0) 0) ≡ true) ⌝ }
+    ensures { λ t. ⌜ Added plan (now (area .entry)) (now (ids .entry)) cell (span .0) (now (ws .entry)) t (now (ws .exit)) ⌝ }
 {
-    let c = at(ws, b + s);
-    let r = at(ids, s);
-    let from = at32(index, c);
-    let size = at8(count, c);
-    add_cell(ids, ws, m, top, s, r, from, size);
-    let p = Place {
-        cell: c,
-        span: SpanIx(s),
-    };
-    add_contour(w, index, area, con, ids, ws, m, p, r, top)
+    let r = at(ids, span.0);
+    add_cell(ids, ws, plan.records, top, span, r, cell);
+    add_contour(area, con, ids, ws, plan, span, r, top)
 }
 
 // A span is added to the record of its id, if that is not 0 and not flagged.
 fn add_span(
-    w: usize,
-    index: &[u32],
-    count: &[u8],
     area: &[u8],
     con: &[u8],
     ids: &[u16],
     ws: &mut [u16],
-    b: usize,
-    m: usize,
-    s: usize,
+    plan: Plan,
+    cell: Spans,
+    span: SpanIx,
     top: usize,
 ) -> usize
-    requires { ⌜ SomeGiven w (now index) (now count) (now area) (now con) (now ids) b (now ws) × Keeping (now ids) m top s (now ws) × (s < length (now ids)) × (15 * m + 70 * length (now ids) ≤ b) ⌝ }
-    ensures { λ t. ⌜ Added w (now (index .entry)) (now (count .entry)) (now (area .entry)) (now (con .entry)) (now (ids .entry)) b m t s (now (ws .entry)) (now (ws .exit)) ⌝ }
+    requires { ⌜ Standing plan (now area) (now con) (now ids) cell (span .0) top (now ws) ⌝ }
+    ensures { λ t. ⌜ Added plan (now (area .entry)) (now (ids .entry)) cell (span .0) (now (ws .entry)) t (now (ws .exit)) ⌝ }
 {
+    let s = span.0;
     let r = ids[s];
-    if r == 0 {
+    if r == RegionId::NONE.0 {
         return top;
     }
-    if 32768 <= r {
+    if RegionId(r).is_border() {
         return top;
     }
-    count_span(w, index, count, area, con, ids, ws, b, m, s, top)
+    count_span(area, con, ids, ws, plan, cell, span, top)
 }
 
-// The records 0 to next of the regions of ids, in a workspace of zeros before b, where the cell of each span stands.
+// All spans of a cell, layer by layer.
+fn add_spans(
+    area: &[u8],
+    con: &[u8],
+    ids: &[u16],
+    ws: &mut [u16],
+    plan: Plan,
+    cell: Spans,
+    top: usize,
+) -> usize
+    requires { ⌜ Entering plan (now area) (now con) (now ids) cell top (now ws) ⌝ }
+    ensures { λ t. ⌜ Entered plan (now (area .entry)) (now (ids .entry)) cell (cell .size) top (now (ws .entry)) t (now (ws .exit)) ⌝ }
+{
+    let mut end = top;
+    for j in 0..cell.size {
+        end = add_span(area, con, ids, ws, plan, cell, cell.at(Layer(j)), end);
+    }
+    end
+}
+
+// The spans of cell c.
+fn spans_of(index: &[u32], count: &[u8], c: usize) -> Spans
+    requires { ⌜ (c < length (now index)) × (c < length (now count)) ⌝ }
+    ensures { λ r. ⌜ (r .from ≡ getD (now (index .entry)) c 0) × (r .size ≡ getD (now (count .entry)) c 0) ⌝ }
+{
+    Spans {
+        from: at32(index, c),
+        size: count[c],
+    }
+}
+
+// The records 0 to next of the regions of ids, in a workspace of zeros up to their end, with the table of neighbours past it.
 pub fn build_records(
     w: usize,
+    h: usize,
     index: &[u32],
     count: &[u8],
     area: &[u8],
     con: &[u8],
     ids: &[u16],
     ws: &mut [u16],
-    b: usize,
+    table: usize,
     next: usize,
 )
-    requires { ⌜ SomeGiven w (now index) (now count) (now area) (now con) (now ids) b (now ws) × Blank (now ids) (next + 1) b (now ws) ⌝ }
-    ensures { λ _. ⌜ Built w (now (index .entry)) (now (count .entry)) (now (area .entry)) (now (con .entry)) (now (ids .entry)) b next (now (ws .entry)) (now (ws .exit)) ⌝ }
+    requires { ⌜ Given (lent w h (now index) (now count) (now area) (now con)) (now ids) table (now ws) ⌝ }
+    requires { ⌜ Blank (now ids) (next + 1) (now ws) × (recordsEnd (next + 1) (length (now ids)) ≤ table) ⌝ }
+    ensures { λ _. ⌜ (let F = lent w h (now (index .entry)) (now (count .entry)) (now (area .entry)) (now (con .entry)) in
+        Built F (now (ids .entry)) next (now (ws .entry)) (now (ws .exit))) ⌝ }
 {
-    let m = next + 1;
-    renew(ids, ws, m, b);
+    let plan = Plan {
+        records: next + 1,
+        table,
+    };
+    renew(ids, ws, next + 1);
     let mut top = 0;
-    let mut s = 0;
-    while s < ids.len() {
-        top = add_span(w, index, count, area, con, ids, ws, b, m, s, top);
-        s += 1;
+    for c in 0..w * h {
+        top = add_spans(area, con, ids, ws, plan, spans_of(index, count, c), top);
     }
 }

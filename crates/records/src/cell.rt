@@ -1,18 +1,39 @@
 // The other spans of a cell.
+use field::place::Layer;
+use field::place::SpanIx;
+use region::RegionId;
 use table::place;
 ghost use mathlib.Core.Path.{_≡_};
 ghost use Prim.Native.Nat.{_+_, _≤_, _<_};
 ghost use lib.ListN.{length, getD, take};
 ghost use Rattle.rules.specs.Base.{_or_};
 ghost use Rattle.rules.specs.Records.{once, onceAll};
+ghost use Rattle.net.specs.Table.{mostSpans};
 ghost use Rattle.records.specs.Cell.{twin, twins, othersFrom, joinOne, Found, Joined, JoinedAll, Roomy};
 
-// Met before, or t is another span than s and has the id.
-fn met(ids: &[u16], t: usize, s: usize, own: u16, before: bool) -> bool
-    requires { ⌜ t < length (now ids) ⌝ }
-    ensures { λ b. ⌜ b ≡ (before or twin (now (ids .entry)) t s own) ⌝ }
+// The spans of a cell: size of them, from `from` on.
+pub struct Spans {
+    pub from: usize,
+    pub size: u8,
+}
+
+impl Spans {
+    // The span in a layer of the cell.
+    pub(crate) fn at(self, layer: Layer) -> SpanIx
+        requires { ⌜ self .from + layer .0 < mostSpans ⌝ }
+        ensures { λ r. ⌜ r .0 ≡ self .from + layer .0 ⌝ }
+    {
+        SpanIx(self.from + layer.0 as usize)
+    }
+}
+
+// Met before, or other is another span and has the id.
+fn met(ids: &[u16], other: SpanIx, span: SpanIx, own: u16, before: bool) -> bool
+    requires { ⌜ other .0 < length (now ids) ⌝ }
+    ensures { λ b. ⌜ b ≡ (before or twin (now (ids .entry)) (other .0) (span .0) own) ⌝ }
 {
-    if t == s {
+    let t = other.0;
+    if t == span.0 {
         return before;
     }
     if own == ids[t] {
@@ -42,7 +63,7 @@ fn find(part: &[u16], n: usize, r: u16, guess: usize) -> usize
 }
 
 // r joins the list once.
-fn once(part: &mut [u16], l: Listed, r: u16) -> Listed
+fn add_unique_floor_region(part: &mut [u16], l: Listed, r: u16) -> Listed
     requires { ⌜ l .len < length (now part) ⌝ }
     ensures { λ k. ⌜ Joined (once (take (l .len) (now (part .entry))) r) (l .len) (now (part .exit)) (k .len) ⌝ }
 {
@@ -58,25 +79,27 @@ fn once(part: &mut [u16], l: Listed, r: u16) -> Listed
     }
 }
 
-// The id of t joins, if t is another span than s and the id is not 0 and not flagged.
-fn join_one(ids: &[u16], part: &mut [u16], s: usize, t: usize, l: Listed) -> Listed
-    requires { ⌜ t < length (now ids) ⌝ }
+// The id of other joins, if that is another span and the id is not 0 and not flagged.
+fn join_one(ids: &[u16], part: &mut [u16], span: SpanIx, other: SpanIx, l: Listed) -> Listed
+    requires { ⌜ other .0 < length (now ids) ⌝ }
     requires { ⌜ l .len ≤ length (now part) ⌝ }
-    requires { ⌜ ((t ≡ s → ⊥) → l .len < length (now part)) ⌝ }
-    ensures { λ k. ⌜ Joined (joinOne (now (ids .entry)) s t (take (l .len) (now (part .entry)))) (l .len) (now (part .exit)) (k .len) ⌝ }
-    ensures { λ k. ⌜ (t ≡ s → k .len ≡ l .len) ⌝ }
+    requires { ⌜ ((other .0 ≡ span .0 → ⊥) → l .len < length (now part)) ⌝ }
+    ensures { λ k. ⌜ (let joined = joinOne (now (ids .entry)) (span .0) (other .0) (take (l .len) (now (part .entry))) in
+        Joined joined (l .len) (now (part .exit)) (k .len)) ⌝ }
+    ensures { λ k. ⌜ (other .0 ≡ span .0 → k .len ≡ l .len) ⌝ }
 {
-    if t == s {
+    let t = other.0;
+    if t == span.0 {
         return l;
     }
     let r = ids[t];
-    if r == 0 {
+    if r == RegionId::NONE.0 {
         return l;
     }
-    if 32768 <= r {
+    if RegionId(r).is_border() {
         return l;
     }
-    once(part, l, r)
+    add_unique_floor_region(part, l, r)
 }
 
 // What a span takes from its cell: the length of its record's floor list, and whether another span has its id.
@@ -85,27 +108,22 @@ pub struct Taken {
     pub twin: bool,
 }
 
-// The ids of the size spans from `from` on, other than s, join the list of the first len; on the same walk the id of s is looked for.
-pub(crate) fn join(
-    ids: &[u16],
-    part: &mut [u16],
-    s: usize,
-    from: usize,
-    size: usize,
-    len: usize,
-) -> Taken
-    requires { ⌜ Roomy (now ids) (now part) s from size len ⌝ }
-    ensures { λ k. ⌜ JoinedAll (onceAll (take len (now (part .entry))) (othersFrom (now (ids .entry)) s size from)) len (now (part .exit)) (k .len) ⌝ }
-    ensures { λ k. ⌜ k .twin ≡ twins (now (ids .entry)) s (getD (now (ids .entry)) s 0) size from ⌝ }
+// The ids of the cell's other spans join the list of the first len; on the same walk the span's own id is looked for.
+pub(crate) fn join(ids: &[u16], part: &mut [u16], span: SpanIx, cell: Spans, len: usize) -> Taken
+    requires { ⌜ Roomy (now ids) (now part) (span .0) (cell .from) (cell .size) len ⌝ }
+    ensures { λ k. ⌜ (let others = othersFrom (now (ids .entry)) (span .0) (cell .size) (cell .from) in
+        JoinedAll (onceAll (take len (now (part .entry))) others) len (now (part .exit)) (k .len)) ⌝ }
+    ensures { λ k. ⌜ (let own = getD (now (ids .entry)) (span .0) 0 in
+        k .twin ≡ twins (now (ids .entry)) (span .0) own (cell .size) (cell .from)) ⌝ }
 {
+    let s = span.0;
     let own = ids[s];
     let mut l = Listed { len, next: 0 };
     let mut twin = false;
-    let mut j = 0;
-    while j < size {
-        twin = met(ids, from + j, s, own, twin);
-        l = join_one(ids, part, s, from + j, l);
-        j += 1;
+    for j in 0..cell.size {
+        let other = cell.at(Layer(j));
+        twin = met(ids, other, span, own, twin);
+        l = join_one(ids, part, span, other, l);
     }
     Taken { len: l.len, twin }
 }

@@ -1,4 +1,9 @@
 // New records.
+use crate::map::FLOOR_ROOM;
+use crate::map::FLOORS;
+use crate::map::HALVES;
+use crate::map::LISTS;
+use crate::map::POOL;
 use table::at;
 use table::set_part;
 ghost use mathlib.Core.Path.{_≡_};
@@ -6,13 +11,15 @@ ghost use Prim.Native.Nat.{_+_, _*_, _≤_, _<_};
 ghost use lib.ListN.{length, getD};
 ghost use lib.Dec.{eqb};
 ghost use Rattle.rules.specs.Base.{many};
+ghost use Rattle.net.specs.Table.{mostSpans};
+ghost use Rattle.records.specs.Map.{recordsEnd, border};
 ghost use Rattle.records.specs.Rows.{slot};
 ghost use Rattle.records.specs.Fresh.{tallyOne, Tallied, Renewed};
 ghost use Rattle.records.specs.Stock.{Blank};
 
 // One more span of id r, if that is below m.
 fn tally_one(ws: &mut [u16], m: usize, r: usize)
-    requires { ⌜ (2 * m ≤ length (now ws)) × (m < 32768) × (r < m → getD (now ws) (m + r) 0 < 65535) ⌝ }
+    requires { ⌜ (2 * m ≤ length (now ws)) × (m < border) × (r < m → getD (now ws) (m + r) 0 < 65535) ⌝ }
     ensures { λ _. ⌜ now (ws .exit) ≡ tallyOne m r (now (ws .entry)) ⌝ }
 {
     if m <= r {
@@ -22,8 +29,8 @@ fn tally_one(ws: &mut [u16], m: usize, r: usize)
 }
 
 // How many spans have each id below m, in the column of counts.
-fn tally(ids: &[u16], ws: &mut [u16], m: usize, b: usize)
-    requires { ⌜ Blank (now ids) m b (now ws) ⌝ }
+fn tally(ids: &[u16], ws: &mut [u16], m: usize)
+    requires { ⌜ Blank (now ids) m (now ws) ⌝ }
     ensures { λ _. ⌜ Tallied (now (ids .entry)) m (length (now (ids .entry))) (now (ws .entry)) (now (ws .exit)) ⌝ }
 {
     let mut k = 0;
@@ -35,24 +42,25 @@ fn tally(ids: &[u16], ws: &mut [u16], m: usize, b: usize)
 
 // Record i is new: no list yet, and its floors' room after that of the records before it, which have `lower` spans. Gives its own spans.
 fn renew_one(ids: &[u16], ws: &mut [u16], m: usize, i: usize, lower: usize) -> usize
-    requires { ⌜ Renewed (now ids) m i (now ws) (now ws) × (i < m) × (lower ≡ slot (now ids) i) × (m < 32768) × (length (now ids) ≤ 32000) × (15 * m + 70 * length (now ids) ≤ length (now ws)) ⌝ }
+    requires { ⌜ Renewed (now ids) m i (now ws) (now ws) × (i < m) × (lower ≡ slot (now ids) i) ⌝ }
+    requires { ⌜ (m < border) × (length (now ids) ≤ mostSpans) × (recordsEnd m (length (now ids)) ≤ length (now ws)) ⌝ }
     ensures { λ r. ⌜ Renewed (now (ids .entry)) m (i + 1) (now (ws .entry)) (now (ws .exit)) × (r ≡ many (eqb i) (now (ids .entry))) ⌝ }
 {
-    let k = at(ws, m + i);
-    let q = 15 * m + 8 * ids.len() + 62 * lower;
+    let spans = at(ws, m + i);
+    let floors = POOL * m + HALVES * ids.len() + FLOOR_ROOM * lower;
     ws[i] = i as u16;
     ws[m + i] = 0;
-    set_part(ws, m, 7 * m, i, 15 * m, 15 * m);
-    set_part(ws, m, 11 * m, i, q, q);
-    k
+    set_part(ws, m, LISTS * m, i, POOL * m, POOL * m);
+    set_part(ws, m, FLOORS * m, i, floors, floors);
+    spans
 }
 
 // New records 0 to m - 1.
-pub(crate) fn renew(ids: &[u16], ws: &mut [u16], m: usize, b: usize)
-    requires { ⌜ Blank (now ids) m b (now ws) ⌝ }
+pub(crate) fn renew(ids: &[u16], ws: &mut [u16], m: usize)
+    requires { ⌜ Blank (now ids) m (now ws) ⌝ }
     ensures { λ _. ⌜ Renewed (now (ids .entry)) m m (now (ws .entry)) (now (ws .exit)) ⌝ }
 {
-    tally(ids, ws, m, b);
+    tally(ids, ws, m);
     let mut lower = 0;
     let mut i = 0;
     while i < m {

@@ -1,9 +1,15 @@
 // A span is added to its record, part by part.
+use crate::cell::Spans;
 use crate::cell::join;
+use crate::map::FLOOR_ROOM;
+use crate::map::FLOORS;
+use crate::map::LISTS;
+use crate::map::POOL;
 use contour::edge::Edge;
 use contour::edge::first_solid;
+use contour::walk::Pool;
 use contour::walk::walk_contour;
-use field::place::Place;
+use field::place::SpanIx;
 use field::place::connections;
 use field::read::at8;
 use table::at;
@@ -12,142 +18,150 @@ use table::set_part;
 use table::start_of;
 ghost use mathlib.Core.Path.{_≡_};
 ghost use mathlib.Core.Bool.{true};
-ghost use mathlib.Core.List.{List};
-ghost use Prim.Native.Nat.{ℕ, _+_, _*_, _≤_, _<_};
+ghost use Prim.Native.Nat.{_+_, _*_, _≤_, _<_};
 ghost use lib.ListN.{length, getD};
-ghost use Rattle.rules.specs.Field.{Field};
 ghost use Rattle.rules.specs.Growth.{plain};
-ghost use Rattle.contour.specs.Ways.{Ways};
+ghost use Rattle.net.specs.Table.{netAt};
+ghost use Rattle.contour.specs.Pool.{Start};
 ghost use Rattle.table.specs.View.{startOf, endOf};
-ghost use Rattle.records.specs.Cell.{twins, othersFrom};
-ghost use Rattle.records.specs.Rows.{Keeping, Step, Tracing, Traced, traced, overlaid, floored, withList, contoured, celled};
-ghost use Rattle.records.specs.Stock.{Reach, SomeReach};
+ghost use Rattle.records.specs.Map.{poolIn, listsAt};
+ghost use Rattle.records.specs.Cell.{twins, othersFrom, Within};
+ghost use Rattle.records.specs.Rows.{Keeping, Step, Slack, Traced, traced, marked, floored, withList, contoured, celled};
+ghost use Rattle.records.specs.Stock.{Reach};
 
 // Overlap is set where another span of a cell has the id r too.
-pub(crate) fn add_overlap(ws: &mut [u16], m: usize, r: usize, twin: bool)
+fn add_overlap(ws: &mut [u16], m: usize, r: usize, twin: bool)
     requires { ⌜ (r < m) × (5 * m ≤ length (now ws)) ⌝ }
-    ensures { λ _. ⌜ ((ids : List ℕ) (top k : ℕ) → Keeping ids m top k (now (ws .entry)) → Step (overlaid twin) ids m r top k (now (ws .entry)) (now (ws .exit))) ⌝ }
+    ensures { λ _. ⌜ now (ws .exit) ≡ marked m r twin (now (ws .entry)) ⌝ }
 {
     if twin {
         ws[3 * m + r] = 1;
     }
 }
 
-// The ids of the others of the size spans from `from` on join the floors of record r, which has been counted already. The list's end
-// is written only where the list has grown. Gives whether one of them has the id of s.
-pub(crate) fn add_floors(
+// The ids of the cell's other spans join the floors of record r, which has been counted already. The list's end is written only where the
+// list has grown. Gives whether one of them has the span's id. What the pool has, up to top, only the contract reads.
+fn add_floors(
     ids: &[u16],
     ws: &mut [u16],
     m: usize,
     top: usize,
-    s: usize,
+    span: SpanIx,
     r: usize,
-    from: usize,
-    size: usize,
+    cell: Spans,
 ) -> bool
-    requires { ⌜ Keeping (now ids) m top (s + 1) (now ws) × (r < m) × (endOf (now ws) m (11 * m) r + 62 ≤ startOf (now ws) m (11 * m) r + 62 * getD (now ws) (m + r) 0) × (size ≤ 63) × (from + size ≤ length (now ids)) × (from ≤ s) × (s < from + size) ⌝ }
-    ensures { λ b. ⌜ Step (floored (othersFrom (now (ids .entry)) s size from)) (now (ids .entry)) m r top (s + 1) (now (ws .entry)) (now (ws .exit)) ⌝ }
-    ensures { λ b. ⌜ b ≡ twins (now (ids .entry)) s (getD (now (ids .entry)) s 0) size from ⌝ }
+    requires { ⌜ Keeping (now ids) m top (span .0 + 1) (now ws) × (r < m) × Slack m r (now ws) × Within (now ids) (span .0) cell ⌝ }
+    ensures { λ b. ⌜ (let others = othersFrom (now (ids .entry)) (span .0) (cell .size) (cell .from) in
+        Step (floored others) (now (ids .entry)) m r top (span .0 + 1) (now (ws .entry)) (now (ws .exit))) ⌝ }
+    ensures { λ b. ⌜ (let own = getD (now (ids .entry)) (span .0) 0 in
+        b ≡ twins (now (ids .entry)) (span .0) own (cell .size) (cell .from)) ⌝ }
 {
-    let a = start_of(ws, m, 11 * m, r);
-    let e = end_of(ws, m, 11 * m, r);
-    let z = a + 62 * at(ws, m + r);
-    let len = e - a;
-    let t = join(ids, &mut ws[a..z], s, from, size, len);
-    let n = t.len;
-    if n == len {
-        return t.twin;
+    let start = start_of(ws, m, FLOORS * m, r);
+    let end = end_of(ws, m, FLOORS * m, r);
+    let limit = start + FLOOR_ROOM * at(ws, m + r);
+    let len = end - start;
+    let taken = join(ids, &mut ws[start..limit], span, cell, len);
+    let listed = taken.len;
+    if listed == len {
+        return taken.twin;
     }
-    set_part(ws, m, 11 * m, r, a, a + n);
-    t.twin
+    set_part(ws, m, FLOORS * m, r, start, start + listed);
+    taken.twin
 }
 
-// The contour from the span at place p is listed in the pool, which begins at base, from top on, if the span has a solid edge. Gives the end.
-fn trace(
-    w: usize,
-    index: &[u32],
-    con: &[u8],
-    ids: &[u16],
-    ws: &mut [u16],
-    p: Place,
-    base: usize,
-    top: usize,
-) -> usize
-    requires { ⌜ Tracing w (now index) (now con) (now ids) (p .cell) (p .span .0) base top (now ws) ⌝ }
-    ensures { λ r. ⌜ ((F : Field) → Ways F w (now (index .entry)) (now (con .entry)) (now (ids .entry)) (p .cell) (p .span .0) → Traced (traced F (now (ids .entry)) (p .span .0)) (now (ids .entry)) base top (now (ws .entry)) (now (ws .exit)) r) ⌝ }
+// The contour from the span is listed in the pool from top on, if the span has a solid edge. Gives the end.
+fn trace(con: &[u8], ids: &[u16], ws: &mut [u16], pool: Pool, span: SpanIx, top: usize) -> usize
+    requires { ⌜ Start pool (now con) (now ids) (span .0) top (now ws) ⌝ }
+    ensures { λ r. ⌜ (let list = traced (netAt (pool .table) (now (ids .entry)) (now (ws .entry))) (now (ids .entry)) (span .0) in
+        Traced list (now (ids .entry)) (pool .at) top (now (ws .entry)) (now (ws .exit)) r) ⌝ }
 {
-    let s = p.span;
-    let cons = connections(con, s);
-    let z = base + 4 * ids.len();
-    match first_solid(w, index, ids, cons, p) {
-        Edge::At(d) => walk_contour(w, index, con, ids, &mut ws[base..z], p, d, top),
+    let cons = connections(con, span);
+    match first_solid(ids, ws, pool.table, cons, span) {
+        Edge::At(d) => walk_contour(con, ids, ws, pool, span, d, top),
         Edge::Nowhere => top,
     }
 }
 
-// Record r takes the contour from the span at place p as its list. Gives the pool's new end.
+// How many records there are, and where the table of neighbours begins.
+pub struct Plan {
+    pub records: usize,
+    pub table: usize,
+}
+
+// Record r takes the contour from the span as its list. Gives the pool's new end.
 fn add_list(
-    w: usize,
-    index: &[u32],
     con: &[u8],
     ids: &[u16],
     ws: &mut [u16],
-    m: usize,
-    p: Place,
+    plan: Plan,
+    span: SpanIx,
     r: usize,
     top: usize,
 ) -> usize
-    requires { ⌜ Tracing w (now index) (now con) (now ids) (p .cell) (p .span .0) (15 * m) top (now ws) × Keeping (now ids) m top (p .span .0 + 1) (now ws) × (r ≡ getD (now ids) (p .span .0) 0) × (r < m) × (endOf (now ws) m (7 * m) r ≤ startOf (now ws) m (7 * m) r) ⌝ }
-    ensures { λ t. ⌜ ((F : Field) → Ways F w (now (index .entry)) (now (con .entry)) (now (ids .entry)) (p .cell) (p .span .0) → Step (withList (traced F (now (ids .entry)) (p .span .0))) (now (ids .entry)) m r t (p .span .0 + 1) (now (ws .entry)) (now (ws .exit))) ⌝ }
+    requires { ⌜ Start (poolIn plan) (now con) (now ids) (span .0) top (now ws) ⌝ }
+    requires { ⌜ Keeping (now ids) (plan .records) top (span .0 + 1) (now ws) × (r ≡ getD (now ids) (span .0) 0) × (r < plan .records) ⌝ }
+    requires { ⌜ (let m = plan .records in
+        endOf (now ws) m (listsAt m) r ≤ startOf (now ws) m (listsAt m) r) ⌝ }
+    ensures { λ t. ⌜ (let list = traced (netAt (plan .table) (now (ids .entry)) (now (ws .entry))) (now (ids .entry)) (span .0) in
+        Step (withList list) (now (ids .entry)) (plan .records) r t (span .0 + 1) (now (ws .entry)) (now (ws .exit))) ⌝ }
 {
-    let t = trace(w, index, con, ids, ws, p, 15 * m, top);
-    set_part(ws, m, 7 * m, r, 15 * m + top, 15 * m + t);
-    t
+    let m = plan.records;
+    let pool = Pool {
+        at: POOL * m,
+        table: plan.table,
+    };
+    let end = trace(con, ids, ws, pool, span, top);
+    set_part(ws, m, LISTS * m, r, POOL * m + top, POOL * m + end);
+    end
 }
 
-// While record r has no list it takes the area of the span at place p, and its contour. Gives the pool's new end.
+// While record r has no list it takes the span's area, and its contour. Gives the pool's new end.
 pub(crate) fn add_contour(
-    w: usize,
-    index: &[u32],
     area: &[u8],
     con: &[u8],
     ids: &[u16],
     ws: &mut [u16],
-    m: usize,
-    p: Place,
+    plan: Plan,
+    span: SpanIx,
     r: usize,
     top: usize,
 ) -> usize
-    requires { ⌜ SomeReach w (now index) (now area) (now con) (now ids) (p .cell) (p .span .0) × Keeping (now ids) m top (p .span .0 + 1) (now ws) × (r ≡ getD (now ids) (p .span .0) 0) × (r < m) × (r ≡ 0 → ⊥) ⌝ }
-    ensures { λ t. ⌜ ((F : Field) → Reach F w (now (index .entry)) (now (area .entry)) (now (con .entry)) (now (ids .entry)) (p .cell) (p .span .0) → Step (contoured F (now (ids .entry)) (p .span .0)) (now (ids .entry)) m r t (p .span .0 + 1) (now (ws .entry)) (now (ws .exit))) ⌝ }
+    requires { ⌜ Reach plan (now area) (now con) (now ids) (now ws) (span .0) ⌝ }
+    requires { ⌜ Keeping (now ids) (plan .records) top (span .0 + 1) (now ws) ⌝ }
+    requires { ⌜ (r ≡ getD (now ids) (span .0) 0) × (r < plan .records) × (r ≡ 0 → ⊥) ⌝ }
+    ensures { λ t. ⌜ (let net = netAt (plan .table) (now (area .entry)) (now (ws .entry)) in
+        let f = contoured net (now (ids .entry)) (span .0) in
+        Step f (now (ids .entry)) (plan .records) r t (span .0 + 1) (now (ws .entry)) (now (ws .exit))) ⌝ }
 {
-    if start_of(ws, m, 7 * m, r) < end_of(ws, m, 7 * m, r) {
+    let m = plan.records;
+    if start_of(ws, m, LISTS * m, r) < end_of(ws, m, LISTS * m, r) {
         return top;
     }
-    let a = at8(area, p.span.0);
+    let a = at8(area, span.0);
     ws[2 * m + r] = a as u16;
-    add_list(w, index, con, ids, ws, m, p, r, top)
+    add_list(con, ids, ws, plan, span, r, top)
 }
 
-// Span s, of id r, adds one to its record; of its cell, the size spans from `from` on, it takes floors and overlap,
-// and there are none where it is the only one.
+// The span, of id r, adds one to its record; of its cell it takes floors and overlap, and there are none where it is the only one.
+// What the pool has, up to top, only the contract reads.
 pub(crate) fn add_cell(
     ids: &[u16],
     ws: &mut [u16],
     m: usize,
     top: usize,
-    s: usize,
+    span: SpanIx,
     r: usize,
-    from: usize,
-    size: usize,
+    cell: Spans,
 )
-    requires { ⌜ Keeping (now ids) m top s (now ws) × (r ≡ getD (now ids) s 0) × (plain (getD (now ids) s 0) ≡ true) × (size ≤ 63) × (from + size ≤ length (now ids)) × (from ≤ s) × (s < from + size) ⌝ }
-    ensures { λ _. ⌜ Step (celled (now (ids .entry)) s size from) (now (ids .entry)) m r top (s + 1) (now (ws .entry)) (now (ws .exit)) ⌝ }
+    requires { ⌜ Keeping (now ids) m top (span .0) (now ws) × Within (now ids) (span .0) cell ⌝ }
+    requires { ⌜ (r ≡ getD (now ids) (span .0) 0) × (plain (getD (now ids) (span .0) 0) ≡ true) ⌝ }
+    ensures { λ _. ⌜ (let f = celled (now (ids .entry)) (span .0) (cell .size) (cell .from) in
+        Step f (now (ids .entry)) m r top (span .0 + 1) (now (ws .entry)) (now (ws .exit))) ⌝ }
 {
     ws[m + r] += 1;
-    if size == 1 {
+    if cell.size == 1 {
         return;
     }
-    let twin = add_floors(ids, ws, m, top, s, r, from, size);
+    let twin = add_floors(ids, ws, m, top, span, r, cell);
     add_overlap(ws, m, r, twin);
 }

@@ -3,3 +3,4 @@ pub mod build;
 mod cell;
 mod fresh;
 mod grow;
+pub mod map;

@@ -5,31 +5,32 @@ use mathlib.Core.Path.{_≡_, refl}
 use mathlib.Core.Bool.{true}
 use borrow.Author.Tests.{eqb-false, ne-eqb, lt-leb, leb-false, not-true}
 use Rattle.rules.specs.Base.{_and_}
-use Rattle.rules.specs.Field.{Field}
+use Rattle.rules.specs.Net.{Net}
 use Rattle.rules.specs.Growth.{plain}
 use Rattle.laws.proofs.Basics.{both}
-use Rattle.rooms.specs.Rooms.{Joined, stay, goes, comes, Plain}
+use Rattle.rooms.specs.Rooms.{Plain}
+use Rattle.rooms.specs.Linked.{Linked, stay, goes, comes}
 
-module _ (F : Field) (C : ℕ → Type 0) where
-  pub joined-head : {s t : ℕ} → Joined F C s t → C s
+module _ (N : Net) (C : ℕ → Type 0) where
+  pub joined-head : {s t : ℕ} → Linked N C s t → C s
   joined-head (stay c) = c
   joined-head (goes d h c p) = c
   joined-head (comes v d h e c p) = c
 
-  pub joined-trans : {s t u : ℕ} → Joined F C s t → Joined F C t u → Joined F C s u
+  pub joined-trans : {s t u : ℕ} → Linked N C s t → Linked N C t u → Linked N C s u
   joined-trans (stay c) q = q
   joined-trans (goes d h c p) q = goes d h c (joined-trans p q)
   joined-trans (comes v d h e c p) q = comes v d h e c (joined-trans p q)
 
-  pub joined-sym : {s t : ℕ} → Joined F C s t → Joined F C t s
+  pub joined-sym : {s t : ℕ} → Linked N C s t → Linked N C t s
   joined-sym (stay c) = stay c
   joined-sym (goes {s = s} d h c p) = joined-trans (joined-sym p) (comes s d h refl (joined-head p) (stay c))
   joined-sym (comes {s = s} v d h e c p) = joined-trans (joined-sym p) (goes d h (joined-head p) (rw e (stay c)))
 
-pub joined-map : (F : Field) {C D : ℕ → Type 0} → ((u : ℕ) → C u → D u) → {s t : ℕ} → Joined F C s t → Joined F D s t
-joined-map F f (stay c) = stay (f _ c)
-joined-map F f (goes d h c p) = goes d h (f _ c) (joined-map F f p)
-joined-map F f (comes v d h e c p) = comes v d h e (f _ c) (joined-map F f p)
+pub joined-map : (N : Net) {C D : ℕ → Type 0} → ((u : ℕ) → C u → D u) → {s t : ℕ} → Linked N C s t → Linked N D s t
+joined-map N f (stay c) = stay (f _ c)
+joined-map N f (goes d h c p) = goes d h (f _ c) (joined-map N f p)
+joined-map N f (comes v d h e c p) = comes v d h e (f _ c) (joined-map N f p)
 
 pub plain-true : (r : ℕ) → plain r ≡ true → Plain r
 plain-true r e =

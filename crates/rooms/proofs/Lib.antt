@@ -1,5 +1,6 @@
 -- Demand 3: each room is one area, joined, and the rooms are numbered without a gap.
 pub mod Joins
+pub mod Forward
 pub mod Expanding
 pub mod Flooding
 pub mod Growing

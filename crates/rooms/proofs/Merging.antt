@@ -9,12 +9,12 @@ use lib.ListN.{length, getD, set, take, drop, length-set, length-map}
 use lib.Dec.{eqb}
 use borrow.Author.Tests.{eqb-true, eqb-false, not-true}
 use Rattle.rules.specs.Base.{if_then_else_, any}
-use Rattle.rules.specs.Field.{Field, near, areaOf}
+use Rattle.rules.specs.Net.{Net, near, areaOf}
 use Rattle.rules.specs.Records.{Rec, at, has}
 use Rattle.rules.specs.Merge.{suits, Pick, picked, place, around, dedup, tidy, absorbed, emptied, renamed, Merge, mergeOne, merged}
 use Rattle.laws.proofs.Basics.{both, neither, if-ind, upto-ind, All, All-map, All-both, append-all, map-all, take-all}
 use Rattle.laws.proofs.MergeEnds.{renamed-fresh, at-map}
-use Rattle.rooms.specs.Rooms.{Joined, stay, goes}
+use Rattle.rooms.specs.Linked.{Linked, stay, goes}
 use Rattle.rooms.proofs.Joins.{joined-trans, joined-sym, joined-map}
 use Rattle.rooms.proofs.Expanding.{Grow}
 use Rattle.rooms.proofs.Listing.{at-set, at-past, Outer, under, Inner, outer-inner, Raw}
@@ -71,30 +71,30 @@ abbrev pub cls : List ℕ → List Rec → ℕ → ℕ
 cls ids rs s = at rs (getD ids s 0) .id
 
 -- a connection from class k to class r
-pub record Meets (F : Field) (ids : List ℕ) (rs : List Rec) (k r : ℕ) : Type 0 where
+pub record Meets (N : Net) (ids : List ℕ) (rs : List Rec) (k r : ℕ) : Type 0 where
   pub span : ℕ
   pub dir : ℕ
   pub four : dir < 4
   pub own : cls ids rs span ≡ k
-  pub there : cls ids rs (near F span dir) ≡ r
+  pub there : cls ids rs (near N span dir) ≡ r
 
 -- of what a record of class k lists: if it is live, it is a class that k meets
-abbrev pub Lists : Field → List ℕ → List Rec → ℕ → ℕ → Type 0
-Lists F ids rs k r = (at rs r .id ≡ 0 → ⊥) → (at rs r .id ≡ r) × Meets F ids rs k r
+abbrev pub Lists : Net → List ℕ → List Rec → ℕ → ℕ → Type 0
+Lists N ids rs k r = (at rs r .id ≡ 0 → ⊥) → (at rs r .id ≡ r) × Meets N ids rs k r
 
-pub record Sound (F : Field) (first next : ℕ) (ids : List ℕ) (rs : List Rec) : Type 0 where
+pub record Sound (N : Net) (first next : ℕ) (ids : List ℕ) (rs : List Rec) : Type 0 where
   pub size : length rs ≡ suc next
   pub outer : (j : ℕ) → Outer first next j → at rs j .id ≡ j
   pub range : (j : ℕ) → Inner first next j → (at rs j .id ≡ 0 → ⊥) → Inner first next (at rs j .id)
   pub rep : (j : ℕ) → (at rs j .id ≡ 0 → ⊥) → at rs (at rs j .id) .id ≡ at rs j .id
-  pub area : (j s : ℕ) → (at rs j .id ≡ 0 → ⊥) → cls ids rs s ≡ at rs j .id → areaOf F s ≡ at rs j .area
-  pub list : (j : ℕ) → (at rs j .id ≡ 0 → ⊥) → All (Lists F ids rs (at rs j .id)) (at rs j .list)
-  pub join : (k s t : ℕ) → (k ≡ 0 → ⊥) → cls ids rs s ≡ k → cls ids rs t ≡ k → Joined F (λ u. cls ids rs u ≡ k) s t
+  pub area : (j s : ℕ) → (at rs j .id ≡ 0 → ⊥) → cls ids rs s ≡ at rs j .id → areaOf N s ≡ at rs j .area
+  pub list : (j : ℕ) → (at rs j .id ≡ 0 → ⊥) → All (Lists N ids rs (at rs j .id)) (at rs j .list)
+  pub join : (k s t : ℕ) → (k ≡ 0 → ⊥) → cls ids rs s ≡ k → cls ids rs t ≡ k → Linked N (λ u. cls ids rs u ≡ k) s t
 
 -- a span that has a class has a record of growth
-pub cls-record : (F : Field) (first next : ℕ) (ids : List ℕ) (rs : List Rec) → Grow F first next ids → next < 0x8000
+pub cls-record : (N : Net) (first next : ℕ) (ids : List ℕ) (rs : List Rec) → Grow N first next ids → next < 0x8000
     → length rs ≡ suc next → at rs 0 .id ≡ 0 → (s : ℕ) → (cls ids rs s ≡ 0 → ⊥) → Inner first next (getD ids s 0)
-cls-record F first next ids rs g few size z s n =
+cls-record N first next ids rs g few size z s n =
     let r = getD ids s 0 in
     elim (ℕ-discrete r 0) [
       | yes e ↦ absurd (n (ap (λ (y : ℕ). at rs y .id) e ∙ z))
@@ -106,8 +106,8 @@ cls-record F first next ids rs g few size z s n =
 
 -- ---------------------------------------------------------------- one merge, of class a into class b
 
-module _ (F : Field) (first next : ℕ) (ids : List ℕ) (g : Grow F first next ids) (few : next < 0x8000) (rs rs′ : List Rec) (a b i : ℕ) (h : Sound F first next ids rs)
-    (az : a ≡ 0 → ⊥) (bz : b ≡ 0 → ⊥) (ab : b ≡ a → ⊥) (ia : at rs i .id ≡ a) (bb : at rs b .id ≡ b) (meet : Meets F ids rs a b) (areas : at rs i .area ≡ at rs b .area)
+module _ (N : Net) (first next : ℕ) (ids : List ℕ) (g : Grow N first next ids) (few : next < 0x8000) (rs rs′ : List Rec) (a b i : ℕ) (h : Sound N first next ids rs)
+    (az : a ≡ 0 → ⊥) (bz : b ≡ 0 → ⊥) (ab : b ≡ a → ⊥) (ia : at rs i .id ≡ a) (bb : at rs b .id ≡ b) (meet : Meets N ids rs a b) (areas : at rs i .area ≡ at rs b .area)
     (names : (j : ℕ) → at rs′ j .id ≡ ren a b (at rs j .id)) where
   zero-id : at rs 0 .id ≡ 0
   zero-id = h .outer 0 (under (g .some))
@@ -115,13 +115,13 @@ module _ (F : Field) (first next : ℕ) (ids : List ℕ) (g : Grow F first next 
   inner-a : Inner first next a
   inner-a =
       let n : cls ids rs (meet .span) ≡ 0 → ⊥ = λ e. az (sym (meet .own) ∙ e) in
-      rw (meet .own) at (h .range (getD ids (meet .span) 0) (cls-record F first next ids rs g few (h .size) zero-id (meet .span) n) n)
+      rw (meet .own) at (h .range (getD ids (meet .span) 0) (cls-record N first next ids rs g few (h .size) zero-id (meet .span) n) n)
 
   inner-b : Inner first next b
   inner-b =
-      let t = near F (meet .span) (meet .dir) in
+      let t = near N (meet .span) (meet .dir) in
       let n : cls ids rs t ≡ 0 → ⊥ = λ e. bz (sym (meet .there) ∙ e) in
-      rw (meet .there) at (h .range (getD ids t 0) (cls-record F first next ids rs g few (h .size) zero-id t n) n)
+      rw (meet .there) at (h .range (getD ids t 0) (cls-record N first next ids rs g few (h .size) zero-id t n) n)
 
   aa : at rs a .id ≡ a
   aa = let e = h .rep i (λ z. az (sym ia ∙ z)) in rw ia at e
@@ -133,16 +133,16 @@ module _ (F : Field) (first next : ℕ) (ids : List ℕ) (g : Grow F first next 
   live-before : (j : ℕ) → (at rs′ j .id ≡ 0 → ⊥) → at rs j .id ≡ 0 → ⊥
   live-before j n e = n (names j ∙ ren-miss a b (at rs j .id) (λ k. az (sym k ∙ e)) ∙ e)
 
-  meets-ren : (k r : ℕ) → Meets F ids rs k r → Meets F ids rs′ (ren a b k) (ren a b r)
+  meets-ren : (k r : ℕ) → Meets N ids rs k r → Meets N ids rs′ (ren a b k) (ren a b r)
   meets-ren k r m = record {
     span = m .span;
     dir = m .dir;
     four = m .four;
     own = cls-ren (m .span) ∙ ap (ren a b) (m .own);
-    there = cls-ren (near F (m .span) (m .dir)) ∙ ap (ren a b) (m .there);
+    there = cls-ren (near N (m .span) (m .dir)) ∙ ap (ren a b) (m .there);
   }
 
-  pub lists-ren : (k r : ℕ) → Lists F ids rs k r → Lists F ids rs′ (ren a b k) (ren a b r)
+  pub lists-ren : (k r : ℕ) → Lists N ids rs k r → Lists N ids rs′ (ren a b k) (ren a b r)
   lists-ren k r l n =
       elim (ℕ-discrete r a) [
         | yes e ↦
@@ -175,7 +175,7 @@ module _ (F : Field) (first next : ℕ) (ids : List ℕ) (g : Grow F first next 
       ap (λ (y : ℕ). at rs′ y .id) (sym e) ∙ names (at rs j .id) ∙ ap (ren a b) r ∙ ren-miss a b (at rs j .id) x ∙ e)
 
   -- the one area of both
-  span-area : (s : ℕ) → ren a b (cls ids rs s) ≡ b → areaOf F s ≡ at rs b .area
+  span-area : (s : ℕ) → ren a b (cls ids rs s) ≡ b → areaOf N s ≡ at rs b .area
   span-area s e =
       ren-cases a b (cls ids rs s) b _ e
       (λ x _. h .area i s (λ z. az (sym ia ∙ z)) (x ∙ sym ia) ∙ areas)
@@ -188,10 +188,10 @@ module _ (F : Field) (first next : ℕ) (ids : List ℕ) (g : Grow F first next 
       let s = meet .span in
       sym (h .area j s (λ z. az (sym x ∙ z)) (meet .own ∙ sym x)) ∙ span-area s (ren-hit a b (cls ids rs s) (meet .own)))
       (λ _ x.
-      let t = near F (meet .span) (meet .dir) in
+      let t = near N (meet .span) (meet .dir) in
       sym (h .area j t (λ z. bz (sym x ∙ z)) (meet .there ∙ sym x)) ∙ span-area t (ap (ren a b) (meet .there) ∙ ren-miss a b b ab))
 
-  merge-area : (j s : ℕ) → (at rs′ j .id ≡ 0 → ⊥) → cls ids rs′ s ≡ at rs′ j .id → areaOf F s ≡ at rs j .area
+  merge-area : (j s : ℕ) → (at rs′ j .id ≡ 0 → ⊥) → cls ids rs′ s ≡ at rs′ j .id → areaOf N s ≡ at rs j .area
   merge-area j s n e =
       let e2 : ren a b (cls ids rs s) ≡ at rs′ j .id = sym (cls-ren s) ∙ e in
       elim (ℕ-discrete (at rs′ j .id) b) [
@@ -203,31 +203,31 @@ module _ (F : Field) (first next : ℕ) (ids : List ℕ) (g : Grow F first next 
       ]
 
   -- every span of the new class is joined to the far side of the meeting
-  merge-hub : (s : ℕ) → ren a b (cls ids rs s) ≡ b → Joined F (λ u. cls ids rs′ u ≡ b) s (near F (meet .span) (meet .dir))
+  merge-hub : (s : ℕ) → ren a b (cls ids rs s) ≡ b → Linked N (λ u. cls ids rs′ u ≡ b) s (near N (meet .span) (meet .dir))
   merge-hub s e =
-      let t = near F (meet .span) (meet .dir) in
+      let t = near N (meet .span) (meet .dir) in
       let from-a : (u : ℕ) → cls ids rs u ≡ a → cls ids rs′ u ≡ b = λ u k. cls-ren u ∙ ren-hit a b (cls ids rs u) k in
       let from-b : (u : ℕ) → cls ids rs u ≡ b → cls ids rs′ u ≡ b = λ u k. cls-ren u ∙ ap (ren a b) k ∙ ren-miss a b b ab in
       ren-cases a b (cls ids rs s) b _ e
-      (λ x _. joined-trans F (λ u. cls ids rs′ u ≡ b) (joined-map F from-a (h .join a s (meet .span) az x (meet .own)))
+      (λ x _. joined-trans N (λ u. cls ids rs′ u ≡ b) (joined-map N from-a (h .join a s (meet .span) az x (meet .own)))
       (goes (meet .dir) (meet .four) (from-a (meet .span) (meet .own)) (stay (from-b t (meet .there)))))
-      (λ _ x. joined-map F from-b (h .join b s t bz x (meet .there)))
+      (λ _ x. joined-map N from-b (h .join b s t bz x (meet .there)))
 
-  merge-join : (k s t : ℕ) → (k ≡ 0 → ⊥) → cls ids rs′ s ≡ k → cls ids rs′ t ≡ k → Joined F (λ u. cls ids rs′ u ≡ k) s t
+  merge-join : (k s t : ℕ) → (k ≡ 0 → ⊥) → cls ids rs′ s ≡ k → cls ids rs′ t ≡ k → Linked N (λ u. cls ids rs′ u ≡ k) s t
   merge-join k s t z x y =
       let x2 : ren a b (cls ids rs s) ≡ k = sym (cls-ren s) ∙ x in
       let y2 : ren a b (cls ids rs t) ≡ k = sym (cls-ren t) ∙ y in
       elim (ℕ-discrete k b) [
-        | yes e ↦ subst (λ (n : ℕ). Joined F (λ u. cls ids rs′ u ≡ n) s t) (sym e)
-            (joined-trans F (λ u. cls ids rs′ u ≡ b) (merge-hub s (x2 ∙ e)) (joined-sym F (λ u. cls ids rs′ u ≡ b) (merge-hub t (y2 ∙ e))))
+        | yes e ↦ subst (λ (n : ℕ). Linked N (λ u. cls ids rs′ u ≡ n) s t) (sym e)
+            (joined-trans N (λ u. cls ids rs′ u ≡ b) (merge-hub s (x2 ∙ e)) (joined-sym N (λ u. cls ids rs′ u ≡ b) (merge-hub t (y2 ∙ e))))
         | no e ↦
             ren-cases a b (cls ids rs s) k _ x2 (λ _ w. absurd (e w))
             (λ n v. ren-cases a b (cls ids rs t) k _ y2 (λ _ w. absurd (e w))
-            (λ _ w. joined-map F (λ u q. cls-ren u ∙ ren-miss a b (cls ids rs u) (λ c. n (v ∙ sym q ∙ c)) ∙ q) (h .join k s t z v w)))
+            (λ _ w. joined-map N (λ u q. cls-ren u ∙ ren-miss a b (cls ids rs u) (λ c. n (v ∙ sym q ∙ c)) ∙ q) (h .join k s t z v w)))
       ]
 
   pub merge-sound : length rs′ ≡ length rs → ((j : ℕ) → at rs′ j .area ≡ at rs j .area)
-      → ((j : ℕ) → (at rs j .id ≡ 0 → ⊥) → All (Lists F ids rs′ (ren a b (at rs j .id))) (at rs′ j .list)) → Sound F first next ids rs′
+      → ((j : ℕ) → (at rs j .id ≡ 0 → ⊥) → All (Lists N ids rs′ (ren a b (at rs j .id))) (at rs′ j .list)) → Sound N first next ids rs′
   merge-sound n ar ls = record {
     size = n ∙ h .size;
     outer = merge-outer;
@@ -311,23 +311,23 @@ module _ (rs : List Rec) (i a b : ℕ) (az : a ≡ 0 → ⊥) where
 
 -- ---------------------------------------------------------------- the neighbour picked
 
-pub record Picked (F : Field) (ids : List ℕ) (rs : List Rec) (r : Rec) (b : ℕ) : Type 0 where
+pub record Picked (N : Net) (ids : List ℕ) (rs : List Rec) (r : Rec) (b : ℕ) : Type 0 where
   pub some : b ≡ 0 → ⊥
   pub self : at rs b .id ≡ b
-  pub meets : Meets F ids rs (r .id) b
+  pub meets : Meets N ids rs (r .id) b
   pub area : r .area ≡ at rs b .area
 
 suits-area : (a b : Rec) → suits a b ≡ true → a .area ≡ b .area
 unfolding suits
 suits-area a b e = eqb-true _ _ (both _ _ (both _ _ e .0) .0)
 
-picked-is : (F : Field) (ids : List ℕ) (rs : List Rec) (r : Rec) (l : List ℕ) (p : Pick) → All (Lists F ids rs (r .id)) l
-    → ((p .id ≡ r .id → ⊥) → Picked F ids rs r (p .id)) → (picked rs r l p .id ≡ r .id → ⊥) → Picked F ids rs r (picked rs r l p .id)
+picked-is : (N : Net) (ids : List ℕ) (rs : List Rec) (r : Rec) (l : List ℕ) (p : Pick) → All (Lists N ids rs (r .id)) l
+    → ((p .id ≡ r .id → ⊥) → Picked N ids rs r (p .id)) → (picked rs r l p .id ≡ r .id → ⊥) → Picked N ids rs r (picked rs r l p .id)
 unfolding picked
-picked-is F ids rs r [] p a h = h
-picked-is F ids rs r (x ∷ l) p a h =
-    picked-is F ids rs r l _ (a .1)
-    (if-ind (λ (y : Pick). (y .id ≡ r .id → ⊥) → Picked F ids rs r (y .id)) _
+picked-is N ids rs r [] p a h = h
+picked-is N ids rs r (x ∷ l) p a h =
+    picked-is N ids rs r l _ (a .1)
+    (if-ind (λ (y : Pick). (y .id ≡ r .id → ⊥) → Picked N ids rs r (y .id)) _
     (λ e n.
     let e1 = both _ _ (both _ _ e .0) in
     let e2 = both _ _ (both _ _ (both _ _ (e1 .0) .0) .0) in
@@ -343,52 +343,52 @@ picked-is F ids rs r (x ∷ l) p a h =
 
 -- ---------------------------------------------------------------- all merges
 
-module _ (F : Field) (first next : ℕ) (ids : List ℕ) (g : Grow F first next ids) (few : next < 0x8000) where
-  after-sound : (rs : List Rec) (i b : ℕ) → Sound F first next ids rs → (at rs i .id ≡ 0 → ⊥) → (b ≡ at rs i .id → ⊥) → Picked F ids rs (at rs i) b
-      → Sound F first next ids (after rs i (at rs i .id) b)
+module _ (N : Net) (first next : ℕ) (ids : List ℕ) (g : Grow N first next ids) (few : next < 0x8000) where
+  after-sound : (rs : List Rec) (i b : ℕ) → Sound N first next ids rs → (at rs i .id ≡ 0 → ⊥) → (b ≡ at rs i .id → ⊥) → Picked N ids rs (at rs i) b
+      → Sound N first next ids (after rs i (at rs i .id) b)
   after-sound rs i b h z n p =
       let a = at rs i .id in
       let rs′ = after rs i a b in
       let names = after-id rs i a b z in
-      let turn : (k x : ℕ) → Lists F ids rs k x → Lists F ids rs′ (ren a b k) (ren a b x) = λ k x. lists-ren F first next ids g few rs rs′ a b i h z (p .some) n refl (p .self) (p .meets) (p .area) names k x in
-      merge-sound F first next ids g few rs rs′ a b i h z (p .some) n refl (p .self) (p .meets) (p .area) names (after-size rs i a b z) (after-area rs i a b z)
-      (λ j live. after-list rs i a b z j (Lists F ids rs′ (ren a b (at rs j .id))) live
-      (mid-list rs i a b z j (λ x. Lists F ids rs′ (ren a b (at rs j .id)) (ren a b x))
+      let turn : (k x : ℕ) → Lists N ids rs k x → Lists N ids rs′ (ren a b k) (ren a b x) = λ k x. lists-ren N first next ids g few rs rs′ a b i h z (p .some) n refl (p .self) (p .meets) (p .area) names k x in
+      merge-sound N first next ids g few rs rs′ a b i h z (p .some) n refl (p .self) (p .meets) (p .area) names (after-size rs i a b z) (after-area rs i a b z)
+      (λ j live. after-list rs i a b z j (Lists N ids rs′ (ren a b (at rs j .id))) live
+      (mid-list rs i a b z j (λ x. Lists N ids rs′ (ren a b (at rs j .id)) (ren a b x))
       (All-map (at rs j .list) (λ x l. turn (at rs j .id) x l) (h .list j live))
       (λ e.
       let jb : at rs j .id ≡ b = ap (λ (y : ℕ). at rs y .id) e ∙ p .self in
       let rj : ren a b (at rs j .id) ≡ b = ap (ren a b) jb ∙ ren-miss a b b n in
-      let from-b : All (λ x. Lists F ids rs′ (ren a b (at rs j .id)) (ren a b x)) (at rs b .list) =
-      All-map (at rs b .list) (λ x l. subst (λ (k : ℕ). Lists F ids rs′ (ren a b k) (ren a b x)) (p .self ∙ sym jb) (turn (at rs b .id) x l)) (h .list b (λ k. p .some (sym (p .self) ∙ k))) in
-      let from-a : All (λ x. Lists F ids rs′ (ren a b (at rs j .id)) (ren a b x)) (at rs i .list) =
+      let from-b : All (λ x. Lists N ids rs′ (ren a b (at rs j .id)) (ren a b x)) (at rs b .list) =
+      All-map (at rs b .list) (λ x l. subst (λ (k : ℕ). Lists N ids rs′ (ren a b k) (ren a b x)) (p .self ∙ sym jb) (turn (at rs b .id) x l)) (h .list b (λ k. p .some (sym (p .self) ∙ k))) in
+      let from-a : All (λ x. Lists N ids rs′ (ren a b (at rs j .id)) (ren a b x)) (at rs i .list) =
       All-map (at rs i .list) (λ x l. rw (rj ∙ sym (ren-hit a b a refl)) (turn a x l)) (h .list i z) in
       (from-b, from-a))))
 
-  merge-one : (area i : ℕ) (x : Merge) → Sound F first next ids (x .recs) → Sound F first next ids (mergeOne area i x .recs)
+  merge-one : (area i : ℕ) (x : Merge) → Sound N first next ids (x .recs) → Sound N first next ids (mergeOne area i x .recs)
   unfolding mergeOne
   merge-one area i x h =
       let rs = x .recs in
       let r = at rs i in
       let p = picked rs r (r .list) (record { size = 65536; id = r .id }) in
-      if-ind (λ (y : Merge). Sound F first next ids (y .recs)) _ (λ _. h)
+      if-ind (λ (y : Merge). Sound N first next ids (y .recs)) _ (λ _. h)
       (λ e.
       let e1 = neither _ _ (neither _ _ e .0) in
       let e2 = neither _ _ (neither _ _ (neither _ _ (e1 .0) .0) .0) in
       let z : r .id ≡ 0 → ⊥ = eqb-false _ _ (e2 .0) in
       let n : p .id ≡ r .id → ⊥ = eqb-false _ _ (e1 .1) in
-      after-sound rs i (p .id) h z n (picked-is F ids rs r (r .list) _ (h .list i z) (λ k. absurd (k refl)) n))
+      after-sound rs i (p .id) h z n (picked-is N ids rs r (r .list) _ (h .list i z) (λ k. absurd (k refl)) n))
 
-  pub merged-sound : (area k : ℕ) (rs : List Rec) → Sound F first next ids rs → Sound F first next ids (merged area k rs)
+  pub merged-sound : (area k : ℕ) (rs : List Rec) → Sound N first next ids rs → Sound N first next ids (merged area k rs)
   unfolding merged
   merged-sound area zero rs h = h
   merged-sound area (suc k) rs h =
-      let x = upto-ind (λ j (y : Merge). Sound F first next ids (y .recs)) (mergeOne area) (record { recs = rs; merges = 0 }) (length rs) h (λ j y _ q. merge-one area j y q) in
-      if-ind (λ (y : List Rec). Sound F first next ids y) _ (λ _. h) (λ _. merged-sound area k _ x)
+      let x = upto-ind (λ j (y : Merge). Sound N first next ids (y .recs)) (mergeOne area) (record { recs = rs; merges = 0 }) (length rs) h (λ j y _ q. merge-one area j y q) in
+      if-ind (λ (y : List Rec). Sound N first next ids y) _ (λ _. h) (λ _. merged-sound area k _ x)
 
   -- before any merge
-  pub raw-sound : (rs : List Rec) → Raw F first next ids rs → Sound F first next ids rs
+  pub raw-sound : (rs : List Rec) → Raw N first next ids rs → Sound N first next ids rs
   raw-sound rs h =
-      let live : (s : ℕ) → (cls ids rs s ≡ 0 → ⊥) → Inner first next (getD ids s 0) = λ s z. cls-record F first next ids rs g few (h .size) (h .outer 0 (under (g .some))) s z in
+      let live : (s : ℕ) → (cls ids rs s ≡ 0 → ⊥) → Inner first next (getD ids s 0) = λ s z. cls-record N first next ids rs g few (h .size) (h .outer 0 (under (g .some))) s z in
       record {
         size = h .size;
         outer = h .outer;
@@ -415,5 +415,5 @@ module _ (F : Field) (first next : ℕ) (ids : List ℕ) (g : Grow F first next 
             let is : getD ids s 0 ≡ k = sym (h .own (getD ids s 0) zs) ∙ x in
             let it : getD ids t 0 ≡ k = sym (h .own (getD ids t 0) zt) ∙ y in
             let n = live s zs in
-            joined-map F (λ u q. ap (λ (v : ℕ). at rs v .id) (q ∙ sym is) ∙ x) (g .join k s t (omega (arith, g .some), omega arith) is it);
+            joined-map N (λ u q. ap (λ (v : ℕ). at rs v .id) (q ∙ sym is) ∙ x) (g .join k s t (omega (arith, g .some), omega arith) is it);
       }

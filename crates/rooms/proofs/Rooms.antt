@@ -9,7 +9,8 @@ use lib.ListN.{length, getD, length-append}
 use lib.Dec.{eqb}
 use borrow.Author.Tests.{eqb-true, eqb-false, lt-leb, leb-true, ltb-false, not-false}
 use Rattle.rules.specs.Base.{if_then_else_, upto}
-use Rattle.rules.specs.Field.{Field, spans, areaOf}
+use Rattle.rules.specs.Field.{Field, Bytes}
+use Rattle.rules.specs.Net.{Net, netOf, spans}
 use Rattle.rules.specs.Refusals.{refusal, regionRefusal, tooMany}
 use Rattle.rules.specs.Growth.{flagged, firstId, grown}
 use Rattle.rules.specs.Records.{Rec, at, has, records}
@@ -18,9 +19,12 @@ use Rattle.rules.specs.Merge.{place, merged}
 use Rattle.rules.specs.Numbering.{live, numberOf, numbered, regions}
 use Rattle.laws.proofs.Basics.{if-ind, All-map, pigeonhole, nonzero-in, all-at}
 use Rattle.laws.proofs.Cells.{passed}
+use Rattle.laws.proofs.Nets.{net-bytes}
 use Rattle.laws.proofs.Grows.{first-few, grown-next}
-use Rattle.rooms.specs.Rooms.{Joined, Plain, Bears, Rooms}
+use Rattle.rooms.specs.Rooms.{Plain, Bears, Rooms}
+use Rattle.rooms.specs.Linked.{Linked, LinkedRooms}
 use Rattle.rooms.proofs.Joins.{joined-map}
+use Rattle.rooms.proofs.Forward.{rooms-forward}
 use Rattle.rooms.proofs.Expanding.{Grow}
 use Rattle.rooms.proofs.Growing.{grown-grow}
 use Rattle.rooms.proofs.Listing.{under, end, records-raw}
@@ -49,7 +53,7 @@ number-some l c z = if-ind (λ (n : ℕ). n ≡ suc (place l c)) (eqb c 0) (λ k
 abbrev final : List Rec → List ℕ → ℕ → ℕ
 final rs l r = if flagged r then r else numberOf l (at rs r .id)
 
-module _ (F : Field) (first next : ℕ) (ids : List ℕ) (g : Grow F first next ids) (few : next < 0x8000) (rs : List Rec) (h : Sound F first next ids rs) where
+module _ (N : Net) (first next : ℕ) (ids : List ℕ) (g : Grow N first next ids) (few : next < 0x8000) (rs : List Rec) (h : Sound N first next ids rs) where
   -- numbered before the last record
   front : List ℕ
   front = upto next (add (λ j. at rs j .id)) []
@@ -84,7 +88,7 @@ module _ (F : Field) (first next : ℕ) (ids : List ℕ) (g : Grow F first next 
 
   has-cls : (s : ℕ) → (cls ids rs s ≡ 0 → ⊥) → has front (cls ids rs s) ≡ true
   has-cls s z =
-      let n = cls-record F first next ids rs g few (h .size) (self 0 (g .some)) s z in
+      let n = cls-record N first next ids rs g few (h .size) (self 0 (g .some)) s z in
       tally .each (getD ids s 0) (n .1) z
 
   final-zero : final rs (live rs []) 0 ≡ 0
@@ -93,7 +97,7 @@ module _ (F : Field) (first next : ℕ) (ids : List ℕ) (g : Grow F first next 
   final-class : (s : ℕ) → (cls ids rs s ≡ 0 → ⊥) → final rs (live rs []) (getD ids s 0) ≡ suc (place front (cls ids rs s))
   final-class s z =
       let r = getD ids s 0 in
-      let n = cls-record F first next ids rs g few (h .size) (self 0 (g .some)) s z in
+      let n = cls-record N first next ids rs g few (h .size) (self 0 (g .some)) s z in
       let u : flagged r ≡ false = lt-leb 0x8000 r (omega arith) in
       if-ind (λ (x : ℕ). x ≡ suc (place front (cls ids rs s))) (flagged r)
       (λ e. absurd (true≢false (sym e ∙ u)))
@@ -137,7 +141,7 @@ module _ (F : Field) (first next : ℕ) (ids : List ℕ) (g : Grow F first next 
   rooms-used : (k s : ℕ) → Plain k → Bears ends k s → (first ≤ k) × (k < suc (length front))
   rooms-used k s p b =
       let n = numbers k s p b in
-      let inner = h .range (getD ids s 0) (cls-record F first next ids rs g few (h .size) (self 0 (g .some)) s (n .live)) (n .live) in (
+      let inner = h .range (getD ids s 0) (cls-record N first next ids rs g few (h .size) (self 0 (g .some)) s (n .live)) (n .live) in (
         elim (decLt k first) [
           | yes u ↦ let e : getD front (k - 1) 0 ≡ suc (k - 1) = tally .low (k - 1) (omega arith) (omega (arith, g .ahead)) in absurd (let c = n .cls-is in omega (arith, inner))
           | no u ↦ omega arith
@@ -175,10 +179,10 @@ module _ (F : Field) (first next : ℕ) (ids : List ℕ) (g : Grow F first next 
   rooms-borne zero a b = absurd (omega (arith, g .some))
   rooms-borne (suc i) a b = borne-made i (omega arith) a (all-at (Made (λ j. at rs j .id) next) front i (tally .made) (omega arith))
 
-  rooms-join : (k s t : ℕ) → Plain k → Bears ends k s → Bears ends k t → Joined F (Bears ends k) s t
+  rooms-join : (k s t : ℕ) → Plain k → Bears ends k s → Bears ends k t → Linked N (Bears ends k) s t
   rooms-join k s t p x y =
       let n = numbers k s p x in
-      joined-map F (λ u q. ends-at u ∙ final-class u (λ z. n .live (sym q ∙ z)) ∙ ap suc (ap (place front) q) ∙ n .is)
+      joined-map N (λ u q. ends-at u ∙ final-class u (λ z. n .live (sym q ∙ z)) ∙ ap suc (ap (place front) q) ∙ n .is)
       (h .join (cls ids rs s) s t (n .live) refl (sym (same-class k s t p x y)))
 
   made-below : (r : ℕ) → Made (λ j. at rs j .id) next r → r < next
@@ -191,11 +195,11 @@ module _ (F : Field) (first next : ℕ) (ids : List ℕ) (g : Grow F first next 
   rooms-few : suc (length front) ≤ 0x8000
   rooms-few = let b = pigeonhole next front (tally .apart) (All-map front made-below (tally .made)) in omega arith
 
-  bears-in : (k s : ℕ) → 0 < k → Bears ends k s → s < spans F
+  bears-in : (k s : ℕ) → 0 < k → Bears ends k s → s < spans N
   unfolding ends
   bears-in k s p b = rw (← g .size, ← length-map′ (final rs (live rs [])) ids) (nonzero-in ends s (λ z. let q : k ≡ 0 = sym b ∙ z in omega arith))
 
-  pub numbered-rooms : Rooms F first (numbered rs ids .ids) (numbered rs ids .most)
+  pub numbered-rooms : LinkedRooms N first (numbered rs ids .ids) (numbered rs ids .most)
   unfolding numbered ends
   numbered-rooms =
       let m : length (live rs []) ≡ suc (length front) = ap length live-is ∙ length-append front (next ∷ []) ∙ omega arith in
@@ -214,21 +218,22 @@ module _ (F : Field) (first next : ℕ) (ids : List ℕ) (g : Grow F first next 
       }
 
 -- demand 3
-pub rooms : (F : Field) (lens : List ℕ) → refusal F lens ≡ 0 → ((s : ℕ) → s < spans F → areaOf F s < 256)
+pub rooms : (F : Field) (lens : List ℕ) → refusal F lens ≡ 0 → Bytes F
     → (dist : List ℕ) (most b least area : ℕ)
     → Rooms F (firstId b) (regions F least area (grown F dist most b .ids) (grown F dist most b .next) .ids)
     (regions F least area (grown F dist most b .ids) (grown F dist most b .next) .most)
 unfolding regions tooMany
 rooms F lens ok bytes dist most b least area =
-    let few : spans F ≤ 32000 = ltb-false _ _ (passed F lens ok .many) in
+    let few : spans (netOf F) ≤ 32000 = ltb-false _ _ (passed F lens ok .many) in
     let first = firstId b in
     let ids = grown F dist most b .ids in
     let next = grown F dist most b .next in
-    let g = grown-grow F dist most b bytes few in
-    let small : next < 0x8000 = omega (arith, grown-next F dist most b bytes few, first-few b) in
+    let nets = net-bytes F bytes in
+    let g = grown-grow F dist most b nets few in
+    let small : next < 0x8000 = omega (arith, grown-next F dist most b nets few, first-few b) in
     let rs = filtered least (records F ids next) in
-    let raw = filtered-raw F first next ids g least (records F ids next) (records-raw F first next ids g) in
-    numbered-rooms F first next ids g small (merged area (suc (length rs)) rs) (merged-sound F first next ids g small area (suc (length rs)) rs (raw-sound F first next ids g small rs raw))
+    let raw = filtered-raw (netOf F) first next ids g least (records F ids next) (records-raw F first next ids g) in
+    rooms-forward F lens (passed F lens ok) first _ _ (numbered-rooms (netOf F) first next ids g small (merged area (suc (length rs)) rs) (merged-sound (netOf F) first next ids g small area (suc (length rs)) rs (raw-sound (netOf F) first next ids g small rs raw)))
 
 -- the first id of a room
 pub first-is : (b : ℕ) → (b ≡ 0 → firstId b ≡ 1) × (0 < b → firstId b ≡ 5)
@@ -246,7 +251,7 @@ accepted F lens work dist most =
 
 -- demand 3 for the region entry
 pub entry-rooms : (F : Field) (lens : List ℕ) (work : ℕ) (dist : List ℕ) (most : ℕ) → regionRefusal F lens work dist most ≡ 0
-    → ((s : ℕ) → s < spans F → areaOf F s < 256) → (b least area : ℕ)
+    → Bytes F → (b least area : ℕ)
     → Rooms F (firstId b) (regions F least area (grown F dist most b .ids) (grown F dist most b .next) .ids)
     (regions F least area (grown F dist most b .ids) (grown F dist most b .next) .most)
 entry-rooms F lens work dist most e bytes b least area = rooms F lens (accepted F lens work dist most e) bytes dist most b least area

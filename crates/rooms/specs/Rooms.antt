@@ -13,11 +13,10 @@ Plain r = (0 < r) × (r < 0x8000)
 abbrev pub Bears : List ℕ → ℕ → ℕ → Type 0
 Bears ids r u = getD ids u 0 ≡ r
 
--- s and t are joined by a chain of connections, each taken forward or back, through spans of the class C, s and t among them
+-- s and t are joined by a chain of connections through spans of the class C, s and t among them
 pub data Joined (F : Field) (C : ℕ → Type 0) : ℕ → ℕ → Type 0 where
   stay : {s : ℕ} → C s → Joined F C s s
   goes : {s t : ℕ} (d : ℕ) → d < 4 → C s → Joined F C (near F s d) t → Joined F C s t
-  comes : {s t : ℕ} (u d : ℕ) → d < 4 → near F u d ≡ s → C s → Joined F C u t → Joined F C s t
 
 -- the ids of all spans, and max_region; first is the first id that a room can have: 1, or 5 with a border
 pub record Rooms (F : Field) (first : ℕ) (ids : List ℕ) (maxRegion : ℕ) : Type 0 where

@@ -5,20 +5,20 @@ use mathlib.Core.List.{List, [], _∷_, _++_}
 use lib.ListN.{length, getD, take}
 use lib.Dec.{ltb, eqb}
 use Rattle.rules.specs.Base.{_and_, if_then_else_}
-use Rattle.rules.specs.Field.{Field, near}
+use Rattle.rules.specs.Net.{Net, near}
 
 -- "the id across it (0 if none)"
-unfoldable pub across : Field → List ℕ → ℕ → ℕ → ℕ
-across F ids s d = getD ids (near F s d) 0
+unfoldable pub across : Net → List ℕ → ℕ → ℕ → ℕ
+across N ids s d = getD ids (near N s d) 0
 
 -- "An edge is solid where the id across it (0 if none) differs from the span's own."
-unfoldable pub solid : Field → List ℕ → ℕ → ℕ → Bool
-solid F ids s d = not (eqb (across F ids s d) (getD ids s 0))
+unfoldable pub solid : Net → List ℕ → ℕ → ℕ → Bool
+solid N ids s d = not (eqb (across N ids s d) (getD ids s 0))
 
 -- "the first solid direction of four, or none": 4 is none
-unfoldable pub firstSolid : Field → List ℕ → ℕ → ℕ
-firstSolid F ids s =
-    if solid F ids s 0 then 0 else if solid F ids s 1 then 1 else if solid F ids s 2 then 2 else if solid F ids s 3 then 3 else 4
+unfoldable pub firstSolid : Net → List ℕ → ℕ → ℕ
+firstSolid N ids s =
+    if solid N ids s 0 then 0 else if solid N ids s 1 then 1 else if solid N ids s 2 then 2 else if solid N ids s 3 then 3 else 4
 
 -- "a walker standing on a span and facing one direction", with the last id listed and the list so far
 pub record Walker : Type 0 where
@@ -28,21 +28,21 @@ pub record Walker : Type 0 where
   pub listed : List ℕ
 
 -- "At a solid edge, an id other than the last listed is listed and the walker turns to d+1; at an open one it steps and turns to d+3."
-unfoldable pub stride : Field → List ℕ → Walker → Walker
-stride F ids v =
+unfoldable pub stride : Net → List ℕ → Walker → Walker
+stride N ids v =
     let s = v .span in
     let d = v .dir in
-    let r = across F ids s d in
-    if solid F ids s d
+    let r = across N ids s d in
+    if solid N ids s d
     then record { span = s; dir = (d + 1) % 4; last = r; listed = if eqb r (v .last) then v .listed else v .listed ++ (r ∷ []) }
-    else record { span = near F s d; dir = (d + 3) % 4; last = v .last; listed = v .listed }
+    else record { span = near N s d; dir = (d + 3) % 4; last = v .last; listed = v .listed }
 
 -- "It ends back at the start, or after 40,000 steps, each turn and each move being one.": at most k steps more, from start s, d
-unfoldable pub walk : Field → List ℕ → ℕ → ℕ → ℕ → Walker → Walker
-walk F ids s d zero v = v
-walk F ids s d (suc k) v =
-    let u = stride F ids v in
-    let rest = walk F ids s d k u in
+unfoldable pub walk : Net → List ℕ → ℕ → ℕ → ℕ → Walker → Walker
+walk N ids s d zero v = v
+walk N ids s d (suc k) v =
+    let u = stride N ids v in
+    let rest = walk N ids s d k u in
     if eqb (u .span) s and eqb (u .dir) d then u else rest
 
 -- "A last entry equal to the first is dropped when the list has more than one."
@@ -50,7 +50,7 @@ unfoldable pub trim : List ℕ → List ℕ
 trim l = let n = length l in if ltb 1 n and eqb (getD l 0 0) (getD l (n - 1) 0) then take (n - 1) l else l
 
 -- "The id across the starting edge is listed."
-unfoldable pub contour : Field → List ℕ → ℕ → ℕ → List ℕ
-contour F ids s d =
-    let r = across F ids s d in
-    trim (walk F ids s d 40000 (record { span = s; dir = d; last = r; listed = r ∷ [] }) .listed)
+unfoldable pub contour : Net → List ℕ → ℕ → ℕ → List ℕ
+contour N ids s d =
+    let r = across N ids s d in
+    trim (walk N ids s d 40000 (record { span = s; dir = d; last = r; listed = r ∷ [] }) .listed)

@@ -2,6 +2,7 @@
 -- They know nothing of code: no slices, no workspace, no loops but counting ones.
 pub mod Base
 pub mod Field
+pub mod Net
 pub mod Refusals
 pub mod Distance
 pub mod Growth

@@ -5,7 +5,8 @@ use mathlib.Core.List.{List, [], _∷_, _++_, map}
 use lib.ListN.{length, getD, set}
 use lib.Dec.{ltb, eqb}
 use Rattle.rules.specs.Base.{_or_, _and_, if_then_else_, upto, tab, keep, any}
-use Rattle.rules.specs.Field.{Field, spans, cellOf, areaOf}
+use Rattle.rules.specs.Field.{Field, spans, cellOf}
+use Rattle.rules.specs.Net.{netOf, areaOf}
 use Rattle.rules.specs.Growth.{plain}
 use Rattle.rules.specs.Contour.{firstSolid, contour}
 
@@ -48,15 +49,15 @@ others F ids s =
 unfoldable pub counted : Field → List ℕ → ℕ → Rec → Rec
 counted F ids s r =
     let o = others F ids s in
-    let d = firstSolid F ids s in
+    let d = firstSolid (netOf F) ids s in
     let empty = eqb (length (r .list)) 0 in
     record {
       id = r .id;
       count = suc (r .count);
       visited = r .visited;
-      area = if empty then areaOf F s else r .area;
+      area = if empty then areaOf (netOf F) s else r .area;
       overlap = r .overlap or has o (getD ids s 0);
-      list = if empty and ltb d 4 then contour F ids s d else r .list;
+      list = if empty and ltb d 4 then contour (netOf F) ids s d else r .list;
       floors = onceAll (r .floors) o;
     }
 

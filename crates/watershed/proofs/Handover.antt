@@ -21,12 +21,12 @@ use Rattle.numbering.specs.Number.{Spans}
 use Rattle.pool.specs.Pool.{lenAt, countAt}
 use Rattle.merge.specs.Ready.{Ready}
 
-module _ (F : Field) (w : ℕ) (is ks ar cs ids : List ℕ) (b next : ℕ) (ws₀ ws : List ℕ) (g : Given F w is ks ar cs ids b ws₀) (B : Built w is ks ar cs ids b next ws₀ ws) where
+module _ (F : Field) (ids : List ℕ) (table next : ℕ) (ws₀ ws : List ℕ) (g : Given F ids table ws₀) (B : Built F ids next ws₀ ws) where
   size : length ids ≡ spans F
-  size = g .idents ∙ sym (ap length (g .lent .areas))
+  size = g .idents
 
   rec-is : (r : ℕ) → r < next + 1 → recAt ws (next + 1) (7 * (next + 1)) (11 * (next + 1)) r ≡ at (records F ids next) r
-  rec-is r h = sym (recs-at ws (next + 1) r h) ∙ ap (λ (l : List Rec). at l r) (B .same F g)
+  rec-is r h = sym (recs-at ws (next + 1) r h) ∙ ap (λ (l : List Rec). at l r) (B .same)
 
   id-is : (r : ℕ) → r < next + 1 → getD ws r 0 ≡ at (records F ids next) r .id
   unfolding recAt

@@ -7,6 +7,7 @@ use lib.ListN.{length}
 use Rattle.rules.specs.Base.{if_then_else_}
 use Rattle.rules.specs.Field.{Field, spans}
 use Rattle.field.specs.Lent.{Sound}
+use Rattle.records.specs.Map.{recordsEnd}
 
 pub record Admitted (F : Field) (dist ws ids : List ℕ) : Type 0 where
   pub sound : Sound F
@@ -17,3 +18,7 @@ pub record Admitted (F : Field) (dist ws ids : List ℕ) : Type 0 where
 -- 7 and 8 in their order: the workspace is too short, a distance is too far
 unfoldable pub ownRefusal : Bool → Bool → ℕ
 ownRefusal short far = if short then 7 else if far then 8 else 0
+
+-- where the table of neighbours begins, of n spans: past the records, of which there are at most n + 6, from 0 to the next id
+abbrev pub tableAt : ℕ → ℕ
+tableAt n = recordsEnd (n + 6) n

@@ -2,12 +2,13 @@
 use checker::Refusal;
 use checker::Verdict;
 use checker::check;
-use growth::grow::clear_part;
 use growth::grow::grow;
 use merge::merge_and_filter_regions;
 use numbering::Regions;
 use records::build::build_records;
+use records::map::records_end;
 use space::clear;
+use space::clear_part;
 use table::any_above;
 ghost use mathlib.Core.Path.{_≡_};
 ghost use mathlib.Core.List.{[], _∷_};
@@ -79,8 +80,10 @@ fn check_regions(
     }
 }
 
-// The regions of a field that is not refused. The places of the spans' cells come after the most that the records take: 15 numbers for each of at
-// most n + 6, and 70 for each span.
+// "Records run from 0 to the next id, both included", and the next id is at most n + 5: so many more than there are spans.
+const MORE_RECORDS: usize = 6;
+
+// The regions of a field that is not refused. The table of neighbours stands past the most that the records take.
 fn find_regions(
     w: usize,
     h: usize,
@@ -105,9 +108,9 @@ fn find_regions(
     ensures bytes { λ _. ⌜ Bytes (lent w h (now (index .entry)) (now (count .entry)) (now (area .entry)) (now (con .entry))) ⌝ }
 {
     let n = area.len();
-    let b = 85 * n + 90;
+    let table = records_end(n + MORE_RECORDS, n);
     clear(ids);
-    clear_part(ws, 0, b);
+    clear_part(ws, 0, table);
     let next = grow(
         w,
         h,
@@ -118,11 +121,11 @@ fn find_regions(
         dist,
         ids,
         ws,
-        b,
+        table,
         max_distance,
         border_size,
     ) as usize;
-    build_records(w, index, count, area, con, ids, ws, b, next);
+    build_records(w, h, index, count, area, con, ids, ws, table, next);
     let r = merge_and_filter_regions(ws, ids, next + 1, n, min_region_area, merge_region_area);
     let all = ws.len();
     clear_part(ws, 0, all);

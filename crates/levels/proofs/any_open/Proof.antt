@@ -1,4 +1,5 @@
--- The loop's invariant: what was found is whether one of the spans below i is open. Each turn asks one more.
+-- The loop's invariant: what was found is whether one of the spans below i is open.
+-- Each turn asks one more, and what was found stays found.
 use Prim.Native.Nat.{_≤_, _-_}
 use mathlib.Core.Path.{_≡_}
 use lib.ListN.{length}

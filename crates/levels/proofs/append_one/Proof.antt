@@ -12,11 +12,15 @@ use Rattle.levels.proofs.append_one.Tie as tie
 
 -- the entry's place is within the stacks
 low : (c : tie.Start) → (c .args .j - 1) * length (now (c .args .ids)) + c .args .i < 8 * length (now (c .args .ids))
-low c = slot _ _ _ _ (omega arith) (c .pre .6)
+low c = slot _ _ _ _ (omega arith) (c .pre .1 .0 .1)
 
--- an unused entry is a span
-span : (c : tie.Else1) → getD (now (c .before .before .before .before .args .ws)) (c .before .before .before .before .args .base + ((c .before .before .before .before .args .j - 1) * length (now (c .before .before .before .before .args .ids)) + c .before .before .before .before .args .i)) 0 < length (now (c .before .before .before .before .args .ids))
-span c = c .before .before .before .before .pre .7 (c .if1 .left)
+-- the call, where the entry is not used
+abbrev S : tie.Else1 → tie.Start
+S c = c .before .before .before .before
+
+-- so it is a span
+span : (c : tie.Else1) → getD (now (S c .args .stacks)) ((S c .args .j - 1) * length (now (S c .args .ids)) + S c .args .i) 0 < length (now (S c .args .ids))
+span c = S c .pre .1 .1 (c .if1 .left)
 
 sub-e : tie.Need-sub-e
 sub-e c = search needs
@@ -26,9 +30,6 @@ mul-e c = omega (arith, low (c .before .before))
 
 add-e : tie.Need-add-e
 add-e c = omega (arith, low (c .before .before))
-
-add-e-2 : tie.Need-add-e-2
-add-e-2 c = omega (arith, low (c .before .before))
 
 mul-e-2 : tie.Need-mul-e-2
 mul-e-2 c = omega (arith, low (c .before .before))
@@ -67,7 +68,6 @@ append-one-spec =
     sub-e
     mul-e
     add-e
-    add-e-2
     mul-e-2
     slice-read-e
     returns

@@ -4,17 +4,23 @@ use Prim.Native.Nat.{_≤_, _-_}
 use mathlib.Core.Path.{_≡_, refl}
 use mathlib.Core.List.{[]}
 use lib.ListN.{length, getD, take}
-use Rattle.levels.specs.Levels.{levelsAt, joined, left, Moved}
+use Rattle.rules.specs.Growth.{remains}
+use Rattle.levels.specs.Levels.{levelsAt, appended, Moved}
+use Rattle.levels.proofs.LevelLaws.{moved-part}
 use Rattle.levels.proofs.AppendLaws.{append-start, append-room, append-span, append-more, append-done, append-stacked}
 use borrow.Author.Needs.{needs}
 use Rattle.levels.proofs.append_stacks.Statement.{statement}
 use Rattle.levels.proofs.append_stacks.Tie as tie
 
 abbrev Inv-loop : tie.InvT-loop
-Inv-loop ids ws₀ base j src count out₀ i₀ ws out i = (i ≤ count) × Moved (length ids) base ws₀ (out₀ .fills) ws (out .fills) (joined j (left ids (take i (getD (levelsAt ws₀ base (length ids) (out₀ .fills)) (j - 1) []))) (levelsAt ws₀ base (length ids) (out₀ .fills))) × (out .turn ≡ j) × (length ws ≡ length ws₀) × (count ≤ length ids)
+Inv-loop ids stacks₀ j src count out₀ i₀ stacks out i =
+    let n = length ids in
+    let before = levelsAt stacks₀ n (out₀ .fills) in
+    (i ≤ count) × Moved n stacks₀ (out₀ .fills) stacks (out .fills) (appended j (remains ids (take i (getD before (j - 1) []))) before)
+    × (out .turn ≡ j) × (count ≤ n)
 
 abbrev μ-loop : tie.MeasureT-loop
-μ-loop ids ws₀ base j src count out₀ i₀ ws out i = count - i
+μ-loop ids stacks₀ j src count out₀ i₀ stacks out i = count - i
 
 sub-src : tie.Need-sub-src Inv-loop μ-loop
 sub-src c = search needs
@@ -29,10 +35,10 @@ cast-count : tie.Need-cast-count Inv-loop μ-loop
 cast-count c = search needs
 
 loop-holds : tie.Need-loop-holds Inv-loop μ-loop
-loop-holds c = (search needs, search append-start, refl, refl, c .before .before .before .pre .4 .most (c .before .before .before .args .j - 1))
+loop-holds c = (search needs, search append-start, refl, c .before .before .before .pre .0 .1 .most (c .before .before .before .args .j - 1))
 
 append-one-requires : tie.Need-append-one-requires Inv-loop μ-loop
-append-one-requires c κs = (search needs, search needs, search needs, search needs, search needs, search append-room, search needs, search append-span)
+append-one-requires c κs = ((search moved-part, search needs, search needs, search needs), ((search append-room, search needs), search append-span))
 
 add-i : tie.Need-add-i Inv-loop μ-loop
 add-i c = search needs
@@ -41,7 +47,7 @@ loop-less : tie.Need-loop-less Inv-loop μ-loop
 loop-less c = search needs
 
 loop-again : tie.Need-loop-again Inv-loop μ-loop
-loop-again c = (search needs, search append-more, search needs, search needs, search needs)
+loop-again c = (search needs, search append-more, search needs, search needs)
 
 same-length : tie.Need-same-length Inv-loop μ-loop
 same-length c = search needs

@@ -1,4 +1,5 @@
--- Found before, or this one is open, as the code has it.
+-- Found before, or this one is open.
+-- The code's connectives, which always take both sides, have the values of the rule's.
 use Rattle.levels.proofs.BlockLaws.{and-or}
 use borrow.Author.Needs.{needs}
 use Rattle.levels.proofs.or_open.Statement.{statement}

@@ -9,8 +9,8 @@ use Rattle.levels.proofs.push_level.Statement.{statement}
 use Rattle.levels.proofs.push_level.Tie as tie
 
 -- the entry's place is within the stacks
-low : (c : tie.After-f) → c .before .args .k * c .before .args .n + getD (c .before .args .t4 .fills) (c .before .args .k) 0 < 8 * c .before .args .n
-low c = slot _ _ _ _ (c .before .pre .0) (c .before .pre .2)
+low : (c : tie.After-f) → c .before .args .k * c .before .args .n + getD (c .before .args .t3 .fills) (c .before .args .k) 0 < 8 * c .before .args .n
+low c = slot _ _ _ _ (c .before .pre .2) (c .before .pre .3)
 
 mul-f : tie.Need-mul-f
 mul-f c = search needs
@@ -18,23 +18,20 @@ mul-f c = search needs
 element-copy-out-f : tie.Need-element-copy-out-f
 element-copy-out-f c = search needs
 
-mul-ws : tie.Need-mul-ws
-mul-ws c = omega (arith, low c)
+mul-stacks : tie.Need-mul-stacks
+mul-stacks c = omega (arith, low c)
 
-cast-ws : tie.Need-cast-ws
-cast-ws c = search needs
+cast-stacks : tie.Need-cast-stacks
+cast-stacks c = search needs
 
-add-ws : tie.Need-add-ws
-add-ws c = omega (arith, low c)
+add-stacks : tie.Need-add-stacks
+add-stacks c = omega (arith, low c)
 
-add-ws-2 : tie.Need-add-ws-2
-add-ws-2 c = omega (arith, low c)
+mul-stacks-2 : tie.Need-mul-stacks-2
+mul-stacks-2 c = omega (arith, low c)
 
-mul-ws-2 : tie.Need-mul-ws-2
-mul-ws-2 c = omega (arith, low c)
-
-slice-write-ws : tie.Need-slice-write-ws
-slice-write-ws c = omega (arith, low c)
+slice-write-stacks : tie.Need-slice-write-stacks
+slice-write-stacks c = omega (arith, low c)
 
 add-out : tie.Need-add-out
 add-out c = search needs
@@ -57,12 +54,11 @@ push-level-spec =
     (tie.spec
     mul-f
     element-copy-out-f
-    mul-ws
-    cast-ws
-    add-ws
-    add-ws-2
-    mul-ws-2
-    slice-write-ws
+    mul-stacks
+    cast-stacks
+    add-stacks
+    mul-stacks-2
+    slice-write-stacks
     add-out
     mul-out
     element-write-out

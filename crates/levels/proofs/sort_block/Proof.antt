@@ -1,4 +1,5 @@
--- Where no span of the block is open, each is owned or its stack is past the eight, so the sorted stacks are as they were.
+-- Where a span of the block is open all are sorted, one by one.
+-- Where none is, each is owned or its stack is past the eight, so the sorted stacks are as they were.
 use Rattle.levels.proofs.BlockLaws.{moved-over}
 use borrow.Author.Needs.{needs}
 use Rattle.levels.proofs.sort_block.Statement.{statement}
@@ -41,7 +42,7 @@ add-sort-some : tie.Need-add-sort-some
 add-sort-some c = search needs
 
 sort-some-requires : tie.Need-sort-some-requires
-sort-some-requires c κs = (search needs, search needs, search needs, search needs, search needs, search needs, search needs, search needs)
+sort-some-requires c κs = ((search needs, search needs, search needs, search needs), search needs)
 
 same-length : tie.Need-same-length
 same-length c = search needs

@@ -1,32 +1,33 @@
--- The loop's invariant: the stacks are the rule's sort of the spans below i, written over the workspace as it was at entry. Each turn sorts a block.
--- At the end the rest is sorted too, and the rule reads nothing but the areas, the ids and the distances.
+-- The loop's invariant: the stacks are the rule's sort of the spans below i, written over what was there at entry. Each turn sorts a block.
+-- At the end the rest is sorted too, and all spans are the rule's.
 use Prim.Native.Nat.{_≤_, _-_}
 use mathlib.Core.Path.{_≡_, refl}
 use lib.ListN.{length, replicate}
-use Rattle.levels.specs.Levels.{sortedTo, Moved}
-use Rattle.levels.proofs.LevelLaws.{moved-then}
+use Rattle.levels.specs.Levels.{stackCount, sortedTo, Moved}
+use Rattle.levels.proofs.LevelLaws.{moved-then, moved-lists}
 use Rattle.levels.proofs.SortLaws.{sort-start, sort-done, sort-kept, sort-stacked}
 use borrow.Author.Needs.{needs}
 use Rattle.levels.proofs.sort_cells_by_level.Statement.{statement}
 use Rattle.levels.proofs.sort_cells_by_level.Tie as tie
 
 abbrev Inv-loop : tie.InvT-loop
-Inv-loop area dist ids ws₀ base level l₀ from n i₀ ws l i = (i ≤ length area) × Moved (length area) base ws₀ (replicate 8 0) ws (l .fills) (sortedTo area dist ids level i) × (l .turn ≡ 0) × (length ws ≡ length ws₀)
+Inv-loop area dist ids stacks₀ level l₀ from n i₀ stacks l i =
+    (i ≤ length area) × Moved (length area) stacks₀ (replicate stackCount 0) stacks (l .fills) (sortedTo area dist ids level i) × (l .turn ≡ 0)
 
 abbrev μ-loop : tie.MeasureT-loop
-μ-loop area dist ids ws₀ base level l₀ from n i₀ ws l i = length area - i
+μ-loop area dist ids stacks₀ level l₀ from n i₀ stacks l i = length area - i
 
 least-requires : tie.Need-least-requires Inv-loop μ-loop
 least-requires c κs = search needs
 
 loop-holds : tie.Need-loop-holds Inv-loop μ-loop
-loop-holds c = (search needs, search sort-start, refl, refl)
+loop-holds c = (search needs, search sort-start, refl)
 
 sub-loop : tie.Need-sub-loop Inv-loop μ-loop
 sub-loop c = search needs
 
 sort-block-requires : tie.Need-sort-block-requires Inv-loop μ-loop
-sort-block-requires c κs = (search needs, search needs, search needs, search needs, search needs, search needs, search needs, search needs)
+sort-block-requires c κs = ((search moved-lists, search needs, search needs), (search needs, search needs))
 
 add-i : tie.Need-add-i Inv-loop μ-loop
 add-i c = search needs
@@ -35,10 +36,10 @@ loop-less : tie.Need-loop-less Inv-loop μ-loop
 loop-less c = search needs
 
 loop-again : tie.Need-loop-again Inv-loop μ-loop
-loop-again c = (search needs, search moved-then, search needs, search needs)
+loop-again c = (search needs, search moved-then, search needs)
 
 sort-some-requires : tie.Need-sort-some-requires Inv-loop μ-loop
-sort-some-requires c κs = search needs
+sort-some-requires c κs = ((search moved-lists, search needs, search needs, search needs), search needs)
 
 same-length : tie.Need-same-length Inv-loop μ-loop
 same-length c = search needs

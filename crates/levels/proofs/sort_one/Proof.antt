@@ -36,7 +36,7 @@ cast-push-level : tie.Need-cast-push-level
 cast-push-level c = search needs
 
 push-level-requires : tie.Need-push-level-requires
-push-level-requires c κs = (search needs, search needs, search sort-room, search needs, search needs)
+push-level-requires c κs = (search needs, search needs, search needs, search sort-room)
 
 same-length : tie.Need-same-length
 same-length c = search needs

@@ -1,26 +1,27 @@
--- The loop's invariant: the stacks are the rule's sort of the spans below k, written over the workspace as it was where the loop begins.
+-- The loop's invariant: the stacks are the rule's sort of the spans below k, written over what was there where the loop begins.
 -- Each turn sorts span k.
 use Prim.Native.Nat.{_≤_, _-_}
 use mathlib.Core.Path.{_≡_, refl}
 use lib.ListN.{length}
 use Rattle.levels.specs.Levels.{sortedTo, Moved}
-use Rattle.levels.proofs.LevelLaws.{moved-none, moved-then}
+use Rattle.levels.proofs.LevelLaws.{moved-none, moved-then, moved-lists}
 use Rattle.levels.proofs.SortLaws.{moved-to}
 use borrow.Author.Needs.{needs}
 use Rattle.levels.proofs.sort_some.Statement.{statement}
 use Rattle.levels.proofs.sort_some.Tie as tie
 
 abbrev Inv-loop : tie.InvT-loop
-Inv-loop area dist ids ws₀ base level i e out₀ k₀ ws out k = (k ≤ e) × Moved (length area) base ws₀ (out₀ .fills) ws (out .fills) (sortedTo area dist ids level k) × (out .turn ≡ out₀ .turn) × (length ws ≡ length ws₀)
+Inv-loop area dist ids stacks₀ level i e out₀ k₀ stacks out k =
+    (k ≤ e) × Moved (length area) stacks₀ (out₀ .fills) stacks (out .fills) (sortedTo area dist ids level k) × (out .turn ≡ out₀ .turn)
 
 abbrev μ-loop : tie.MeasureT-loop
-μ-loop area dist ids ws₀ base level i e out₀ k₀ ws out k = e - k
+μ-loop area dist ids stacks₀ level i e out₀ k₀ stacks out k = e - k
 
 loop-holds : tie.Need-loop-holds Inv-loop μ-loop
-loop-holds c = (search needs, search moved-none, refl, refl)
+loop-holds c = (search needs, search moved-none, refl)
 
 sort-one-requires : tie.Need-sort-one-requires Inv-loop μ-loop
-sort-one-requires c κs = search needs
+sort-one-requires c κs = ((search moved-lists, search needs, search needs), search needs)
 
 add-k : tie.Need-add-k Inv-loop μ-loop
 add-k c = search needs
@@ -29,7 +30,7 @@ loop-less : tie.Need-loop-less Inv-loop μ-loop
 loop-less c = search needs
 
 loop-again : tie.Need-loop-again Inv-loop μ-loop
-loop-again c = (search needs, search moved-then, search needs, search needs)
+loop-again c = (search needs, search moved-then, search needs)
 
 same-length : tie.Need-same-length Inv-loop μ-loop
 same-length c = search needs

@@ -5,7 +5,7 @@ use denote.Ref.{now}
 use lib.ListN.{length, set, length-set, drop, replicate}
 use mathlib.Core.List.{List, _++_, append-nil}
 use mathlib.Core.Path.{_≡_, refl, ap, _∙_}
-use Prim.Native.Nat.{ℕ, _+_, _-_, _≤_}
+use Prim.Native.Nat.{ℕ, _-_, _≤_}
 use borrow.Author.Needs.{needs}
 use native.Mathlib.Omega.{arith}
 use Rattle.space.proofs.fill.Statement.{statement}

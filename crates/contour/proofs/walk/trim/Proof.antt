@@ -14,11 +14,17 @@ returns c = search (needs, trim-short)
 sub-last : tie.Need-sub-last
 sub-last c = search needs
 
+add-if2 : tie.Need-add-if2
+add-if2 c = search needs
+
 mul-if2 : tie.Need-mul-if2
 mul-if2 c = search needs
 
 slice-read-if2 : tie.Need-slice-read-if2
 slice-read-if2 c = search needs
+
+add-if2-2 : tie.Need-add-if2-2
+add-if2-2 c = search needs
 
 mul-if2-2 : tie.Need-mul-if2-2
 mul-if2-2 c = search needs
@@ -29,11 +35,14 @@ slice-read-if2-2 c = search needs
 returns-2 : tie.Need-returns-2
 returns-2 c = search (needs, trim-other)
 
-mul-pool : tie.Need-mul-pool
-mul-pool c = search needs
+add-ws : tie.Need-add-ws
+add-ws c = search needs
 
-slice-write-pool : tie.Need-slice-write-pool
-slice-write-pool c = search needs
+mul-ws : tie.Need-mul-ws
+mul-ws c = search needs
+
+slice-write-ws : tie.Need-slice-write-ws
+slice-write-ws c = search needs
 
 same-length : tie.Need-same-length
 same-length c = search needs
@@ -48,12 +57,15 @@ trim-spec =
     sub-if1
     returns
     sub-last
+    add-if2
     mul-if2
     slice-read-if2
+    add-if2-2
     mul-if2-2
     slice-read-if2-2
     returns-2
-    mul-pool
-    slice-write-pool
+    add-ws
+    mul-ws
+    slice-write-ws
     same-length
     returns-3)

@@ -1,7 +1,7 @@
 -- The stack holds the rule's list, is expanded at level 0, and is cleared; so past the source distances all is as it was (Blanks).
 -- Assumes nothing.
 use borrow.Author.Needs.{needs}
-use Rattle.expand.proofs.Blanks.{filled-lent, filled-given, last-view, last-count, last-kept, last-low}
+use Rattle.expand.proofs.Blanks.{filled-mutual, filled-given, last-view, last-count, last-kept, last-low}
 use Rattle.expand.proofs.expand.expand_last.Statement.{statement}
 use Rattle.expand.proofs.expand.expand_last.Tie as tie
 
@@ -9,25 +9,13 @@ fill-stack-requires : tie.Need-fill-stack-requires
 fill-stack-requires c κs = search needs
 
 expand-regions-requires : tie.Need-expand-regions-requires
-expand-regions-requires c κs = (search (needs, filled-lent), search (needs, filled-given))
+expand-regions-requires c κs = ((search (needs, filled-mutual), search needs), search (needs, filled-given))
 
-add-clear : tie.Need-add-clear
-add-clear c = search needs
+add-clear-part : tie.Need-add-clear-part
+add-clear-part c = search needs
 
-mul-clear : tie.Need-mul-clear
-mul-clear c = search needs
-
-sub-clear : tie.Need-sub-clear
-sub-clear c = search needs
-
-part-clear-start : tie.Need-part-clear-start
-part-clear-start c = search needs
-
-part-clear-end : tie.Need-part-clear-end
-part-clear-end c = search needs
-
-clear-requires : tie.Need-clear-requires
-clear-requires c κs = search needs
+clear-part-requires : tie.Need-clear-part-requires
+clear-part-requires c κs = search needs
 
 same-length : tie.Need-same-length
 same-length c = search needs
@@ -36,18 +24,21 @@ same-length-2 : tie.Need-same-length-2
 same-length-2 c = search needs
 
 returns : tie.Need-returns
-returns c = let l = c .before .before in
+returns c =
+    let l = c .before .before in
     let r = l .before .before .before .before .before .before in
     let f = r .before .before .before .before .before in
-    let s = f .before .before .before .before .before .before .before .before in
+    let s = f .before .before .before .before .before .before in
     let q = r .expand-regions .ensures in
-    let v = f .fill-stack .ensures in (
-      last-view _ _ _ _ _ _ _ _ _ _ v (s .pre .1) (s .pre .0) _ _ _ (q .1 .0) (l .clear .ensures) (q .0),
+    let v = f .fill-stack .ensures in
+    let z = l .clear-part .kept .0 in
+    let k = l .clear-part .ensures in (
+      last-view _ _ _ _ _ _ _ v (s .pre .1) _ _ (q .1 .0) _ z (k .0) (k .1) (q .0),
       (
-        last-count _ _ _ _ _ _ _ _ _ _ v (s .pre .1) (s .pre .0),
+        last-count _ (s .args .at .changes) (s .args .at .table) _ _ _ _ v,
         (
-          last-kept _ _ _ _ _ _ _ _ _ _ v (s .pre .1) (s .pre .0) (r .expand-regions .last .1 .1 .1 .1 .0) _ _ (q .1 .0) (l .clear .ensures),
-          last-low _ _ _ _ _ _ _ _ _ _ v (s .pre .1) (s .pre .0) _ _ _ (q .1 .0) (l .clear .ensures) (q .1 .1),
+          last-kept _ _ _ _ _ _ _ v (s .pre .1) (r .expand-regions .last .1 .0) _ (q .1 .0) _ z (k .0) (k .1),
+          last-low _ _ _ _ _ _ _ v (s .pre .1) _ _ (q .1 .0) _ z (k .0) (k .1) (q .1 .1),
         ),
       ),
     )
@@ -55,15 +46,4 @@ returns c = let l = c .before .before in
 pub expand-last-spec : {M : Type 1} → statement M
 expand-last-spec =
     tie.close
-    (tie.spec
-    fill-stack-requires
-    expand-regions-requires
-    add-clear
-    mul-clear
-    sub-clear
-    part-clear-start
-    part-clear-end
-    clear-requires
-    same-length
-    same-length-2
-    returns)
+    (tie.spec fill-stack-requires expand-regions-requires add-clear-part clear-part-requires same-length same-length-2 returns)

@@ -2,7 +2,7 @@
 -- Assumes nothing.
 use borrow.Author.Needs.{needs}
 use denote.Ref.{now}
-use Rattle.expand.proofs.Blanks.{push-shut, fill-shut, push-held, fill-held, push-blank, fill-blank}
+use Rattle.expand.proofs.Blanks.{push-shut, fill-shut, push-held, fill-held, push-vacant, fill-vacant}
 use Rattle.expand.proofs.expand.fill_one.Statement.{statement}
 use Rattle.expand.proofs.expand.fill_one.Tie as tie
 
@@ -39,8 +39,8 @@ same-length c = search needs
 returns-3 : tie.Need-returns-3
 returns-3 c =
     let s = c .before .before .before .before .before .before .before in (
-      push-blank _ _ _ _ _ _ (s .pre .3) (c .before .before .before .at8 .ensures .0) _ (c .before .at16 .ensures .0) (c .before .before .if1 .left) (c .if2 .left),
-      fill-blank _ _ (now (s .args .ws)) _ _ _ (s .pre .3) (c .before .before .before .at8 .ensures .0) _ (c .before .at16 .ensures .0) (c .before .before .if1 .left) (c .if2 .left),
+      push-vacant _ _ _ _ _ _ (s .pre .1 .0) (c .before .before .before .at8 .ensures .0) _ (c .before .at16 .ensures .0) (c .before .before .if1 .left) (c .if2 .left),
+      fill-vacant _ _ (now (s .args .ws)) _ _ _ (s .pre .1 .0) (c .before .before .before .at8 .ensures .0) _ (c .before .at16 .ensures .0) (c .before .before .if1 .left) (c .if2 .left),
     )
 
 pub fill-one-spec : {M : Type 1} → statement M

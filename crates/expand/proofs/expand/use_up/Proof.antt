@@ -9,10 +9,10 @@ use Rattle.expand.proofs.expand.use_up.Statement.{statement}
 use Rattle.expand.proofs.expand.use_up.Tie as tie
 
 abbrev Inv-loop : tie.InvT-loop
-Inv-loop ids ws₀ a fill j₀ ws j = Using (length ids) a fill ids ws₀ ws j
+Inv-loop ids ws₀ stack j₀ ws j = Using (length ids) (stack .at) (stack .fill) ids ws₀ ws j
 
 abbrev μ-loop : tie.MeasureT-loop
-μ-loop ids ws₀ a fill j₀ ws j = fill - j
+μ-loop ids ws₀ stack j₀ ws j = stack .fill - j
 
 loop-holds : tie.Need-loop-holds Inv-loop μ-loop
 loop-holds c = search (needs, using-start)

@@ -3,15 +3,15 @@
 use borrow.Author.Needs.{needs}
 use Prim.Native.Nat.{_-_}
 use Rattle.expand.specs.Front.{Flagging}
-use Rattle.expand.proofs.Flagged.{flagging-start, flagging-entry, flagging-at, flagging-small, flagging-room, flagging-next, flagging-end}
+use Rattle.expand.proofs.Flagged.{flagging-start, flagging-entry, flagging-at, flagging-small, flagging-next, flagging-end}
 use Rattle.expand.proofs.flags.flag_all.Statement.{statement}
 use Rattle.expand.proofs.flags.flag_all.Tie as tie
 
 abbrev Inv-loop : tie.InvT-loop
-Inv-loop ws₀ n cb a fill v j₀ ws j = Flagging n a cb fill v ws₀ ws j
+Inv-loop ws₀ n flags stack v j₀ ws j = Flagging n (stack .at) flags (stack .fill) v ws₀ ws j
 
 abbrev μ-loop : tie.MeasureT-loop
-μ-loop ws₀ n cb a fill v j₀ ws j = fill - j
+μ-loop ws₀ n flags stack v j₀ ws j = stack .fill - j
 
 loop-holds : tie.Need-loop-holds Inv-loop μ-loop
 loop-holds c = search (needs, flagging-start)
@@ -20,7 +20,7 @@ add-flag-one : tie.Need-add-flag-one Inv-loop μ-loop
 add-flag-one c = search needs
 
 flag-one-requires : tie.Need-flag-one-requires Inv-loop μ-loop
-flag-one-requires c κs = ((search (needs, flagging-at), search (needs, flagging-small), search needs, search (needs, flagging-room), search needs), search (needs, flagging-entry))
+flag-one-requires c κs = ((search (needs, flagging-at), search (needs, flagging-small), search needs), search (needs, flagging-entry))
 
 add-j : tie.Need-add-j Inv-loop μ-loop
 add-j c = search needs

@@ -1,86 +1,109 @@
 -- Each way out is the rule's look under what has been tested by then (Looks); a neighbour that is there is a span, so its area, id and source
 -- distance can be read, and the sum fits because source distances are bounded. Assumes nothing.
-use Prim.Native.Nat.{_<_}
 use native.Mathlib.Omega.{arith}
 use borrow.Author.Needs.{needs}
 use denote.Ref.{now}
 use lib.ListN.{length}
-use mathlib.Core.Path.{refl}
-use Rattle.field.proofs.Places.{leaf-none}
-use Rattle.flood.proofs.Pushes.{pushed-inside}
-use Rattle.expand.proofs.Looks.{look-none, look-area, look-zero, look-flag, look-far, look-take}
+use Prim.Native.Nat.{_<_}
+use Rattle.expand.proofs.Looks.{sight-small, sight-slot, sight-inside, look-none, look-area, look-zero, look-flag, look-far, look-take}
 use Rattle.expand.proofs.look.look.Statement.{statement}
 use Rattle.expand.proofs.look.look.Tie as tie
 
--- the neighbour is a span
-inside : (c : tie.After-follow) → c .follow .result .span .0 < length (now (c .before .before .before .before .before .before .args .area))
-inside c =
-    let s = c .before .before .before .before .before .before in
-    pushed-inside _ _ _ _ _ _ _ (c .follow .ensures .0) (s .pre .0) (s .pre .1) (c .follow .ensures .2)
+-- where the neighbour is read, and where each test has failed
+abbrev S : tie.After-neighbour → tie.Start
+S c = c .before .before .before .before
 
-array-read-if1 : tie.Need-array-read-if1
-array-read-if1 c = search needs
+abbrev E1 : tie.Else2 → tie.Else1
+E1 c = c .before .before
+
+abbrev E2 : tie.Else3 → tie.Else2
+E2 c = c .before .before .before
+
+abbrev E3 : tie.Else4 → tie.Else3
+E3 c = c .before .before
+
+abbrev E4 : tie.After-struct-known2 → tie.Else4
+E4 c = c .before .before
+
+-- the neighbour is a span
+inside : (c : tie.Else1) → c .before .neighbour .result .0 < length (now (S (c .before) .args .area))
+inside c = let e = c .before in let s = S e in sight-inside _ _ _ _ _ _ _ _ (record { id = 0; far = 0 }) (s .pre .0) (s .pre .1) (s .pre .2) (e .neighbour .ensures) (c .if1 .left)
+
+neighbour-requires : tie.Need-neighbour-requires
+neighbour-requires c κs = (search needs, search (needs, sight-small), search needs, search (needs, sight-slot))
 
 returns : tie.Need-returns
-returns c =
-    let s = c .before .before .before .before .before in
-    look-none _ _ _ _ _ _ _ _ _ _ _ _ (leaf-none _ _ _ _ _ (s .pre .1) (c .if1 .taken)) refl (s .pre .2)
-
-follow-requires : tie.Need-follow-requires
-follow-requires c κs =
-    let s = c .before .before .before .before .before in
-    (record { F = s .pre .0 .F; s = s .pre .0 .s; leaf = s .pre .0 .site .leaf }, s .pre .1, c .if1 .left)
+returns c = search (needs, look-none)
 
 at8-requires : tie.Need-at8-requires
 at8-requires c κs = inside c
 
 returns-2 : tie.Need-returns-2
-returns-2 c = let e = c .before .before in
-    look-area _ _ _ _ _ _ _ _ _ _ _ _ (e .follow .ensures .0) (inside e) _ (c .before .at8 .ensures .0) (c .if2 .taken)
+returns-2 c =
+    let f = c .before .before in
+    let e = f .before in
+    let s = S e in
+    look-area _ _ _ _ _ _ _ _ _ (s .pre .0) (s .pre .1) (s .pre .2) (e .neighbour .ensures) (inside f) _ (c .before .at8 .ensures .0) (c .if2 .taken)
 
 id-at-requires : tie.Need-id-at-requires
-id-at-requires c κs = let e = c .before .before in
-    omega (arith, inside e, e .before .before .before .before .before .before .pre .3)
+id-at-requires c κs = omega (arith, inside (E1 c), S (E1 c .before) .pre .0 .idents)
 
 returns-3 : tie.Need-returns-3
-returns-3 c = let i = c .before in
-    let e = i .before .before .before in
-    look-zero _ _ _ _ _ _ _ _ _ _ _ _ (e .follow .ensures .0) (inside e) _ (i .id-at .ensures) (c .if3 .taken)
+returns-3 c =
+    let i = c .before .before in
+    let f = E1 (i .before) in
+    let e = f .before in
+    let s = S e in
+    look-zero _ _ _ _ _ _ _ _ _ (s .pre .0) (s .pre .1) (s .pre .2) (e .neighbour .ensures) (inside f) _ (i .id-at .ensures) (c .if3 .taken)
+
+is-border-requires : tie.Need-is-border-requires
+is-border-requires c κs = search needs
 
 returns-4 : tie.Need-returns-4
-returns-4 c = let i = c .before .before in
-    let e = i .before .before .before in
-    look-flag _ _ _ _ _ _ _ _ _ _ _ _ (e .follow .ensures .0) (inside e) _ (i .id-at .ensures) (omega (arith, c .if4 .taken))
+returns-4 c =
+    let g = c .before .before in
+    let f = E1 (E2 g) in
+    let e = f .before in
+    let s = S e in
+    look-flag _ _ _ _ _ _ _ _ _ (s .pre .0) (s .pre .1) (s .pre .2) (e .neighbour .ensures) (inside f) _ (g .before .before .id-at .ensures) _ (c .before .is-border .ensures) (c .if4 .taken)
 
 farther-requires : tie.Need-farther-requires
-farther-requires c κs = let e = c .before .before .before .before .before in
-    let v = e .before .before .before .before .before .before .pre .4 in
-    (omega (arith, inside e, v .fits), v .most _ (inside e))
+farther-requires c κs =
+    let f = E1 (E2 (E3 c)) in
+    let v = S (f .before) .pre .0 .calm in
+    (omega (arith, inside f, v .fits), v .most _ (inside f))
 
 returns-5 : tie.Need-returns-5
 returns-5 c =
-    let f = c .before .before in
-    let e = f .before .before .before .before .before .before in
-    look-take _ _ _ _ _ _ _ _ _ _ _ _ (e .follow .ensures .0) (inside e) _ (f .farther .ensures) _ _ (f .before .before .before .before .before .at8 .ensures .0)
-    (f .before .before .before .before .if2 .left) (f .before .before .before .id-at .ensures) (f .before .before .if3 .left) (f .before .if4 .left) (c .if5 .taken)
+    let r = E4 (c .before) in
+    let g = E3 r in
+    let f = E1 (E2 g) in
+    let e = f .before in
+    let s = S e in
+    look-take _ _ _ _ _ _ _ _ _ (s .pre .0) (s .pre .1) (s .pre .2) (e .neighbour .ensures) (inside f) _ (g .before .before .id-at .ensures) _ (r .before .is-border .ensures)
+    _ (c .before .before .farther .ensures) _ (E2 g .before .at8 .ensures .0) (E2 g .if2 .left) (g .if3 .left) (r .if4 .left) (c .if5 .taken)
 
 returns-6 : tie.Need-returns-6
 returns-6 c =
-    let f = c .before .before in
-    let e = f .before .before .before .before .before .before in
-    look-far _ _ _ _ _ _ _ _ _ _ _ _ (e .follow .ensures .0) (inside e) _ (f .farther .ensures) (c .if5 .left)
+    let r = E4 (c .before) in
+    let g = E3 r in
+    let f = E1 (E2 g) in
+    let e = f .before in
+    let s = S e in
+    look-far _ _ _ _ _ _ _ _ _ (s .pre .0) (s .pre .1) (s .pre .2) (e .neighbour .ensures) (inside f) _ (g .before .before .id-at .ensures) _ (r .before .is-border .ensures)
+    _ (c .before .before .farther .ensures) (c .if5 .left)
 
 pub look-spec : {M : Type 1} → statement M
 look-spec =
     tie.close
     (tie.spec
-    array-read-if1
+    neighbour-requires
     returns
-    follow-requires
     at8-requires
     returns-2
     id-at-requires
     returns-3
+    is-border-requires
     returns-4
     farther-requires
     returns-5

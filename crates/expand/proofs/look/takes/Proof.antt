@@ -1,30 +1,42 @@
--- The entry's cell stands at its place in the workspace, so its four connections with that cell are a site of the field (Looks).
+-- The loop's invariant: what is found so far is what the rule finds in the directions before d (`Looking`). The measure is the directions left.
 -- Assumes nothing.
+use Prim.Native.Nat.{_-_}
+use native.Mathlib.Omega.{arith}
 use borrow.Author.Needs.{needs}
-use Rattle.flood.proofs.Visits.{lent-con}
-use Rattle.expand.proofs.Looks.{lent-some-site, takes-is}
+use lib.ListN.{length}
+use Rattle.net.specs.Table.{netAt}
+use Rattle.flood.specs.Stack.{marksAt}
+use Rattle.expand.specs.Layout.{takenOf}
+use Rattle.expand.proofs.Looks.{Looking, looking-start, looking-next, looking-done}
 use Rattle.expand.proofs.look.takes.Statement.{statement}
 use Rattle.expand.proofs.look.takes.Tie as tie
 
-add-at16 : tie.Need-add-at16
-add-at16 c = search needs
+abbrev Inv-loop : tie.InvT-loop
+Inv-loop area ids ws table span own t₀ d₀ t d = Looking (netAt table area ws) (marksAt (length area) ids ws) (span .0) (takenOf t) d
 
-at16-requires : tie.Need-at16-requires
-at16-requires c κs = search needs
+abbrev μ-loop : tie.MeasureT-loop
+μ-loop area ids ws table span own t₀ d₀ t d = 4 - d
 
-at8-requires : tie.Need-at8-requires
+at8-requires : tie.Need-at8-requires Inv-loop μ-loop
 at8-requires c κs = search needs
 
-connections-requires : tie.Need-connections-requires
-connections-requires c κs = search (needs, lent-con)
+loop-holds : tie.Need-loop-holds Inv-loop μ-loop
+loop-holds c = looking-start _ _ _
 
-look-all-requires : tie.Need-look-all-requires
-look-all-requires c κs = (search (needs, lent-some-site), search needs, search needs, search needs)
+look-requires : tie.Need-look-requires Inv-loop μ-loop
+look-requires c κs = search needs
 
-returns : tie.Need-returns
-returns c = search (needs, takes-is)
+add-d : tie.Need-add-d Inv-loop μ-loop
+add-d c = search needs
+
+loop-less : tie.Need-loop-less Inv-loop μ-loop
+loop-less c = search needs
+
+loop-again : tie.Need-loop-again Inv-loop μ-loop
+loop-again c = looking-next _ _ _ _ _ (c .before .before .loop .inv) _ (omega (arith, c .before .loop-test .taken)) (c .look .ensures)
+
+returns : tie.Need-returns Inv-loop μ-loop
+returns c = search (needs, looking-done)
 
 pub takes-spec : {M : Type 1} → statement M
-takes-spec =
-    tie.close
-    (tie.spec add-at16 at16-requires at8-requires connections-requires look-all-requires returns)
+takes-spec = tie.close (tie.spec Inv-loop μ-loop at8-requires loop-holds look-requires add-d loop-less loop-again returns)

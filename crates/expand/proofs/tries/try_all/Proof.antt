@@ -3,15 +3,16 @@
 use borrow.Author.Needs.{needs}
 use Prim.Native.Nat.{_-_, _≤_}
 use Rattle.expand.specs.Front.{Moved, Entered}
-use Rattle.expand.proofs.Trying.{moved-none, moved-some, moved-board, moved-then, entered-start, entered-at, entered-small, entered-entry, entered-next, entered-end}
+use Rattle.expand.proofs.Trying.{moved-none, moved-closed, moved-board, moved-then, entered-start, entered-at, entered-small, entered-entry, entered-next, entered-end}
 use Rattle.expand.proofs.tries.try_all.Statement.{statement}
 use Rattle.expand.proofs.tries.try_all.Tie as tie
 
 abbrev Inv-loop : tie.InvT-loop
-Inv-loop w index area con ids ws₀ b cb a fill k₀ j₀ ws k j = Moved w index area con cb b ids ws₀ 0 ws k × (j ≤ fill) × Entered w index area con a cb b ids ws₀ ws j
+Inv-loop area ids ws₀ at from fill k₀ j₀ ws k j =
+    Moved area (at .changes) (at .table) ids ws₀ 0 ws k × (j ≤ fill) × Entered area from (at .changes) (at .table) ids ws₀ ws j
 
 abbrev μ-loop : tie.MeasureT-loop
-μ-loop w index area con ids ws₀ b cb a fill k₀ j₀ ws k j = fill - j
+μ-loop area ids ws₀ at from fill k₀ j₀ ws k j = fill - j
 
 loop-holds : tie.Need-loop-holds Inv-loop μ-loop
 loop-holds c = (search (needs, moved-none), search needs, search (needs, entered-start))
@@ -20,7 +21,7 @@ add-try-entry : tie.Need-add-try-entry Inv-loop μ-loop
 add-try-entry c = search needs
 
 try-entry-requires : tie.Need-try-entry-requires Inv-loop μ-loop
-try-entry-requires c κs = ((search (needs, moved-some), search (needs, moved-board), search (needs, entered-at), search (needs, entered-small)), search (needs, entered-entry))
+try-entry-requires c κs = ((search (needs, moved-closed), search needs), ((search (needs, moved-board), search (needs, entered-at), search (needs, entered-small)), search (needs, entered-entry)))
 
 add-j : tie.Need-add-j Inv-loop μ-loop
 add-j c = search needs

@@ -1,31 +1,49 @@
--- The span stands in the cell that the workspace has for it, so its connections lead to its neighbours (Trying).
--- Assumes nothing.
+-- The loop's invariant: tries so far leave what tries leave, and the neighbours in directions before d are tried (`Moved`, `Sides`). The measure is the
+-- directions left. Assumes nothing.
 use borrow.Author.Needs.{needs}
-use Rattle.flood.proofs.Visits.{lent-con}
-use Rattle.expand.proofs.Looks.{lent-some-site}
-use Rattle.expand.proofs.Trying.{around-all}
+use Prim.Native.Nat.{_-_}
+use Rattle.expand.specs.Front.{Moved, Sides}
+use Rattle.expand.proofs.Trying.{moved-none, moved-closed, moved-board, moved-then, sides-start, sides-next, sides-end}
 use Rattle.expand.proofs.tries.try_around.Statement.{statement}
 use Rattle.expand.proofs.tries.try_around.Tie as tie
 
-add-at16 : tie.Need-add-at16
-add-at16 c = search needs
+abbrev Inv-loop : tie.InvT-loop
+Inv-loop area ids ws₀ at span noted k₀ d₀ ws k d = Moved area (at .changes) (at .table) ids ws₀ noted ws k × Sides area (at .changes) (at .table) ids ws₀ ws (span .0) d
 
-at16-requires : tie.Need-at16-requires
-at16-requires c κs = search needs
+abbrev μ-loop : tie.MeasureT-loop
+μ-loop area ids ws₀ at span noted k₀ d₀ ws k d = 4 - d
 
-connections-requires : tie.Need-connections-requires
-connections-requires c κs = search (needs, lent-con)
+loop-holds : tie.Need-loop-holds Inv-loop μ-loop
+loop-holds c = (search (needs, moved-none), search (needs, sides-start))
 
-try-sides-requires : tie.Need-try-sides-requires
-try-sides-requires c κs = (search needs, search needs, search (needs, lent-some-site))
+try-side-requires : tie.Need-try-side-requires Inv-loop μ-loop
+try-side-requires c κs = ((search (needs, moved-closed), search needs), (search (needs, moved-board), search needs, search needs))
 
-same-length : tie.Need-same-length
+add-d : tie.Need-add-d Inv-loop μ-loop
+add-d c = search needs
+
+loop-less : tie.Need-loop-less Inv-loop μ-loop
+loop-less c = search needs
+
+loop-again : tie.Need-loop-again Inv-loop μ-loop
+loop-again c = (search (needs, moved-then), search (needs, sides-next))
+
+same-length : tie.Need-same-length Inv-loop μ-loop
 same-length c = search needs
 
-returns : tie.Need-returns
-returns c = (search needs, search (needs, around-all))
+returns : tie.Need-returns Inv-loop μ-loop
+returns c = (search needs, search (needs, sides-end))
 
 pub try-around-spec : {M : Type 1} → statement M
 try-around-spec =
     tie.close
-    (tie.spec add-at16 at16-requires connections-requires try-sides-requires same-length returns)
+    (tie.spec
+    Inv-loop
+    μ-loop
+    loop-holds
+    try-side-requires
+    add-d
+    loop-less
+    loop-again
+    same-length
+    returns)

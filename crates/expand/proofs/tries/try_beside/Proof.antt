@@ -3,15 +3,16 @@
 use borrow.Author.Needs.{needs}
 use Prim.Native.Nat.{_-_, _≤_}
 use Rattle.expand.specs.Front.{Moved, Beside}
-use Rattle.expand.proofs.Trying.{moved-none, moved-some, moved-board, moved-then, beside-start, beside-span, beside-next, beside-end}
+use Rattle.expand.proofs.Trying.{moved-none, moved-closed, moved-board, moved-then, beside-start, beside-span, beside-next, beside-end}
 use Rattle.expand.proofs.tries.try_beside.Statement.{statement}
 use Rattle.expand.proofs.tries.try_beside.Tie as tie
 
 abbrev Inv-loop : tie.InvT-loop
-Inv-loop w index area con ids ws₀ b cb lo hi k₀ i₀ ws k i = Moved w index area con cb b ids ws₀ hi ws k × (lo ≤ i) × (i ≤ hi) × Beside w index area con cb b ids ws₀ ws lo i
+Inv-loop area ids ws₀ at lo hi k₀ i₀ ws k i =
+    Moved area (at .changes) (at .table) ids ws₀ hi ws k × (lo ≤ i) × (i ≤ hi) × Beside area (at .changes) (at .table) ids ws₀ ws lo i
 
 abbrev μ-loop : tie.MeasureT-loop
-μ-loop w index area con ids ws₀ b cb lo hi k₀ i₀ ws k i = hi - i
+μ-loop area ids ws₀ at lo hi k₀ i₀ ws k i = hi - i
 
 loop-holds : tie.Need-loop-holds Inv-loop μ-loop
 loop-holds c = (search (needs, moved-none), search needs, search needs, search (needs, beside-start))
@@ -26,7 +27,7 @@ at16-requires : tie.Need-at16-requires Inv-loop μ-loop
 at16-requires c κs = search needs
 
 try-around-requires : tie.Need-try-around-requires Inv-loop μ-loop
-try-around-requires c κs = (search (needs, moved-some), search (needs, moved-board), search (needs, beside-span))
+try-around-requires c κs = ((search (needs, moved-closed), search needs), (search (needs, moved-board), search (needs, beside-span)))
 
 add-i : tie.Need-add-i Inv-loop μ-loop
 add-i c = search needs

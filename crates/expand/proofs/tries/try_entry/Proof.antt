@@ -16,7 +16,7 @@ returns : tie.Need-returns
 returns c = (search (needs, moved-none), search (needs, tried-used))
 
 try-span-requires : tie.Need-try-span-requires
-try-span-requires c κs = (search needs, search needs, search (needs, entry-in))
+try-span-requires c κs = (search needs, (search needs, search (needs, entry-in)))
 
 same-length-2 : tie.Need-same-length-2
 same-length-2 c = search needs

@@ -5,17 +5,16 @@ use borrow.Author.Needs.{needs}
 use denote.Ref.{now}
 use lib.ListN.{length, length-set}
 use Prim.Native.Nat.{_+_, _<_}
-use mathlib.Core.Path.{refl}
-use Rattle.field.proofs.Places.{leaf-none}
-use Rattle.flood.proofs.Pushes.{pushed-inside, skip-none, skip-area, skip-id, skip-shallow, push-flow, skipped, push-fits, push-pushed}
+use Rattle.net.proofs.Tables.{slot-in, leads-inside, net-few}
+use Rattle.flood.proofs.Pushes.{skip-none, skip-area, skip-id, skip-shallow, push-flow, skipped, stack-in, push-fits, push-pushed}
 use Rattle.flood.proofs.flow.push_one.Statement.{statement}
 use Rattle.flood.proofs.flow.push_one.Tie as tie
 
 -- the entry
-abbrev S : tie.Else1 → tie.Start
+abbrev S : tie.After-neighbour-arg → tie.Start
 S c = c .before .before .before .before .before .before
 
-abbrev E1 : tie.Else2 → tie.After-follow
+abbrev E1 : tie.Else2 → tie.After-neighbour
 E1 c = c .before .before .before
 
 abbrev E2 : tie.Else3 → tie.Else2
@@ -24,107 +23,129 @@ E2 c = c .before .before
 abbrev E3 : tie.Else4 → tie.Else3
 E3 c = c .before .before .before
 
--- the neighbour is a span
-inside : (c : tie.After-follow) → c .follow .result .span .0 < length (now (S (c .before) .args .area))
-inside c = let s = S (c .before) in pushed-inside _ _ _ _ _ _ _ (c .follow .ensures .0) (s .pre .0) (s .pre .1) (c .follow .ensures .2)
+abbrev E4 : tie.Else4 → tie.After-neighbour
+E4 c = E1 (E2 (E3 c))
+
+-- the neighbour is a span, of few
+inside : (c : tie.After-neighbour) → c .neighbour .result .0 < length (now (S (c .before) .args .area))
+inside c = let s = S (c .before) in leads-inside _ _ _ _ _ _ _ (s .pre .0 .0) (s .pre .1 .0) (c .neighbour .ensures) (c .before .before .if1 .left)
+
+small : (c : tie.After-neighbour) → c .neighbour .result .0 < 32000
+small c = omega (arith, inside c, net-few _ _ _ (S (c .before) .pre .0 .0 .closed))
 
 -- there is room on the stack
-fits : (c : tie.Else4) → (S (E1 (E2 (E3 c)) .before) .args .top < length (now (S (E1 (E2 (E3 c)) .before) .args .area))) × (S (E1 (E2 (E3 c)) .before) .args .f + S (E1 (E2 (E3 c)) .before) .args .top < length (now (S (E1 (E2 (E3 c)) .before) .args .ws)))
+fits : (c : tie.Else4) → (S (E4 c .before) .args .height .top < length (now (S (E4 c .before) .args .area)))
+    × (S (E4 c .before) .args .at .stack + S (E4 c .before) .args .height .top < length (now (S (E4 c .before) .args .ws)))
 fits c =
-    let e = E1 (E2 (E3 c)) in
+    let e = E4 c in
     let s = S (e .before) in
-    push-fits _ _ _ _ _ _ _ _ (s .pre .2) (s .pre .3) (inside e) (E3 c .if3 .left) (s .pre .5)
+    let p = s .pre .0 .1 in
+    push-fits _ _ _ _ _ _ (now (s .args .ws)) (p .idents) (p .low) (stack-in p (s .pre .0 .0)) (s .pre .1 .1) (inside e) (E3 c .if3 .left) (s .pre .1 .3)
 
 array-read-if1 : tie.Need-array-read-if1
 array-read-if1 c = search needs
 
 returns : tie.Need-returns
 returns c =
-    let s = c .before .before .before .before .before .before in
-    (skip-none _ _ _ _ _ _ _ (leaf-none _ _ _ _ _ (s .pre .1) (c .if1 .taken)) _ _ _ _ _ _ _ _ refl (s .pre .4), skipped _ _ _ _ _ _ (s .pre .5))
+    let s = c .before .before .before .before .before in
+    (skip-none _ _ _ _ _ _ _ _ _ _ _ (s .pre .0 .0) (s .pre .1 .0) (s .pre .1 .2) (c .if1 .taken), skipped _ _ _ _ _ _ (s .pre .1 .3))
 
-follow-requires : tie.Need-follow-requires
-follow-requires c κs =
+neighbour-requires : tie.Need-neighbour-requires
+neighbour-requires c κs =
     let s = S c in
-    (record { F = s .pre .0 .F; s = s .pre .0 .s; leaf = s .pre .0 .site .leaf }, s .pre .1, c .if1 .left)
+    let v = s .pre .0 .0 in
+    (v .place, omega (arith, v .span, net-few _ _ _ (v .closed)), s .pre .1 .0, slot-in _ _ _ _ _ _ 0 v (s .pre .1 .0))
 
 shared-slice-read-if2 : tie.Need-shared-slice-read-if2
 shared-slice-read-if2 c = inside (c .before)
+
+same-length : tie.Need-same-length
+same-length c = search needs
 
 returns-2 : tie.Need-returns-2
 returns-2 c =
     let e = c .before .before .before in
     let s = S (e .before) in
-    (skip-area _ _ _ _ _ _ _ (e .follow .ensures .0) _ _ _ _ _ _ _ _ (inside e) (c .if2 .taken), skipped _ _ _ _ _ _ (s .pre .5))
+    (skip-area _ _ _ _ _ _ _ _ _ _ _ (s .pre .0 .0) (s .pre .1 .0) _ (e .neighbour .ensures) (inside e) (c .if2 .taken), skipped _ _ _ _ _ _ (s .pre .1 .3))
 
 mul-if3 : tie.Need-mul-if3
-mul-if3 c = omega (arith, inside (E1 c))
+mul-if3 c = omega (arith, small (E1 c))
 
 slice-read-if3 : tie.Need-slice-read-if3
-slice-read-if3 c = omega (arith, inside (E1 (c .before)), S (E1 (c .before) .before) .pre .2 .idents)
+slice-read-if3 c = omega (arith, inside (E1 (c .before)), S (E1 (c .before) .before) .pre .0 .1 .idents)
+
+same-length-2 : tie.Need-same-length-2
+same-length-2 c = search needs
 
 returns-3 : tie.Need-returns-3
 returns-3 c =
     let f = c .before .before in
     let e = E1 f in
     let s = S (e .before) in
-    (skip-id _ _ _ _ _ _ _ (e .follow .ensures .0) _ _ _ _ _ _ _ _ (inside e) (f .if2 .left) (c .if3 .taken), skipped _ _ _ _ _ _ (s .pre .5))
+    (skip-id _ _ _ _ _ _ _ _ _ _ _ (s .pre .0 .0) (s .pre .1 .0) _ (e .neighbour .ensures) (inside e) (f .if2 .left) (c .if3 .taken), skipped _ _ _ _ _ _ (s .pre .1 .3))
 
 mul-if4 : tie.Need-mul-if4
-mul-if4 c = omega (arith, inside (E1 (E2 c)))
+mul-if4 c = omega (arith, small (E1 (E2 c)))
 
 shared-slice-read-if4 : tie.Need-shared-slice-read-if4
-shared-slice-read-if4 c = let e = E1 (E2 (c .before)) in omega (arith, inside e, S (e .before) .pre .2 .dists)
+shared-slice-read-if4 c = let e = E1 (E2 (c .before)) in omega (arith, inside e, S (e .before) .pre .0 .1 .dists)
+
+same-length-3 : tie.Need-same-length-3
+same-length-3 c = search needs
 
 returns-4 : tie.Need-returns-4
 returns-4 c =
     let g = c .before .before .before in
     let f = E2 g in
     let e = E1 f in
-    let s = S (e .before) in
-    (skip-shallow _ _ _ _ _ _ _ (e .follow .ensures .0) _ _ _ _ _ _ _ _ (inside e) (f .if2 .left) (g .if3 .left) (c .if4 .taken), skipped _ _ _ _ _ _ (s .pre .5))
+    let s = S (e .before) in (
+      skip-shallow _ _ _ _ _ _ _ _ _ _ _ (s .pre .0 .0) (s .pre .1 .0) _ (e .neighbour .ensures) (inside e) (f .if2 .left) (g .if3 .left) (c .if4 .taken),
+      skipped _ _ _ _ _ _ (s .pre .1 .3),
+    )
 
 mul-ids : tie.Need-mul-ids
-mul-ids c = omega (arith, inside (E1 (E2 (E3 c))))
+mul-ids c = omega (arith, small (E4 c))
 
 slice-write-ids : tie.Need-slice-write-ids
-slice-write-ids c = let e = E1 (E2 (E3 c)) in omega (arith, inside e, S (e .before) .pre .2 .idents)
+slice-write-ids c = let e = E4 c in omega (arith, inside e, S (e .before) .pre .0 .1 .idents)
 
 mul-ws : tie.Need-mul-ws
-mul-ws c = omega (arith, inside (E1 (E2 (E3 c))))
+mul-ws c = omega (arith, small (E4 c))
 
 slice-write-ws : tie.Need-slice-write-ws
-slice-write-ws c = let e = E1 (E2 (E3 c)) in let z = S (e .before) .pre .2 in omega (arith, inside e, z .low, z .room)
+slice-write-ws c = let e = E4 c in omega (arith, inside e, fits c, S (e .before) .pre .0 .1 .low)
 
 cast-ws : tie.Need-cast-ws
-cast-ws c = let e = E1 (E2 (E3 c)) in omega (arith, inside e, S (e .before) .pre .2 .few)
+cast-ws c = omega (arith, small (E4 c))
 
 add-ws : tie.Need-add-ws
-add-ws c = omega (arith, fits c)
+add-ws c = let e = E4 (c .before .before) in let s = S (e .before) in omega (arith, fits (c .before .before), s .pre .0 .1 .apart, s .pre .0 .0 .place)
 
 mul-ws-2 : tie.Need-mul-ws-2
-mul-ws-2 c = omega (arith, fits c)
+mul-ws-2 c = let e = E4 (c .before .before) in let s = S (e .before) in omega (arith, fits (c .before .before), s .pre .0 .1 .apart, s .pre .0 .0 .place)
 
 slice-write-ws-2 : tie.Need-slice-write-ws-2
-slice-write-ws-2 c = simp length-set (fits c .1)
+slice-write-ws-2 c = simp length-set (fits (c .before .before) .1)
 
-add-result : tie.Need-add-result
-add-result c = omega (arith, fits c)
+add-t21 : tie.Need-add-t21
+add-t21 c = let e = E4 (c .before .before .before) in omega (arith, fits (c .before .before .before), net-few _ _ _ (S (e .before) .pre .0 .0 .closed))
 
-same-length : tie.Need-same-length
-same-length c = simp length-set
+same-length-4 : tie.Need-same-length-4
+same-length-4 c = simp length-set
 
-same-length-2 : tie.Need-same-length-2
-same-length-2 c = simp length-set
+same-length-5 : tie.Need-same-length-5
+same-length-5 c = simp length-set
 
 returns-5 : tie.Need-returns-5
 returns-5 c =
-    let g = E3 c in
+    let k = c .before .before .before in
+    let g = E3 k in
     let f = E2 g in
     let e = E1 f in
-    let s = S (e .before) in (
-      push-flow _ _ _ _ _ _ _ (e .follow .ensures .0) _ _ _ _ _ _ _ _ (inside e) (f .if2 .left) (g .if3 .left) (c .if4 .left) (s .pre .2 .low) (fits c .1),
-      push-pushed _ _ _ _ _ _ _ _ (s .pre .2) (s .pre .3) (inside e) (g .if3 .left) (s .pre .5),
+    let s = S (e .before) in
+    let p = s .pre .0 .1 in (
+      push-flow _ _ _ _ _ _ _ _ _ _ _ (s .pre .0 .0) (s .pre .1 .0) _ (e .neighbour .ensures) (inside e) (f .if2 .left) (g .if3 .left) (k .if4 .left) (p .low) (fits k .1),
+      push-pushed _ _ _ _ _ _ _ (p .idents) (p .low) (stack-in p (s .pre .0 .0)) (s .pre .1 .1) (inside e) (g .if3 .left) (s .pre .1 .3),
     )
 
 pub push-one-spec : {M : Type 1} → statement M
@@ -133,14 +154,17 @@ push-one-spec =
     (tie.spec
     array-read-if1
     returns
-    follow-requires
+    neighbour-requires
     shared-slice-read-if2
+    same-length
     returns-2
     mul-if3
     slice-read-if3
+    same-length-2
     returns-3
     mul-if4
     shared-slice-read-if4
+    same-length-3
     returns-4
     mul-ids
     slice-write-ids
@@ -150,7 +174,7 @@ push-one-spec =
     add-ws
     mul-ws-2
     slice-write-ws-2
-    add-result
-    same-length
-    same-length-2
+    add-t21
+    same-length-4
+    same-length-5
     returns-5)

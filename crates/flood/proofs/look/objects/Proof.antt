@@ -4,31 +4,31 @@ use Prim.Native.Nat.{_-_}
 use native.Mathlib.Omega.{arith}
 use mathlib.Core.Path.{refl}
 use borrow.Author.Needs.{needs}
+use lib.ListN.{length}
+use Rattle.net.specs.Table.{netAt}
+use Rattle.flood.specs.Looks.{seedOf}
+use Rattle.flood.specs.Stack.{marksAt}
 use Rattle.flood.proofs.Sight.{Looking, looking-stops, looking-objects, looking-on, looking-done}
 use Rattle.flood.proofs.look.objects.Statement.{statement}
 use Rattle.flood.proofs.look.objects.Tie as tie
 
 abbrev Inv-loop : tie.InvT-loop
-Inv-loop w index area con ids cons p q d₀ d = Looking w index area con ids (p .cell) (p .span .0) (q .area) (q .id) (q .limit) d
+Inv-loop area ids ws table cons span seed d₀ d = Looking (netAt table area ws) (marksAt (length area) ids ws) (seedOf seed) (span .0) d
 
 abbrev μ-loop : tie.MeasureT-loop
-μ-loop w index area con ids cons p q d₀ d = 4 - d
+μ-loop area ids ws table cons span seed d₀ d = 4 - d
 
 loop-holds : tie.Need-loop-holds Inv-loop μ-loop
-loop-holds c = record { few = omega arith; same = λ F src g. refl }
+loop-holds c = record { few = omega arith; same = refl }
 
 sees-requires : tie.Need-sees-requires Inv-loop μ-loop
 sees-requires c κs = search needs
 
 returns : tie.Need-returns Inv-loop μ-loop
-returns c =
-    let l = c .before .before .before in
-    looking-stops _ _ _ _ _ _ _ _ _ _ _ (l .loop .inv) _ (c .before .before .loop-test .taken) (c .before .sees .ensures) (c .if1 .taken)
+returns c = search (needs, looking-stops)
 
 returns-2 : tie.Need-returns-2 Inv-loop μ-loop
-returns-2 c =
-    let s = c .before .before in
-    looking-objects _ _ _ _ _ _ _ _ _ _ _ (s .before .before .loop .inv) _ (s .before .loop-test .taken) (s .sees .ensures) (c .if2 .taken)
+returns-2 c = search (needs, looking-objects)
 
 add-d : tie.Need-add-d Inv-loop μ-loop
 add-d c = search needs
@@ -37,12 +37,10 @@ loop-less : tie.Need-loop-less Inv-loop μ-loop
 loop-less c = search needs
 
 loop-again : tie.Need-loop-again Inv-loop μ-loop
-loop-again c =
-    let s = c .before .before in
-    looking-on _ _ _ _ _ _ _ _ _ _ _ (s .before .before .loop .inv) _ (s .before .loop-test .taken) (s .sees .ensures) (c .before .if1 .left) (c .if2 .left)
+loop-again c = search (needs, looking-on)
 
 returns-3 : tie.Need-returns-3 Inv-loop μ-loop
-returns-3 c = looking-done _ _ _ _ _ _ _ _ _ _ _ (c .before .loop .inv) (c .loop-test .left)
+returns-3 c = search (needs, looking-done)
 
 pub objects-spec : {M : Type 1} → statement M
 objects-spec =

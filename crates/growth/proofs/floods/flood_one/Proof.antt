@@ -1,4 +1,4 @@
--- A used entry and one with an id leave all as it is; else the flood gives what the rule's flood gives, and its id is advanced by success alone (SeaLaws).
+-- A used entry and one with an id leave all as it is; else the flood gives what the rule's flood gives, and its id is advanced by success alone (FloodLaws).
 -- Assumes nothing.
 use mathlib.Core.Path.{refl}
 use Prim.Native.Nat.{_<_}
@@ -6,23 +6,26 @@ use native.Mathlib.Omega.{arith}
 use borrow.Author.Needs.{needs}
 use denote.Ref.{now}
 use lib.ListN.{length, getD}
-use Rattle.growth.proofs.SeaLaws.{seas-begins, one-used, had-one, failed-one, won-one, failed-seas, won-seas}
+use Rattle.growth.proofs.FloodLaws.{next-begins, one-used, one-has-id, failed-one, won-one, failed-below, won-below}
 use Rattle.growth.proofs.floods.flood_one.Statement.{statement}
 use Rattle.growth.proofs.floods.flood_one.Tie as tie
 
 -- the entry
 abbrev S : tie.After-slice-known2 → tie.Start
-S c = c .before .before .before .before .before .before
+S c = c .before .before .before .before .before
+
+abbrev E1 : tie.Else2 → tie.Else1
+E1 c = c .before .before .before
 
 abbrev S2 : tie.Else2 → tie.Start
-S2 c = S (c .before .before .before)
+S2 c = S (E1 c .before)
 
 -- the span is one, and its area a byte
-inside : (c : tie.Else1) → S (c .before) .args .e < length (now (S (c .before) .args .area))
-inside c = S (c .before) .pre .5 (c .if1 .left)
+inside : (c : tie.Else1) → S (c .before) .args .entry < length (now (S (c .before) .args .area))
+inside c = S (c .before) .pre .1 .1 (c .if1 .left)
 
-byte : (c : tie.Else2) → getD (now (S2 c .args .area)) (S2 c .args .e) 0 < 256
-byte c = omega (arith, c .before .before .before .before .before .before .before .shared-slice-known2 .given (S2 c .args .e))
+byte : (c : tie.Else2) → getD (now (S2 c .args .area)) (S2 c .args .entry) 0 < 256
+byte c = omega (arith, E1 c .before .before .before .before .before .shared-slice-known .given (S2 c .args .entry))
 
 -- the call, from the tests after it
 abbrev R : tie.After-slice-known5 → tie.After-flood-region
@@ -32,22 +35,22 @@ abbrev E2 : tie.After-flood-region → tie.Else2
 E2 c = c .before .before .before
 
 returns : tie.Need-returns
-returns c = ((λ F l. one-used _ _ _ _ _ _ (c .if1 .taken)), (refl, S (c .before) .pre .4))
+returns c = (one-used _ _ _ _ _ _ (c .if1 .taken), (refl, S (c .before) .pre .1 .0 .1))
 
 mul-if2 : tie.Need-mul-if2
 mul-if2 c = omega (arith, inside c)
 
 slice-read-if2 : tie.Need-slice-read-if2
-slice-read-if2 c = omega (arith, inside (c .before), S (c .before .before) .pre .1 .idents)
+slice-read-if2 c = omega (arith, inside (c .before), S (c .before .before) .pre .0 .1 .idents)
 
 returns-2 : tie.Need-returns-2
-returns-2 c = let e = c .before .before in ((λ F l. had-one _ _ _ _ _ _ _ _ (e .if1 .left) (c .if2 .taken)), (refl, S (e .before) .pre .4))
+returns-2 c = let e = c .before .before .before in (one-has-id _ _ _ _ _ _ (e .if1 .left) (c .if2 .taken), (refl, S (e .before) .pre .1 .0 .1))
 
 flood-region-requires : tie.Need-flood-region-requires
 flood-region-requires c κs =
     let e = c .before .before in
     let s = S2 e in
-    (s .pre .0, s .pre .1, s .pre .2, seas-begins _ _ _ _ (s .pre .4) (inside (e .before .before)) (e .if2 .left), s .pre .3)
+    (s .pre .0, (next-begins _ _ _ _ (s .pre .1 .0 .1) (inside (E1 e)) (e .if2 .left), s .pre .1 .0 .0))
 
 same-length : tie.Need-same-length
 same-length c = search needs
@@ -59,13 +62,14 @@ returns-3 : tie.Need-returns-3
 returns-3 c =
     let r = R (c .before) in
     let e = E2 r in
-    let s = S2 e in (
-      failed-one _ _ _ _ _ _ _ _ _ _ _ _ _ _ _ (r .flood-region .ensures .0) (e .if2 .left) (e .before .before .if1 .left) (c .if3 .taken),
-      (r .flood-region .ensures .1 .0, failed-seas _ _ _ _ _ _ _ _ _ _ _ _ _ _ _ (r .flood-region .ensures .0) (e .if2 .left) (s .pre .0) (s .pre .4) (inside (e .before .before)) (byte e) (c .if3 .taken)),
+    let s = S2 e in
+    let q = r .flood-region .ensures in (
+      failed-one _ _ _ _ _ _ _ _ _ _ _ (q .0) (e .if2 .left) (E1 e .if1 .left) (c .if3 .taken),
+      (q .1 .0, failed-below _ _ _ _ _ _ _ _ _ _ _ (q .0) (e .if2 .left) (s .pre .1 .0 .1) (inside (E1 e)) (byte e) (c .if3 .taken)),
     )
 
 add-result : tie.Need-add-result
-add-result c = omega (arith, S2 (E2 (R (c .before))) .pre .4 .room)
+add-result c = omega (arith, S2 (E2 (R (c .before))) .pre .1 .0 .1 .room)
 
 same-length-3 : tie.Need-same-length-3
 same-length-3 c = search needs
@@ -77,9 +81,10 @@ returns-4 : tie.Need-returns-4
 returns-4 c =
     let r = R (c .before) in
     let e = E2 r in
-    let s = S2 e in (
-      won-one _ _ _ _ _ _ _ _ _ _ _ _ _ _ _ (r .flood-region .ensures .0) (e .if2 .left) (e .before .before .if1 .left) (c .if3 .left),
-      (r .flood-region .ensures .1 .0, won-seas _ _ _ _ _ _ _ _ _ _ _ _ _ _ _ (r .flood-region .ensures .0) (e .if2 .left) (s .pre .0) (s .pre .4) (inside (e .before .before)) (byte e) (c .if3 .left)),
+    let s = S2 e in
+    let q = r .flood-region .ensures in (
+      won-one _ _ _ _ _ _ _ _ _ _ _ (q .0) (e .if2 .left) (E1 e .if1 .left) (c .if3 .left),
+      (q .1 .0, won-below _ _ _ _ _ _ _ _ _ _ _ (q .0) (e .if2 .left) (s .pre .1 .0 .1) (inside (E1 e)) (byte e) (c .if3 .left)),
     )
 
 pub flood-one-spec : {M : Type 1} → statement M

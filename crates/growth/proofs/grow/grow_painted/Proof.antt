@@ -4,13 +4,14 @@ use mathlib.Core.Path.{_≡_}
 use native.Mathlib.Omega.{arith}
 use borrow.Author.Needs.{needs}
 use Rattle.growth.specs.Grow.{turnsFor}
-use Rattle.growth.proofs.GrowLaws.{some-last, last-ready, grew}
+use Rattle.growth.proofs.KeptLaws.{flags-at}
+use Rattle.growth.proofs.GrowLaws.{last-mutual, last-ready, grew}
 use Rattle.growth.proofs.grow.grow_painted.Statement.{statement}
 use Rattle.growth.proofs.grow.grow_painted.Tie as tie
 
 -- the entry, the turns
 abbrev S : tie.After-turns → tie.Start
-S c = c .before .before .before .before .before .before .before .before .before
+S c = c .before .before .before .before .before .before .before .before
 
 abbrev T : tie.After-clear-part → tie.After-turns
 T c = c .before .before .before .before .before .before
@@ -25,22 +26,22 @@ add-count c = search needs
 turns-requires : tie.Need-turns-requires
 turns-requires c κs = search needs
 
-mul-clear-part : tie.Need-mul-clear-part
-mul-clear-part c = search needs
-
 clear-part-requires : tie.Need-clear-part-requires
-clear-part-requires c κs = search needs
-
-mul-expand-last : tie.Need-mul-expand-last
-mul-expand-last c = search needs
+clear-part-requires c κs =
+    let t = c .before .before .before .before .before in
+    let v = S t .pre .0 in
+    (omega (arith, v .laid .changes), omega (arith, v .laid .changes, v .laid .past, v .lent .room, t .turns .kept .1 .1 .1 .1 .0))
 
 expand-last-requires : tie.Need-expand-last-requires
 expand-last-requires c κs =
     let k = c .before .before .before .before in
     let t = T k in
-    let s = S t in (
-      some-last _ _ _ _ _ _ _ _ _ _ (s .pre .0) _ (counted s) _ _ _ (t .turns .kept .1 .1 .1 .1 .1 .1 .0) (t .turns .ensures) _ (k .clear-part .kept .0) (k .clear-part .ensures .0) (k .clear-part .ensures .1),
-      last-ready _ _ _ _ _ _ _ _ _ _ (s .pre .0) _ (counted s) _ _ _ (t .turns .kept .1 .1 .1 .1 .1 .1 .0) (t .turns .ensures) _ (k .clear-part .kept .0) (k .clear-part .ensures .0) (k .clear-part .ensures .1),
+    let s = S t in
+    let v = s .pre .0 in
+    let z = t .turns .kept .1 .1 .1 .1 .0 in
+    let p = k .clear-part .ensures in (
+      (last-mutual _ _ _ _ _ _ _ _ v _ (counted s) _ _ _ z (t .turns .ensures) _ (k .clear-part .kept .0) (p .0) (p .1), flags-at _ _ _ _ _ _ _ _ v),
+      last-ready _ _ _ _ _ _ _ _ v _ (counted s) _ _ _ z (t .turns .ensures) _ (k .clear-part .kept .0) (p .0) (p .1),
     )
 
 same-length : tie.Need-same-length
@@ -55,19 +56,11 @@ returns c =
     let k = x .before .before .before .before .before in
     let t = T k in
     let s = S t in
-    grew _ _ _ _ _ _ _ _ _ _ (s .pre .0) _ (counted s) _ _ _ (t .turns .kept .1 .1 .1 .1 .1 .1 .0) (t .turns .ensures) _ (k .clear-part .kept .0) (k .clear-part .ensures .0) (k .clear-part .ensures .1)
+    let p = k .clear-part .ensures in
+    grew _ _ _ _ _ _ _ _ (s .pre .0) _ (counted s) _ _ _ (t .turns .kept .1 .1 .1 .1 .0) (t .turns .ensures) _ (k .clear-part .kept .0) (p .0) (p .1)
     _ _ (x .expand-last .ensures .0) (x .expand-last .ensures .1 .1 .0)
 
 pub grow-painted-spec : {M : Type 1} → statement M
 grow-painted-spec =
     tie.close
-    (tie.spec
-    add-count
-    turns-requires
-    mul-clear-part
-    clear-part-requires
-    mul-expand-last
-    expand-last-requires
-    same-length
-    same-length-2
-    returns)
+    (tie.spec add-count turns-requires clear-part-requires expand-last-requires same-length same-length-2 returns)

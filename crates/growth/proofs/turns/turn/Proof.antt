@@ -1,31 +1,61 @@
--- Loading leaves what the expansion asks, and the three together are the rule's turn (WholeTurn). Assumes nothing.
+-- Loading leaves what the expansion asks, that what the floods ask, and the three together are the rule's turn (WholeTurn). Assumes nothing.
 use native.Mathlib.Omega.{arith}
 use borrow.Author.Needs.{needs}
+use Rattle.growth.proofs.KeptLaws.{few-spans, flags-at}
+use Rattle.growth.proofs.ExpandTurn.{given-as, expanded-as, held-as}
+use Rattle.growth.proofs.FloodTurn.{between-placed, flooded}
 use Rattle.growth.proofs.WholeTurn.{ready-turn, turned}
 use Rattle.growth.proofs.turns.turn.Statement.{statement}
 use Rattle.growth.proofs.turns.turn.Tie as tie
 
--- the entry
+-- the entry, and after each call
 abbrev S : tie.After-load-arg2 → tie.Start
-S c = c .before .before .before .before .before .before .before .before
+S c = c .before .before .before .before .before .before .before
+
+abbrev L : tie.After-turn-stack → tie.After-load
+L c = c .before .before .before
+
+abbrev T : tie.After-expand-regions → tie.After-turn-stack
+T c = c .before .before .before
+
+abbrev X : tie.After-flood-all → tie.After-expand-regions
+X c = c .before .before .before .before .before .before .before
 
 load-requires : tie.Need-load-requires
 load-requires c κs =
     let s = S c in
     let v = s .pre .0 in
-    (v .few, s .pre .1, v .seas .size, omega (arith, v .past, v .lent .room), v .turn, v .left)
+    ((few-spans _ _ _ _ _ _ _ _ v, s .pre .1, v .ids-below .size), (v .laid, omega (arith, v .lent .room), v .turn, v .left))
 
-expand-turn-requires : tie.Need-expand-turn-requires
-expand-turn-requires c κs =
-    let l = c .before .before .before .before in
+turn-stack-requires : tie.Need-turn-stack-requires
+turn-stack-requires c κs =
+    let l = c .before .before in
     let s = S (l .before) in
-    ready-turn _ _ _ _ _ _ _ _ _ _ _ _ (s .pre .0) _ _ _ (l .load .kept .1 .1 .1 .0) (l .load .ensures)
+    let r = ready-turn _ _ _ _ _ _ _ _ _ _ (s .pre .0) _ _ _ (l .load .kept .1 .1 .1 .0) (l .load .ensures) in
+    (few-spans _ _ _ _ _ _ _ _ (s .pre .0), r .between .turn, r .fits .eight)
 
-flood-turn-requires : tie.Need-flood-turn-requires
-flood-turn-requires c κs =
+expand-regions-requires : tie.Need-expand-regions-requires
+expand-regions-requires c κs =
+    let t = c .before .before in
+    let l = L t in
+    let s = S (l .before) in
+    let r = ready-turn _ _ _ _ _ _ _ _ _ _ (s .pre .0) _ _ _ (l .load .kept .1 .1 .1 .0) (l .load .ensures) in
+    ((r .between .both-ways, flags-at _ _ _ _ _ _ _ _ (r .between)), given-as _ _ _ _ _ _ _ _ r _ _ (t .turn-stack .ensures .0) (t .turn-stack .ensures .1))
+
+flood-all-requires : tie.Need-flood-all-requires
+flood-all-requires c κs =
     let x = c .before .before .before .before .before .before in
-    let s = S (x .before .before .before .before .before .before) in
-    (x .expand-turn .ensures .ready, s .pre .1, s .pre .2)
+    let t = T x in
+    let l = L t in
+    let s = S (l .before) in
+    let r = ready-turn _ _ _ _ _ _ _ _ _ _ (s .pre .0) _ _ _ (l .load .kept .1 .1 .1 .0) (l .load .ensures) in
+    let a = t .turn-stack .ensures .0 in
+    let f = t .turn-stack .ensures .1 in
+    let q = x .expand-regions .ensures in
+    let e = expanded-as _ _ _ _ _ _ _ _ r _ _ a f _ _ _ (q .0) (q .1 .0) (q .1 .1) .ready in (
+      (e .between .lent, between-placed _ _ _ _ _ _ _ _ _ (e .between) (s .pre .1)),
+      ((e .between .stack, e .between .ids-below), held-as _ _ _ _ _ _ _ _ e _ _ a f),
+    )
 
 same-length : tie.Need-same-length
 same-length c = search needs
@@ -35,19 +65,23 @@ same-length-2 c = search needs
 
 returns : tie.Need-returns
 returns c =
-    let f = c .before .before .before .before in
-    let x = f .before .before .before .before .before .before .before in
-    let l = x .before .before .before .before .before in
+    let y = c .before .before .before .before in
+    let x = X y in
+    let t = T x in
+    let l = L t in
     let s = S (l .before) in
-    turned _ _ _ _ _ _ _ _ _ _ _ _ (s .pre .0) _ _ _ (l .load .kept .1 .1 .1 .0) (l .load .ensures) _ _ (x .expand-turn .ensures) _ _ _ (f .flood-turn .ensures)
+    let v = s .pre .0 in
+    let k = l .load .kept .1 .1 .1 .0 in
+    let r = ready-turn _ _ _ _ _ _ _ _ _ _ v _ _ _ k (l .load .ensures) in
+    let a = t .turn-stack .ensures .0 in
+    let f = t .turn-stack .ensures .1 in
+    let q = x .expand-regions .ensures in
+    let e = expanded-as _ _ _ _ _ _ _ _ r _ _ a f _ _ _ (q .0) (q .1 .0) (q .1 .1) in
+    let p = y .flood-all .ensures in
+    turned _ _ _ _ _ _ _ _ _ _ v _ _ _ k (l .load .ensures) _ _ e _ _ _
+    (flooded _ _ _ _ _ _ _ _ _ (e .ready) (s .pre .2) _ _ a f _ _ _ _ (p .0) (y .flood-all .kept .1 .1 .1 .1 .0) (p .1 .0) (p .1 .1))
 
 pub turn-spec : {M : Type 1} → statement M
 turn-spec =
     tie.close
-    (tie.spec
-    load-requires
-    expand-turn-requires
-    flood-turn-requires
-    same-length
-    same-length-2
-    returns)
+    (tie.spec load-requires turn-stack-requires expand-regions-requires flood-all-requires same-length same-length-2 returns)

@@ -1,44 +1,44 @@
--- The loop's invariant: what is there is what the turns so far leave (`Ebb`), count - left of them; each turn adds one (EbbLaws). The measure
+-- The loop's invariant: what is there is what the turns so far leave (`SomeTurns`), count - left of them; each turn adds one (TurnsLaws). The measure
 -- is the turns left. Assumes nothing.
 use mathlib.Core.Path.{_≡_}
 use Prim.Native.Nat.{suc, _-_, _≤_}
 use native.Mathlib.Omega.{arith}
 use borrow.Author.Needs.{needs}
-use Rattle.growth.specs.Turns.{Ebb}
-use Rattle.growth.proofs.EbbLaws.{ebb-start, ebb-next, ebb-end}
+use Rattle.growth.specs.Turns.{SomeTurns}
+use Rattle.growth.proofs.TurnsLaws.{turns-start, turns-next, turns-end}
 use Rattle.growth.proofs.turns.turns.Statement.{statement}
 use Rattle.growth.proofs.turns.turns.Tie as tie
 
 abbrev Inv-loop : tie.InvT-loop
-Inv-loop w index area con dist ids₀ ws₀ b count next l₀ id₀ left₀ ids ws l id left =
-    (left ≤ count) × Ebb w index area con dist b count next ids₀ ws₀ (count - left) id (l .fills) (l .turn) ids ws
+Inv-loop area con dist ids₀ ws₀ at count next l₀ id₀ left₀ ids ws l id left =
+    (left ≤ count) × SomeTurns area con dist at count next ids₀ ws₀ (count - left) id (l .fills) (l .turn) ids ws
 
 abbrev μ-loop : tie.MeasureT-loop
-μ-loop w index area con dist ids₀ ws₀ b count next l₀ id₀ left₀ ids ws l id left = left
+μ-loop area con dist ids₀ ws₀ at count next l₀ id₀ left₀ ids ws l id left = left
 
 -- the entry, the head of the loop, the turn
 abbrev S : tie.At-loop Inv-loop μ-loop → tie.Start Inv-loop μ-loop
-S c = c .before .before .before .before .before .before .before
+S c = c .before .before .before .before .before .before
 
 abbrev A : tie.After-turn-arg2 Inv-loop μ-loop → tie.At-loop Inv-loop μ-loop
 A c = c .before .before .before
 
 loop-holds : tie.Need-loop-holds Inv-loop μ-loop
 loop-holds c =
-    let s = c .before .before .before .before .before .before in
+    let s = c .before .before .before .before .before in
     let e : s .args .count - s .args .count ≡ 0 = omega arith in
-    (omega arith, rw e (ebb-start _ _ _ _ _ _ _ _ _ _ _ (s .pre .0)))
+    (omega arith, rw e (turns-start _ _ _ _ _ _ _ _ (s .pre .0 .0) _))
 
 sub-left : tie.Need-sub-left Inv-loop μ-loop
 sub-left c = search needs
 
 mul-turn : tie.Need-mul-turn Inv-loop μ-loop
-mul-turn c = let a = A c in omega (arith, a .loop .inv .0, S a .pre .3, c .before .before .loop-test .taken)
+mul-turn c = let a = A c in omega (arith, a .loop .inv .0, S a .pre .1, c .before .before .loop-test .taken)
 
 turn-requires : tie.Need-turn-requires Inv-loop μ-loop
 turn-requires c κs =
     let a = A c in
-    (a .loop .inv .1 .between, S a .pre .1, S a .pre .2)
+    (a .loop .inv .1 .between, S a .pre .0 .1, S a .pre .0 .2)
 
 loop-less : tie.Need-loop-less Inv-loop μ-loop
 loop-less c = let t = c .before .before .before .before .before in omega (arith, t .before .before .before .loop-test .taken)
@@ -50,10 +50,10 @@ loop-again c =
     let s = S a in
     let h = t .before .before .before .loop-test .taken in
     let e : s .args .count - (a .loop .left - 1) ≡ suc (s .args .count - a .loop .left) = omega (arith, h, a .loop .inv .0) in
-    (omega (arith, a .loop .inv .0), rw e (ebb-next _ _ _ _ _ _ _ _ _ _ _ _ _ _ _ _ (a .loop .inv .1) _ (omega (arith, h, a .loop .inv .0)) _ _ _ _ _ (t .turn .ensures)))
+    (omega (arith, a .loop .inv .0), rw e (turns-next _ _ _ _ _ _ _ _ (s .pre .0 .0) _ _ _ _ _ _ (a .loop .inv .1) _ (omega (arith, h, a .loop .inv .0)) _ _ _ _ _ (t .turn .ensures)))
 
 same-length : tie.Need-same-length Inv-loop μ-loop
-same-length c = let a = c .before in omega (arith, a .loop .inv .1 .between .seas .size, S a .pre .0 .seas .size)
+same-length c = let a = c .before in omega (arith, a .loop .inv .1 .between .ids-below .size, S a .pre .0 .0 .ids-below .size)
 
 same-length-2 : tie.Need-same-length-2 Inv-loop μ-loop
 same-length-2 c = c .before .loop .inv .1 .size
@@ -61,7 +61,7 @@ same-length-2 c = c .before .loop .inv .1 .size
 returns : tie.Need-returns Inv-loop μ-loop
 returns c =
     let a = c .before in
-    ebb-end _ _ _ _ _ _ _ _ _ _ _ _ _ _ _ _ (a .loop .inv .1) (omega (arith, c .loop-test .left))
+    turns-end _ _ _ _ _ _ _ _ (S a .pre .0 .0) _ _ _ _ _ _ (a .loop .inv .1) (omega (arith, c .loop-test .left))
 
 pub turns-spec : {M : Type 1} → statement M
 turns-spec =

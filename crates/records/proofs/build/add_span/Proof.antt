@@ -1,13 +1,17 @@
 -- `add_span` is the rule's `addSpan`: ids 0 and flagged ids pass, any other is counted.
 -- The three ways out are the rule's test for a plain id.
-use Rattle.laws.proofs.Plain.{plain-zero, plain-flagged, plain-yes}
+use lib.ListN.{getD}
+use denote.Ref.{now}
+use Rattle.laws.proofs.Plain.{plain-zero}
+use Rattle.records.proofs.CellLaws.{border-not, region-yes}
 use Rattle.records.proofs.BuildLaws.{added-none}
 use borrow.Author.Needs.{needs}
 use Rattle.records.proofs.build.add_span.Statement.{statement}
 use Rattle.records.proofs.build.add_span.Tie as tie
 
-abbrev S : tie.After-shared-slice-known6 → tie.Start
-S c = c .before .before .before .before .before .before .before
+-- the entry
+abbrev S : tie.After-struct-known → tie.Start
+S c = c .before .before .before .before .before .before
 
 mul-r : tie.Need-mul-r
 mul-r c = search needs
@@ -16,15 +20,21 @@ shared-slice-read-r : tie.Need-shared-slice-read-r
 shared-slice-read-r c = search needs
 
 returns : tie.Need-returns
-returns c = let p = S (c .before) .pre in added-none _ _ _ _ _ _ _ _ _ _ _ (p .1) (p .2) (plain-zero _ (c .if1 .taken))
+returns c = added-none _ _ _ _ _ _ _ _ (S (c .before) .pre) (plain-zero _ (c .if1 .taken))
+
+is-border-requires : tie.Need-is-border-requires
+is-border-requires c κs = search needs
 
 returns-2 : tie.Need-returns-2
-returns-2 c = let p = S (c .before .before) .pre in added-none _ _ _ _ _ _ _ _ _ _ _ (p .1) (p .2) (plain-flagged _ (c .if2 .taken))
+returns-2 c = let b = c .before in
+    let s = S (b .before .before) in
+    added-none _ _ _ _ _ _ _ _ (s .pre) (border-not (getD (now (s .args .ids)) (s .args .span .0) 0) _ (b .is-border .ensures) (c .if2 .taken))
 
 count-span-requires : tie.Need-count-span-requires
-count-span-requires c κs = let e = c .before in
-    let p = S (e .before .before) .pre in
-    (p .0, p .1, p .2, plain-yes _ (e .before .if1 .left) (e .if2 .left), p .3)
+count-span-requires c κs = let f = c .before in
+    let b = f .before in
+    let e = b .before in
+    (S (e .before) .pre, region-yes _ _ (b .is-border .ensures) (e .if1 .left) (f .if2 .left))
 
 same-length : tie.Need-same-length
 same-length c = search needs
@@ -39,6 +49,7 @@ add-span-spec =
     mul-r
     shared-slice-read-r
     returns
+    is-border-requires
     returns-2
     count-span-requires
     same-length

@@ -1,61 +1,89 @@
--- The invariant `Running`: after s spans the records are the rule's after s spans, and what is past them is as it was.
--- It starts with new records; the measure is what is left of the spans.
-use Prim.Native.Nat.{_-_}
+-- The invariant `Running`: after the cells before c the records are the rule's after those cells' spans, and what is past them is as it was.
+-- It starts with new records; the measure is what is left of the cells.
+use denote.Ref.{now}
+use Prim.Native.Nat.{_+_, _-_, _*_, _≤_}
 use mathlib.Core.Path.{_∙_}
-use lib.ListN.{length}
-use Rattle.records.specs.Build.{Running}
-use Rattle.records.proofs.BuildLaws.{some-kept, run-start, run-given, run-next, built}
+use Rattle.rules.specs.Field.{Field}
+use Rattle.field.specs.Lent.{lent}
+use Rattle.field.proofs.Passed.{sound-reached}
+use Rattle.records.specs.declared.grow.Plan.{Plan}
+use Rattle.records.proofs.BuildLaws.{Running, run-start, cell-in, run-enter, run-next, built}
 use borrow.Author.Needs.{needs}
+use native.Mathlib.Omega.{arith}
 use Rattle.records.proofs.build.build_records.Statement.{statement}
 use Rattle.records.proofs.build.build_records.Tie as tie
 
 abbrev Inv-loop : tie.InvT-loop
-Inv-loop w index count area con ids ws₀ b next m top₀ s₀ ws top s = Running w index count area con ids b m top s ws₀ ws
+Inv-loop w h index count area con ids ws₀ table next plan top₀ c₀ c-end ws top c = Running (lent w h index count area con) ids (next + 1) top c ws₀ ws
 
 abbrev μ-loop : tie.MeasureT-loop
-μ-loop w index count area con ids ws₀ b next m top₀ s₀ ws top s = length ids - s
+μ-loop w h index count area con ids ws₀ table next plan top₀ c₀ c-end ws top c = w * h - c
 
+-- after the records are new
 abbrev N : tie.After-slice-known2 Inv-loop μ-loop → tie.After-renew Inv-loop μ-loop
 N c = c .before .before
 
+-- the entry
 abbrev S : tie.After-slice-known2 Inv-loop μ-loop → tie.Start Inv-loop μ-loop
 S c = N c .before .before .before .before .before .before .before .before
 
-add-m : tie.Need-add-m Inv-loop μ-loop
-add-m c = search needs
+abbrev F : tie.After-slice-known2 Inv-loop μ-loop → Field
+F c = let a = S c .args in lent (a .w) (a .h) (now (a .index)) (now (a .count)) (now (a .area)) (now (a .con))
+
+abbrev P : tie.After-slice-known2 Inv-loop μ-loop → Plan
+P c = record { records = S c .args .next + 1; table = S c .args .table }
+
+grid : (c : tie.After-slice-known2 Inv-loop μ-loop) → S c .args .w * S c .args .h ≤ 65536
+grid c = sound-reached (F c) (S c .pre .0 .sound) .celled .grid
+
+add-renew : tie.Need-add-renew Inv-loop μ-loop
+add-renew c = search needs
+
+add-renew-2 : tie.Need-add-renew-2 Inv-loop μ-loop
+add-renew-2 c = search needs
 
 renew-requires : tie.Need-renew-requires Inv-loop μ-loop
 renew-requires c κs = search needs
 
+mul-c-end : tie.Need-mul-c-end Inv-loop μ-loop
+mul-c-end c = omega (arith, grid c)
+
 loop-holds : tie.Need-loop-holds Inv-loop μ-loop
-loop-holds c = run-start _ _ _ _ _ _ _ _ _ (S c .pre .1) _ (N c .renew .ensures)
+loop-holds c = run-start (F c) _ _ _ (S c .pre .1 .0) _ (N c .renew .ensures)
 
-add-span-requires : tie.Need-add-span-requires Inv-loop μ-loop
-add-span-requires c κs = let i = c .before in
+spans-of-requires : tie.Need-spans-of-requires Inv-loop μ-loop
+spans-of-requires c κs = let i = c .before in
     let l = i .before in
-    let p = S (l .before) .pre in
-    let n = N (l .before) .renew .ensures in
-    (run-given _ _ _ _ _ _ _ _ _ _ _ _ (l .loop .inv) (p .1 .room) (some-kept _ _ _ _ _ _ _ _ _ _ (p .1 .room) (n .size) (n .after) (p .0)), l .loop .inv .keeping, i .loop-test .taken, p .1 .room)
+    let b = l .before in
+    cell-in (F b) _ (P b) _ _ (S b .pre .0) (S b .pre .1 .1) (N b .renew .ensures) _ _ _ (l .loop .inv) (i .loop-test .taken)
 
-add-s : tie.Need-add-s Inv-loop μ-loop
-add-s c = search needs
+add-spans-requires : tie.Need-add-spans-requires Inv-loop μ-loop
+add-spans-requires c κs = let l = c .before .before .before in
+    let b = l .before in
+    run-enter (F b) _ (P b) _ _ (S b .pre .0) (S b .pre .1 .1) (N b .renew .ensures) _ _ _ (l .loop .inv) _ (c .spans-of .ensures .0) (c .spans-of .ensures .1)
+
+add-c : tie.Need-add-c Inv-loop μ-loop
+add-c c = let i = c .before .before .before .before .before in omega (arith, grid (i .before .before), i .loop-test .taken)
 
 loop-less : tie.Need-loop-less Inv-loop μ-loop
 loop-less c = search needs
 
 loop-again : tie.Need-loop-again Inv-loop μ-loop
 loop-again c = let a = c .before .before in
-    let i = a .before .before in
+    let k = a .before in
+    let i = k .before .before in
     let l = i .before in
-    run-next _ _ _ _ _ _ _ _ _ _ _ _ (l .loop .inv) (S (l .before) .pre .1 .room) _ _ (i .loop-test .taken) (a .add-span .ensures)
+    let b = l .before in
+    run-next (F b) _ (P b) _ _ (S b .pre .0) (S b .pre .1 .1) (N b .renew .ensures) _ _ _ (l .loop .inv) _ (k .spans-of .ensures .0) (k .spans-of .ensures .1)
+    (i .loop-test .taken) _ _ (a .add-spans .ensures)
 
 same-length : tie.Need-same-length Inv-loop μ-loop
 same-length c = let l = c .before in l .loop .inv .size ∙ N (l .before) .renew .kept .1 .0
 
 returns : tie.Need-returns Inv-loop μ-loop
 returns c = let l = c .before in
-    let p = S (l .before) .pre in
-    built _ _ _ _ _ _ _ _ _ _ _ (p .0) (p .1) (N (l .before) .renew .ensures) _ _ (l .loop .inv) (c .loop-test .left)
+    let b = l .before in
+    built (F b) _ _ _ _ _ _ (S b .pre .0) (N b .renew .ensures) _ _ (l .loop .inv) (c .loop-test .left)
 
 pub build-records-spec : {M : Type 1} → statement M
 build-records-spec =
@@ -63,11 +91,14 @@ build-records-spec =
     (tie.spec
     Inv-loop
     μ-loop
-    add-m
+    add-renew
+    add-renew-2
     renew-requires
+    mul-c-end
     loop-holds
-    add-span-requires
-    add-s
+    spans-of-requires
+    add-spans-requires
+    add-c
     loop-less
     loop-again
     same-length

@@ -1,4 +1,4 @@
--- The invariant: `Joining`, what is left of the cell's spans joins the list so far, to the end that all of them join to; and the id of s
+-- The invariant: `Joining`, what is left of the cell's spans joins the list so far, to the end that all of them join to; and the span's id
 -- was met so far or is met in what is left, as it is in all. The measure is what is left of the cell.
 use Prim.Native.Nat.{_+_, _-_}
 use mathlib.Core.Path.{_≡_}
@@ -12,35 +12,40 @@ use Rattle.records.proofs.cell.join.Statement.{statement}
 use Rattle.records.proofs.cell.join.Tie as tie
 
 abbrev Inv-loop : tie.InvT-loop
-Inv-loop ids part₀ s from size len own l₀ twin₀ j₀ part l twin j = (Joining ids part₀ s from size len part (l .len) j) × (twin or twins ids s own (size - j) (from + j) ≡ twins ids s own size from)
+Inv-loop ids part₀ span cell len s own l₀ twin₀ j₀ j-end part l twin j =
+    (Joining ids part₀ (span .0) (cell .from) (cell .size) len part (l .len) j)
+    × (twin or twins ids (span .0) own (cell .size - j) (cell .from + j) ≡ twins ids (span .0) own (cell .size) (cell .from))
 
 abbrev μ-loop : tie.MeasureT-loop
-μ-loop ids part₀ s from size len own l₀ twin₀ j₀ part l twin j = size - j
+μ-loop ids part₀ span cell len s own l₀ twin₀ j₀ j-end part l twin j = cell .size - j
+
+-- the entry
+abbrev S : tie.After-shared-slice-known2 Inv-loop μ-loop → tie.Start Inv-loop μ-loop
+S c = c .before .before .before
 
 mul-own : tie.Need-mul-own Inv-loop μ-loop
 mul-own c = search needs
 
 shared-slice-read-own : tie.Need-shared-slice-read-own Inv-loop μ-loop
-shared-slice-read-own c = (let p = c .before .before .before .pre in omega (arith, p .inside, p .upper))
+shared-slice-read-own c = (let p = S c .pre in omega (arith, p .inside, p .upper))
 
 loop-holds : tie.Need-loop-holds Inv-loop μ-loop
-loop-holds c = (join-start _ _ _ _ _ _ (c .before .before .before .pre), twins-start _ _ _ _ _)
+loop-holds c = (join-start _ _ _ _ _ _ (S c .pre), twins-start _ _ _ _ _)
 
-add-met : tie.Need-add-met Inv-loop μ-loop
-add-met c = search needs
+at-requires : tie.Need-at-requires Inv-loop μ-loop
+at-requires c κs = let p = S (c .before .before) .pre in omega (arith, p .inside, p .spans, c .loop-test .taken)
 
 met-requires : tie.Need-met-requires Inv-loop μ-loop
-met-requires c κs = (let p = c .before .before .before .before .before .pre in omega (arith, p .inside, c .loop-test .taken))
-
-add-join-one : tie.Need-add-join-one Inv-loop μ-loop
-add-join-one c = search needs
+met-requires c κs = let i = c .before in
+    let p = S (i .before .before) .pre in
+    omega (arith, p .inside, c .at .ensures, i .loop-test .taken)
 
 join-one-requires : tie.Need-join-one-requires Inv-loop μ-loop
-join-one-requires c κs =
-    let i = c .before .before in
+join-one-requires c κs = let a = c .before .before in
+    let i = a .before in
     let l = i .before in
-    let r = join-room _ _ _ _ _ _ (l .before .before .before .before .pre) _ _ _ (l .loop .inv .0) (i .loop-test .taken) in
-    (omega (arith, l .before .before .before .before .pre .inside, i .loop-test .taken), r)
+    let p = S (l .before) .pre in
+    (omega (arith, p .inside, a .at .ensures, i .loop-test .taken), join-room _ _ _ _ _ _ p _ _ _ (l .loop .inv .0) (i .loop-test .taken) _ (a .at .ensures))
 
 add-j : tie.Need-add-j Inv-loop μ-loop
 add-j c = search needs
@@ -52,9 +57,12 @@ loop-again : tie.Need-loop-again Inv-loop μ-loop
 loop-again c =
     let a = c .before .before in
     let m = a .before .before in
-    let i = m .before in
-    let l = i .before in
-    (join-next _ _ _ _ _ _ (l .before .before .before .before .pre) _ _ _ (l .loop .inv .0) (i .loop-test .taken) _ _ (a .join-one .ensures .0) (a .join-one .ensures .1) (a .join-one .kept .1 .0), twins-go _ _ _ _ _ _ _ (l .loop .inv .1) _ (i .loop-test .taken) (m .met .ensures))
+    let t = m .before in
+    let i = t .before in
+    let l = i .before in (
+      join-next _ _ _ _ _ _ (S (l .before) .pre) _ _ _ (l .loop .inv .0) (i .loop-test .taken) _ (t .at .ensures) _ _ (a .join-one .ensures .0) (a .join-one .ensures .1) (a .join-one .kept .1 .0),
+      twins-go _ _ _ _ _ _ _ (l .loop .inv .1) _ (t .at .ensures) _ (i .loop-test .taken) (m .met .ensures),
+    )
 
 same-length : tie.Need-same-length Inv-loop μ-loop
 same-length c = c .before .loop .inv .0 .length′
@@ -62,7 +70,7 @@ same-length c = c .before .loop .inv .0 .length′
 returns : tie.Need-returns Inv-loop μ-loop
 returns c =
     let l = c .before in
-    (join-end _ _ _ _ _ _ (l .before .before .before .before .pre) _ _ _ (l .loop .inv .0) (c .loop-test .left), twins-end _ _ _ _ _ _ _ (l .loop .inv .1) (c .loop-test .left))
+    (join-end _ _ _ _ _ _ (S (l .before) .pre) _ _ _ (l .loop .inv .0) (c .loop-test .left), twins-end _ _ _ _ _ _ _ (l .loop .inv .1) (c .loop-test .left))
 
 pub join-spec : {M : Type 1} → statement M
 join-spec =
@@ -73,9 +81,8 @@ join-spec =
     mul-own
     shared-slice-read-own
     loop-holds
-    add-met
+    at-requires
     met-requires
-    add-join-one
     join-one-requires
     add-j
     loop-less

@@ -13,10 +13,10 @@ use Rattle.records.proofs.fresh.renew.Statement.{statement}
 use Rattle.records.proofs.fresh.renew.Tie as tie
 
 abbrev Inv-loop : tie.InvT-loop
-Inv-loop ids ws₀ m b lower₀ i₀ ws lower i = Renewed ids m i ws₀ ws × (lower ≡ slot ids i)
+Inv-loop ids ws₀ m lower₀ i₀ ws lower i = Renewed ids m i ws₀ ws × (lower ≡ slot ids i)
 
 abbrev μ-loop : tie.MeasureT-loop
-μ-loop ids ws₀ m b lower₀ i₀ ws lower i = m - i
+μ-loop ids ws₀ m lower₀ i₀ ws lower i = m - i
 
 abbrev T : tie.After-slice-known2 Inv-loop μ-loop → tie.After-tally Inv-loop μ-loop
 T c = c .before .before
@@ -25,7 +25,7 @@ abbrev S : tie.After-slice-known2 Inv-loop μ-loop → tie.Start Inv-loop μ-loo
 S c = T c .before .before .before .before
 
 counted : (c : tie.After-slice-known2 Inv-loop μ-loop) → Renewed (now (S c .args .ids)) (S c .args .m) 0 (now (S c .args .ws)) (T c .tally .last .1 .0)
-counted c = renewed-start _ _ _ _ _ (S c .pre) (T c .tally .ensures)
+counted c = renewed-start _ _ _ _ (S c .pre) (T c .tally .ensures)
 
 tally-requires : tie.Need-tally-requires Inv-loop μ-loop
 tally-requires c κs = search needs
@@ -37,7 +37,7 @@ renew-one-requires : tie.Need-renew-one-requires Inv-loop μ-loop
 renew-one-requires c κs = let i = c .before in
     let l = i .before in
     let p = S (l .before) .pre in
-    (renewed-here _ _ _ _ _ (l .loop .inv .0), i .loop-test .taken, l .loop .inv .1, p .few, p .spans, omega (arith, l .loop .inv .0 .size, T (l .before) .tally .ensures .size, p .room, p .inside))
+    ((renewed-here _ _ _ _ _ (l .loop .inv .0), i .loop-test .taken, l .loop .inv .1), (p .few, p .spans, omega (arith, l .loop .inv .0 .size, T (l .before) .tally .ensures .size, p .room)))
 
 add-lower : tie.Need-add-lower Inv-loop μ-loop
 add-lower c = let r = c .before .before in

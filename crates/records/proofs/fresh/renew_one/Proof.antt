@@ -15,7 +15,7 @@ abbrev S : tie.After-at → tie.Start
 S c = c .before .before .before .before
 
 lower-few : (c : tie.After-at) → S c .args .lower ≤ 32000
-lower-few c = omega (arith, S c .pre .2, S c .pre .4, slot-room (now (S c .args .ids)) (S c .args .i))
+lower-few c = omega (arith, S c .pre .0 .2, S c .pre .1 .1, slot-room (now (S c .args .ids)) (S c .args .i))
 
 two-stores : (c : tie.After-at) → length (set (set (now (S c .args .ws)) (S c .args .i) (S c .args .i)) (S c .args .m + S c .args .i) 0) ≡ length (now (S c .args .ws))
 two-stores c = simp length-set
@@ -26,20 +26,20 @@ add-at c = search needs
 at-requires : tie.Need-at-requires
 at-requires c κs = search needs
 
-mul-q : tie.Need-mul-q
-mul-q c = search needs
+mul-floors : tie.Need-mul-floors
+mul-floors c = search needs
 
-mul-q-2 : tie.Need-mul-q-2
-mul-q-2 c = search needs
+mul-floors-2 : tie.Need-mul-floors-2
+mul-floors-2 c = search needs
 
-add-q : tie.Need-add-q
-add-q c = search needs
+add-floors : tie.Need-add-floors
+add-floors c = search needs
 
-mul-q-3 : tie.Need-mul-q-3
-mul-q-3 c = omega (arith, lower-few c)
+mul-floors-3 : tie.Need-mul-floors-3
+mul-floors-3 c = omega (arith, lower-few c)
 
-add-q-2 : tie.Need-add-q-2
-add-q-2 c = omega (arith, lower-few c, S c .pre .3, S c .pre .4)
+add-floors-2 : tie.Need-add-floors-2
+add-floors-2 c = omega (arith, lower-few c, S c .pre .1 .0, S c .pre .1 .1)
 
 cast-ws : tie.Need-cast-ws
 cast-ws c = search needs
@@ -57,7 +57,7 @@ mul-ws-2 : tie.Need-mul-ws-2
 mul-ws-2 c = search needs
 
 slice-write-ws-2 : tie.Need-slice-write-ws-2
-slice-write-ws-2 c = simp length-set (omega (arith, S c .pre .5, S c .pre .1))
+slice-write-ws-2 c = simp length-set (omega (arith, S c .pre .1 .2, S c .pre .0 .1))
 
 mul-set-part : tie.Need-mul-set-part
 mul-set-part c = search needs
@@ -69,7 +69,7 @@ mul-set-part-3 : tie.Need-mul-set-part-3
 mul-set-part-3 c = search needs
 
 set-part-requires : tie.Need-set-part-requires
-set-part-requires c κs = let p = S (c .before) .pre in (simp length-set (omega (arith, p .5)), (p .1, (omega (arith, p .3), omega (arith, p .3))))
+set-part-requires c κs = let p = S (c .before) .pre in (simp length-set (omega (arith, p .1 .2)), (p .0 .1, (omega (arith, p .1 .0), omega (arith, p .1 .0))))
 
 mul-set-part-4 : tie.Need-mul-set-part-4
 mul-set-part-4 c = search needs
@@ -77,8 +77,8 @@ mul-set-part-4 c = search needs
 set-part-requires-2 : tie.Need-set-part-requires-2
 set-part-requires-2 c κs = let f = c .before .before .before in
     let p = S (f .before .before) .pre in
-    let q = floors-fit _ _ _ _ (p .0) (p .1) _ _ (p .2) refl (p .3) (p .4) (p .5) in
-    (omega (arith, f .set-part .kept .0, two-stores (f .before .before), p .5), (p .1, (q, q)))
+    let q = floors-fit _ _ _ _ (p .0 .0) (p .0 .1) _ _ (p .0 .2) refl (p .1 .0) (p .1 .1) (p .1 .2) in
+    (omega (arith, f .set-part .kept .0, two-stores (f .before .before), p .1 .2), (p .0 .1, (q, q)))
 
 same-length : tie.Need-same-length
 same-length c = let g = c .before .before in
@@ -90,7 +90,7 @@ returns c = let g = c .before .before in
     let f = g .before .before .before .before in
     let a = f .before .before in
     let p = S a .pre in
-    (renewed-one _ _ _ _ (p .0) (p .1) _ _ (p .2) refl (p .3) (p .4) (p .5) _ _ _ refl (f .set-part .ensures) (f .set-part .kept .0) (g .set-part2 .ensures) (g .set-part2 .kept .0), a .at .ensures .0 ∙ p .0 .counts _ (omega arith) (p .1))
+    (renewed-one _ _ _ _ (p .0 .0) (p .0 .1) _ _ (p .0 .2) refl (p .1 .0) (p .1 .1) (p .1 .2) _ _ _ refl (f .set-part .ensures) (f .set-part .kept .0) (g .set-part2 .ensures) (g .set-part2 .kept .0), a .at .ensures .0 ∙ p .0 .0 .counts _ (omega arith) (p .0 .1))
 
 pub renew-one-spec : {M : Type 1} → statement M
 renew-one-spec =
@@ -98,11 +98,11 @@ renew-one-spec =
     (tie.spec
     add-at
     at-requires
-    mul-q
-    mul-q-2
-    add-q
-    mul-q-3
-    add-q-2
+    mul-floors
+    mul-floors-2
+    add-floors
+    mul-floors-3
+    add-floors-2
     cast-ws
     mul-ws
     slice-write-ws

@@ -9,13 +9,13 @@ use Rattle.records.proofs.fresh.tally.Statement.{statement}
 use Rattle.records.proofs.fresh.tally.Tie as tie
 
 abbrev Inv-loop : tie.InvT-loop
-Inv-loop ids ws₀ m b k₀ ws k = Tallied ids m k ws₀ ws
+Inv-loop ids ws₀ m k₀ ws k = Tallied ids m k ws₀ ws
 
 abbrev μ-loop : tie.MeasureT-loop
-μ-loop ids ws₀ m b k₀ ws k = length ids - k
+μ-loop ids ws₀ m k₀ ws k = length ids - k
 
 loop-holds : tie.Need-loop-holds Inv-loop μ-loop
-loop-holds c = tallied-start _ _ _ _ (c .before .before .pre)
+loop-holds c = tallied-start _ _ _ (c .before .before .pre)
 
 at-requires : tie.Need-at-requires Inv-loop μ-loop
 at-requires c κs = search needs
@@ -23,7 +23,7 @@ at-requires c κs = search needs
 tally-one-requires : tie.Need-tally-one-requires Inv-loop μ-loop
 tally-one-requires c κs = let i = c .before .before in
     let l = i .before in
-    tally-fits _ _ _ _ _ (l .loop .inv) (i .loop-test .taken) _ (l .before .before .before .pre) _
+    tally-fits _ _ _ _ _ (l .loop .inv) (i .loop-test .taken) (l .before .before .before .pre) _
 
 add-k : tie.Need-add-k Inv-loop μ-loop
 add-k c = search needs
@@ -36,7 +36,7 @@ loop-again c = let t = c .before .before in
     let a = t .before in
     let i = a .before .before in
     let l = i .before in
-    tallied-next _ _ _ _ _ (l .loop .inv) (i .loop-test .taken) _ _ (a .at .ensures .0) (tally-fits _ _ _ _ _ (l .loop .inv) (i .loop-test .taken) _ (l .before .before .before .pre) 0 .0) (t .tally-one .ensures)
+    tallied-next _ _ _ _ _ (l .loop .inv) (i .loop-test .taken) _ _ (a .at .ensures .0) (tally-fits _ _ _ _ _ (l .loop .inv) (i .loop-test .taken) (l .before .before .before .pre) 0 .0) (t .tally-one .ensures)
 
 same-length : tie.Need-same-length Inv-loop μ-loop
 same-length c = c .before .loop .inv .size

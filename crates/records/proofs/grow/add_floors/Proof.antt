@@ -45,11 +45,11 @@ add-at c = search needs
 at-requires : tie.Need-at-requires
 at-requires c κs = search needs
 
-mul-z : tie.Need-mul-z
-mul-z c = search needs
+mul-limit : tie.Need-mul-limit
+mul-limit c = search needs
 
-add-z : tie.Need-add-z
-add-z c = search needs
+add-limit : tie.Need-add-limit
+add-limit c = search needs
 
 sub-len : tie.Need-sub-len
 sub-len c = room-order _ _ _ _ _ (S c .pre .0) _ (S c .pre .1) _ _ _ (ea c) (ee c) (ez c)
@@ -68,7 +68,8 @@ part-join-end c = omega (arith, room-inside _ _ _ _ _ (S c .pre .0) _ (S c .pre 
 
 join-requires : tie.Need-join-requires
 join-requires c κs = let p = S (c .before) .pre in
-    room-roomy _ _ _ _ _ (p .0) _ (p .1) _ _ _ (ea (c .before)) (ee (c .before)) (ez (c .before)) _ _ _ (omega (arith, p .2, ea (c .before), ee (c .before), ez (c .before))) (p .3) (p .4) (p .5) (p .6)
+    let w = p .3 in
+    room-roomy _ _ _ _ _ (p .0) _ (p .1) _ _ _ (ea (c .before)) (ee (c .before)) (ez (c .before)) _ _ _ (omega (arith, p .2 .slack, ea (c .before), ee (c .before), ez (c .before))) (w .few) (w .inside) (w .lower) (w .upper)
 
 same-length : tie.Need-same-length
 same-length c = search needs
@@ -112,8 +113,8 @@ add-floors-spec =
     end-of-requires
     add-at
     at-requires
-    mul-z
-    add-z
+    mul-limit
+    add-limit
     sub-len
     mul-join
     sub-join

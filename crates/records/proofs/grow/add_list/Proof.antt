@@ -6,36 +6,41 @@ use native.Mathlib.Omega.{arith}
 use Rattle.records.proofs.grow.add_list.Statement.{statement}
 use Rattle.records.proofs.grow.add_list.Tie as tie
 
+-- the entry
 abbrev S : tie.After-trace → tie.Start
-S c = c .before .before .before .before .before .before
-
-mul-trace : tie.Need-mul-trace
-mul-trace c = search needs
-
-trace-requires : tie.Need-trace-requires
-trace-requires c κs = search needs
+S c = c .before .before .before .before .before
 
 mul-set-part : tie.Need-mul-set-part
 mul-set-part c = search needs
 
+trace-requires : tie.Need-trace-requires
+trace-requires c κs = search needs
+
 mul-set-part-2 : tie.Need-mul-set-part-2
 mul-set-part-2 c = search needs
-
-add-set-part : tie.Need-add-set-part
-add-set-part c = search needs
 
 mul-set-part-3 : tie.Need-mul-set-part-3
 mul-set-part-3 c = search needs
 
+add-set-part : tie.Need-add-set-part
+add-set-part c = search needs
+
+mul-set-part-4 : tie.Need-mul-set-part-4
+mul-set-part-4 c = search needs
+
 add-set-part-2 : tie.Need-add-set-part-2
 add-set-part-2 c = let t = c .before .before .before in
     let p = S t .pre in
-    omega (arith, list-fits _ _ _ _ _ _ _ _ _ _ (p .1) _ (p .2) (p .3) (p .4) (p .0) _ _ (t .trace .ensures) .1)
+    let q = p .1 .0 in
+    omega (arith, list-fits _ _ _ _ _ _ _ (q .0) _ (q .1) (q .2) (p .1 .1) (p .0) _ _ (t .trace .ensures) .1)
 
 set-part-requires : tie.Need-set-part-requires
 set-part-requires c κs = let t = c .before .before .before in
     let p = S t .pre in
-    (omega (arith, list-size _ _ _ _ _ _ _ _ _ _ (p .1) _ (p .2) (p .3) (p .4) (p .0) _ _ (t .trace .ensures)), (p .3, list-fits _ _ _ _ _ _ _ _ _ _ (p .1) _ (p .2) (p .3) (p .4) (p .0) _ _ (t .trace .ensures)))
+    let q = p .1 .0 in (
+      omega (arith, list-size _ _ _ _ _ _ _ (q .0) _ (q .1) (q .2) (p .1 .1) (p .0) _ _ (t .trace .ensures)),
+      (q .2, list-fits _ _ _ _ _ _ _ (q .0) _ (q .1) (q .2) (p .1 .1) (p .0) _ _ (t .trace .ensures)),
+    )
 
 same-length : tie.Need-same-length
 same-length c = search needs
@@ -44,18 +49,19 @@ returns : tie.Need-returns
 returns c = let e = c .before .before in
     let t = e .before .before .before .before in
     let p = S t .pre in
-    list-step _ _ _ _ _ _ _ _ _ _ (p .1) _ (p .2) (p .3) (p .4) (p .0) _ _ (t .trace .ensures) _ (e .set-part .ensures) (e .set-part .kept .0)
+    let q = p .1 .0 in
+    list-step _ _ _ _ _ _ _ (q .0) _ (q .1) (q .2) (p .1 .1) (p .0) _ _ (t .trace .ensures) _ (e .set-part .ensures) (e .set-part .kept .0)
 
 pub add-list-spec : {M : Type 1} → statement M
 add-list-spec =
     tie.close
     (tie.spec
-    mul-trace
-    trace-requires
     mul-set-part
+    trace-requires
     mul-set-part-2
-    add-set-part
     mul-set-part-3
+    add-set-part
+    mul-set-part-4
     add-set-part-2
     set-part-requires
     same-length

@@ -1,6 +1,6 @@
 -- Overlap is set where there is a twin: one store in the column of record r, or none.
--- Both are the rule's step on record r, for any records that are kept so.
-use Rattle.records.proofs.StepLaws.{overlap-set, overlap-left}
+-- Both are what `marked` says.
+use Rattle.records.proofs.StepLaws.{mark-set, mark-left}
 use borrow.Author.Needs.{needs}
 use Rattle.records.proofs.grow.add_overlap.Statement.{statement}
 use Rattle.records.proofs.grow.add_overlap.Tie as tie
@@ -21,10 +21,10 @@ same-length : tie.Need-same-length
 same-length c = search needs
 
 returns : tie.Need-returns
-returns c = search (needs, overlap-set)
+returns c = search (needs, mark-set)
 
 returns-2 : tie.Need-returns-2
-returns-2 c = search (needs, overlap-left)
+returns-2 c = search (needs, mark-left)
 
 pub add-overlap-spec : {M : Type 1} → statement M
 add-overlap-spec =

@@ -6,16 +6,19 @@ use mathlib.Core.Path.{_∙_, ap}
 use borrow.Author.Needs.{needs}
 use lib.ListN.{getD, replicate}
 use denote.Ref.{now}
-use Rattle.watershed.proofs.StageLaws.{areas-are-bytes, poised, some-given, blank, ready, whole, all-clear}
+use Rattle.watershed.proofs.StageLaws.{areas-are-bytes, few, poised, given, fits, blank, ready, whole, all-clear}
 use Rattle.watershed.proofs.regions.find_regions.Statement.{statement}
 use Rattle.watershed.proofs.regions.find_regions.Tie as tie
 
--- the entry, the cleared ids, the cleared part of the workspace, the growth, the records
+-- the place of the table, the entry, the cleared ids, the cleared part of the workspace, the growth, the records
+abbrev N : tie.After-clear-arg → tie.After-records-end
+N c = c .before
+
 abbrev S : tie.After-clear-arg → tie.Start
-S c = c .before .before .before .before .before .before .before .before
+S c = N c .before .before .before .before .before .before .before .before
 
 abbrev A : tie.After-clear-arg → tie.After-shared-slice-known3
-A c = c .before .before .before .before .before
+A c = N c .before .before .before .before .before
 
 abbrev I : tie.After-clear-part-arg → tie.After-clear
 I c = c .before .before .before
@@ -33,11 +36,13 @@ B c = c .before .before .before .before
 bytes : (c : tie.After-clear-arg) (j : ℕ) → getD (now (S c .args .area)) j 0 < 256
 bytes c j = omega (arith, A c .shared-slice-known3 .given j)
 
-mul-b : tie.Need-mul-b
-mul-b c = search needs
+add-records-end : tie.Need-add-records-end
+add-records-end c = search needs
 
-add-b : tie.Need-add-b
-add-b c = search needs
+records-end-requires : tie.Need-records-end-requires
+records-end-requires c κs =
+    let n = few _ _ _ _ _ _ _ _ _ (c .before .before .before .before .before .before .before .pre) in
+    (omega (arith, n), n)
 
 clear-requires : tie.Need-clear-requires
 clear-requires c κs = search needs
@@ -50,7 +55,7 @@ grow-requires c κs =
     let k = P c in
     let i = I (k .before) in
     let s = S (i .before) in
-    (poised _ _ _ _ _ _ _ _ _ (s .pre) _ _ (i .clear .ensures) (k .clear-part .kept .0) (k .clear-part .ensures .0), s .pre .distances)
+    (poised _ _ _ _ _ _ _ _ _ (s .pre) _ (N (i .before) .records-end .ensures) _ _ (i .clear .ensures) (k .clear-part .kept .0) (k .clear-part .ensures .0), s .pre .distances)
 
 cast-next : tie.Need-cast-next
 cast-next c = search needs
@@ -61,8 +66,11 @@ build-records-requires c κs =
     let k = P (g .before) in
     let i = I (k .before) in
     let s = S (i .before) in (
-      some-given _ _ _ _ _ _ _ _ _ (s .pre) (bytes (i .before)) _ _ _ (k .clear-part .kept .0) _ _ _ (g .grow .ensures) (g .grow .kept .1 .1 .1 .1 .1 .1 .1 .1 .0),
-      blank _ _ _ _ _ _ _ _ _ (s .pre) (bytes (i .before)) _ _ _ (k .clear-part .kept .0) _ _ _ (g .grow .ensures) (g .grow .kept .1 .1 .1 .1 .1 .1 .1 .1 .0),
+      given _ _ _ _ _ _ _ _ _ (s .pre) _ (N (i .before) .records-end .ensures) (bytes (i .before)) _ _ _ (k .clear-part .kept .0) _ _ _ (g .grow .ensures) (g .grow .kept .1 .1 .1 .1 .1 .1 .1 .1 .0),
+      (
+        blank _ _ _ _ _ _ _ _ _ (s .pre) _ (N (i .before) .records-end .ensures) (bytes (i .before)) _ _ _ (k .clear-part .kept .0) _ _ _ (g .grow .ensures) (g .grow .kept .1 .1 .1 .1 .1 .1 .1 .1 .0),
+        fits _ _ _ _ _ _ _ _ _ (s .pre) _ (N (i .before) .records-end .ensures) (bytes (i .before)) _ _ _ (k .clear-part .kept .0) _ _ _ (g .grow .ensures) (g .grow .kept .1 .1 .1 .1 .1 .1 .1 .1 .0),
+      ),
     )
 
 add-merge-and-filter-regions : tie.Need-add-merge-and-filter-regions
@@ -75,7 +83,7 @@ merge-and-filter-regions-requires c κs =
     let k = P (g .before) in
     let i = I (k .before) in
     let s = S (i .before) in
-    ready _ _ _ _ _ _ _ _ _ (s .pre) (bytes (i .before)) _ _ _ (k .clear-part .kept .0) _ _ _ (g .grow .ensures) (g .grow .kept .1 .1 .1 .1 .1 .1 .1 .1 .0) _ (r .build-records .ensures)
+    ready _ _ _ _ _ _ _ _ _ (s .pre) _ (N (i .before) .records-end .ensures) (bytes (i .before)) _ _ _ (k .clear-part .kept .0) _ _ _ (g .grow .ensures) (g .grow .kept .1 .1 .1 .1 .1 .1 .1 .1 .0) _ (r .build-records .ensures)
 
 clear-part-requires-2 : tie.Need-clear-part-requires-2
 clear-part-requires-2 c κs =
@@ -108,7 +116,7 @@ returns c =
     let k = P (g .before) in
     let i = I (k .before) in
     let s = S (i .before) in (
-      whole _ _ _ _ _ _ _ _ _ (s .pre) (bytes (i .before)) _ _ _ (k .clear-part .kept .0) _ _ _ (g .grow .ensures) (g .grow .kept .1 .1 .1 .1 .1 .1 .1 .1 .0) _ (r .build-records .ensures) _ _ _
+      whole _ _ _ _ _ _ _ _ _ (s .pre) _ (N (i .before) .records-end .ensures) (bytes (i .before)) _ _ _ (k .clear-part .kept .0) _ _ _ (g .grow .ensures) (g .grow .kept .1 .1 .1 .1 .1 .1 .1 .1 .0) _ (r .build-records .ensures) _ _ _
           (m .merge-and-filter-regions .ensures),
       (
         all-clear _ _ (x .clear-part2 .kept .0) (x .clear-part2 .ensures .0)
@@ -121,8 +129,8 @@ pub find-regions-spec : {M : Type 1} → statement M
 find-regions-spec =
     tie.close
     (tie.spec
-    mul-b
-    add-b
+    add-records-end
+    records-end-requires
     clear-requires
     clear-part-requires
     grow-requires

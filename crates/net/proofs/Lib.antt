@@ -1,0 +1,3 @@
+-- Laws of a net that is lent.
+pub mod Tables
+pub mod Fills

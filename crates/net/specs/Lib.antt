@@ -1,0 +1,3 @@
+-- The net of a field, lent.
+pub mod Table
+pub mod Fill

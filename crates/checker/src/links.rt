@@ -13,11 +13,10 @@ use field::read::at32;
 ghost use mathlib.Core.Path.{_≡_};
 ghost use mathlib.Core.Bool.{false, not};
 ghost use Prim.Native.Nat.{_+_, _*_, _<_};
-ghost use lib.ListN.{getD};
 ghost use Rattle.rules.specs.Base.{_and_, every};
 ghost use Rattle.rules.specs.Field.{spans, leaves, conOf};
 ghost use Rattle.field.specs.Lent.{lent, Celled, consAt};
-ghost use Rattle.checker.specs.Links.{Inner, Column, innerAt, goodLink, halfAt, reachAt, backAt, inCell, inRow};
+ghost use Rattle.checker.specs.Links.{spanIn, Layered, Inner, Column, innerAt, goodLink, halfAt, reachAt, backAt, inCell, inRow};
 
 // The connection k of the span in layer j of cell c, in a direction d that does not leave the grid, is none, or leads to a span that leads back.
 fn link_ok(
@@ -33,9 +32,9 @@ fn link_ok(
     d: usize,
 ) -> bool
     requires { ⌜ (let F = lent w h (now index) (now count) (now area) (now con) in
-        Celled F × (j .0 < getD (now count) c 0) × (k .0 ≡ conOf F (getD (now index) c 0 + j .0) d) × (d < 4) × (leaves w h c d ≡ false)) ⌝ }
+        Layered F c (j .0) × (k .0 ≡ conOf F (spanIn F c (j .0)) d) × (d < 4) × (leaves w h c d ≡ false)) ⌝ }
     ensures { λ r. ⌜ (let F = lent w h (now (index .entry)) (now (count .entry)) (now (area .entry)) (now (con .entry)) in
-        r ≡ goodLink F (getD (now (index .entry)) c 0 + j .0) d) ⌝ }
+        r ≡ goodLink F (spanIn F c (j .0)) d) ⌝ }
 {
     if k.0 == NO_LAYER {
         return true;
@@ -64,9 +63,9 @@ fn side_ok(
     inside: bool,
 ) -> bool
     requires { ⌜ (let F = lent w h (now index) (now count) (now area) (now con) in
-        Celled F × (j .0 < getD (now count) c 0) × (k .0 ≡ conOf F (getD (now index) c 0 + j .0) d) × (d < 4) × (inside ≡ not (leaves w h c d))) ⌝ }
+        Layered F c (j .0) × (k .0 ≡ conOf F (spanIn F c (j .0)) d) × (d < 4) × (inside ≡ not (leaves w h c d))) ⌝ }
     ensures { λ r. ⌜ (let F = lent w h (now (index .entry)) (now (count .entry)) (now (area .entry)) (now (con .entry)) in
-        r ≡ goodLink F (getD (now (index .entry)) c 0 + j .0) d) ⌝ }
+        r ≡ goodLink F (spanIn F c (j .0)) d) ⌝ }
 {
     if inside {
         return link_ok(w, h, index, count, area, con, c, j, k, d);
@@ -88,9 +87,9 @@ fn inner_ok(
     cons: [u8; 4],
 ) -> bool
     requires { ⌜ (let F = lent w h (now index) (now count) (now area) (now con) in
-        Celled F × (j .0 < getD (now count) c 0) × (cons ≡ consAt (now con) (getD (now index) c 0 + j .0)) × Inner w h c) ⌝ }
+        Layered F c (j .0) × (cons ≡ consAt (now con) (spanIn F c (j .0))) × Inner w h c) ⌝ }
     ensures { λ r. ⌜ (let F = lent w h (now (index .entry)) (now (count .entry)) (now (area .entry)) (now (con .entry)) in
-        r ≡ halfAt F (getD (now (index .entry)) c 0 + j .0)) ⌝ }
+        r ≡ halfAt F (spanIn F c (j .0))) ⌝ }
 {
     if link_ok(w, h, index, count, area, con, c, j, Layer(cons[0]), 0) {} else {
         return false;
@@ -113,9 +112,9 @@ fn edge_ok(
     z: usize,
 ) -> bool
     requires { ⌜ (let F = lent w h (now index) (now count) (now area) (now con) in
-        Celled F × (j .0 < getD (now count) c 0) × (cons ≡ consAt (now con) (getD (now index) c 0 + j .0)) × Column w h c x z) ⌝ }
+        Layered F c (j .0) × (cons ≡ consAt (now con) (spanIn F c (j .0))) × Column w h c x z) ⌝ }
     ensures { λ r. ⌜ (let F = lent w h (now (index .entry)) (now (count .entry)) (now (area .entry)) (now (con .entry)) in
-        r ≡ halfAt F (getD (now (index .entry)) c 0 + j .0)) ⌝ }
+        r ≡ halfAt F (spanIn F c (j .0))) ⌝ }
 {
     if side_ok(
         w,
@@ -163,7 +162,7 @@ fn span_ok(
     inner: bool,
 ) -> bool
     requires { ⌜ (let F = lent w h (now index) (now count) (now area) (now con) in
-        Celled F × (s .0 ≡ getD (now index) c 0 + j .0) × (j .0 < getD (now count) c 0) × Column w h c x z × (inner ≡ innerAt w h x z)) ⌝ }
+        Layered F c (j .0) × (s .0 ≡ spanIn F c (j .0)) × Column w h c x z × (inner ≡ innerAt w h x z)) ⌝ }
     ensures { λ r. ⌜ r ≡ halfAt (lent w h (now (index .entry)) (now (count .entry)) (now (area .entry)) (now (con .entry))) (s .0) ⌝ }
 {
     let cons = connections(con, s);

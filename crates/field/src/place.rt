@@ -51,7 +51,7 @@ pub fn cell_across(w: usize, c: usize, d: usize) -> usize
     c - w
 }
 
-// The span in a layer of a cell whose spans begin with number `first`: the one place where a layer becomes a span.
+// The span in a layer of a cell whose spans begin with number `first`: here a layer becomes a span.
 pub fn in_layer(first: usize, l: Layer) -> SpanIx
     requires { ⌜ first < 4294967296 ⌝ }
     ensures { λ r. ⌜ r .0 ≡ first + l .0 ⌝ }

@@ -34,7 +34,7 @@ in-layer-requires : tie.Need-in-layer-requires Inv-loop μ-loop
 in-layer-requires c κs = search needs
 
 span-ok-requires : tie.Need-span-ok-requires Inv-loop μ-loop
-span-ok-requires c κs = search needs
+span-ok-requires c κs = ((search needs, search needs), search needs, search needs, search needs)
 
 returns : tie.Need-returns Inv-loop μ-loop
 returns c = search (needs, layers-halt)

@@ -8,6 +8,15 @@ use lib.Dec.{leb, ltb, eqb}
 use Rattle.rules.specs.Base.{_and_, _or_, if_then_else_, every}
 use Rattle.rules.specs.Field.{Field, cellTo, leaves}
 use Rattle.rules.specs.Refusals.{goodCon, goodBack}
+use Rattle.field.specs.Lent.{Celled}
+
+-- the span in layer j of cell c
+abbrev pub spanIn : Field → ℕ → ℕ → ℕ
+spanIn F c j = getD (F .index) c 0 + j
+
+-- cell c has a layer j, in a field whose cells are good
+abbrev pub Layered : Field → ℕ → ℕ → Type 0
+Layered F c j = Celled F × (j < getD (F .count) c 0)
 
 -- refusal 5 of one connection k, of a span in cell c: it is none, or it stays in the grid and names a layer of the cell across
 unfoldable pub names : ℕ → ℕ → List ℕ → ℕ → ℕ → ℕ → Bool

@@ -8,11 +8,14 @@ ghost use lib.Dec.{leb, eqb};
 ghost use Rattle.rules.specs.Base.{_and_, _or_};
 ghost use Rattle.rules.specs.Refusals.{goodCells};
 
-// A cell: its count is at most 63, and a nonempty cell's index is the sum of the counts before it.
+// The most spans that stand in one cell.
+const MOST_LAYERS: usize = 63;
+
+// A cell: its count is at most that, and a nonempty cell's index is the sum of the counts before it.
 fn cell_ok(index: usize, count: usize, sum: usize) -> bool
     ensures { λ r. ⌜ r ≡ (leb count 63 and (eqb count 0 or eqb index sum)) ⌝ }
 {
-    if 63 < count {
+    if MOST_LAYERS < count {
         return false;
     }
     if count == 0 {

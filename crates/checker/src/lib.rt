@@ -33,6 +33,12 @@ pub enum Verdict {
     Refused(Refusal),
 }
 
+// The most cells of a field's width and of its height.
+const MOST_CELLS_A_SIDE: usize = 256;
+
+// The most spans of a field.
+const MOST_SPANS: usize = 32000;
+
 // The lists are as long as w, h and the number of spans say; a and b are the lengths of the entry's own two.
 fn lengths_ok(
     w: usize,
@@ -45,7 +51,8 @@ fn lengths_ok(
     b: usize,
 ) -> bool
     requires { ⌜ (w ≤ 256) × (h ≤ 256) × (length (now area) ≤ 32000) ⌝ }
-    ensures { λ r. ⌜ r ≡ not (wrongLength (lent w h (now (index .entry)) (now (count .entry)) (now (area .entry)) (now (con .entry))) (a ∷ b ∷ [])) ⌝ }
+    ensures { λ r. ⌜ (let F = lent w h (now (index .entry)) (now (count .entry)) (now (area .entry)) (now (con .entry)) in
+        r ≡ not (wrongLength F (a ∷ b ∷ []))) ⌝ }
 {
     if index.len() != w * h {
         return false;
@@ -73,15 +80,16 @@ pub fn check(
     a: usize,
     b: usize,
 ) -> Verdict
-    ensures { λ r. ⌜ verdictNumber r ≡ refusal (lent w h (now (index .entry)) (now (count .entry)) (now (area .entry)) (now (con .entry))) (a ∷ b ∷ []) ⌝ }
+    ensures { λ r. ⌜ (let F = lent w h (now (index .entry)) (now (count .entry)) (now (area .entry)) (now (con .entry)) in
+        verdictNumber r ≡ refusal F (a ∷ b ∷ [])) ⌝ }
 {
-    if 256 < w {
+    if MOST_CELLS_A_SIDE < w {
         return Verdict::Refused(Refusal::TooWide);
     }
-    if 256 < h {
+    if MOST_CELLS_A_SIDE < h {
         return Verdict::Refused(Refusal::TooWide);
     }
-    if 32000 < area.len() {
+    if MOST_SPANS < area.len() {
         return Verdict::Refused(Refusal::TooMany);
     }
     if lengths_ok(w, h, index, count, area, con, a, b) {} else {

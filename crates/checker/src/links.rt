@@ -6,17 +6,17 @@ use field::place::NO_LAYER;
 use field::place::SpanIx;
 use field::place::cell_across;
 use field::place::connections;
+use field::place::in_layer;
 use field::place::span_at;
 use field::read::at8;
 use field::read::at32;
 ghost use mathlib.Core.Path.{_≡_};
 ghost use mathlib.Core.Bool.{false, not};
 ghost use Prim.Native.Nat.{_+_, _*_, _<_};
-ghost use lib.ListN.{getD};
 ghost use Rattle.rules.specs.Base.{_and_, every};
 ghost use Rattle.rules.specs.Field.{spans, leaves, conOf};
 ghost use Rattle.field.specs.Lent.{lent, Celled, consAt};
-ghost use Rattle.checker.specs.Links.{Inner, Column, innerAt, goodLink, halfAt, reachAt, backAt, inCell, inRow};
+ghost use Rattle.checker.specs.Links.{spanIn, Layered, Inner, Column, innerAt, goodLink, halfAt, reachAt, backAt, inCell, inRow};
 
 // The connection k of the span in layer j of cell c, in a direction d that does not leave the grid, is none, or leads to a span that leads back.
 fn link_ok(
@@ -31,8 +31,10 @@ fn link_ok(
     k: Layer,
     d: usize,
 ) -> bool
-    requires { ⌜ Celled (lent w h (now index) (now count) (now area) (now con)) × (j .0 < getD (now count) c 0) × (k .0 ≡ conOf (lent w h (now index) (now count) (now area) (now con)) (getD (now index) c 0 + j .0) d) × (d < 4) × (leaves w h c d ≡ false) ⌝ }
-    ensures { λ r. ⌜ r ≡ goodLink (lent w h (now (index .entry)) (now (count .entry)) (now (area .entry)) (now (con .entry))) (getD (now (index .entry)) c 0 + j .0) d ⌝ }
+    requires { ⌜ (let F = lent w h (now index) (now count) (now area) (now con) in
+        Layered F c (j .0) × (k .0 ≡ conOf F (spanIn F c (j .0)) d) × (d < 4) × (leaves w h c d ≡ false)) ⌝ }
+    ensures { λ r. ⌜ (let F = lent w h (now (index .entry)) (now (count .entry)) (now (area .entry)) (now (con .entry)) in
+        r ≡ goodLink F (spanIn F c (j .0)) d) ⌝ }
 {
     if k.0 == NO_LAYER {
         return true;
@@ -60,8 +62,10 @@ fn side_ok(
     d: usize,
     inside: bool,
 ) -> bool
-    requires { ⌜ Celled (lent w h (now index) (now count) (now area) (now con)) × (j .0 < getD (now count) c 0) × (k .0 ≡ conOf (lent w h (now index) (now count) (now area) (now con)) (getD (now index) c 0 + j .0) d) × (d < 4) × (inside ≡ not (leaves w h c d)) ⌝ }
-    ensures { λ r. ⌜ r ≡ goodLink (lent w h (now (index .entry)) (now (count .entry)) (now (area .entry)) (now (con .entry))) (getD (now (index .entry)) c 0 + j .0) d ⌝ }
+    requires { ⌜ (let F = lent w h (now index) (now count) (now area) (now con) in
+        Layered F c (j .0) × (k .0 ≡ conOf F (spanIn F c (j .0)) d) × (d < 4) × (inside ≡ not (leaves w h c d))) ⌝ }
+    ensures { λ r. ⌜ (let F = lent w h (now (index .entry)) (now (count .entry)) (now (area .entry)) (now (con .entry)) in
+        r ≡ goodLink F (spanIn F c (j .0)) d) ⌝ }
 {
     if inside {
         return link_ok(w, h, index, count, area, con, c, j, k, d);
@@ -69,7 +73,8 @@ fn side_ok(
     k.0 == NO_LAYER
 }
 
-// Of the connections cons those in directions 0 and 1, of the span in layer j of cell c, which has a cell on both sides. Most cells do: written out, so that no side is tested.
+// Of the connections cons those in directions 0 and 1, of the span in layer j of cell c, which has a cell on both sides.
+// Most cells do: written out, so that no side is tested.
 fn inner_ok(
     w: usize,
     h: usize,
@@ -81,8 +86,10 @@ fn inner_ok(
     j: Layer,
     cons: [u8; 4],
 ) -> bool
-    requires { ⌜ Celled (lent w h (now index) (now count) (now area) (now con)) × (j .0 < getD (now count) c 0) × (cons ≡ consAt (now con) (getD (now index) c 0 + j .0)) × Inner w h c ⌝ }
-    ensures { λ r. ⌜ r ≡ halfAt (lent w h (now (index .entry)) (now (count .entry)) (now (area .entry)) (now (con .entry))) (getD (now (index .entry)) c 0 + j .0) ⌝ }
+    requires { ⌜ (let F = lent w h (now index) (now count) (now area) (now con) in
+        Layered F c (j .0) × (cons ≡ consAt (now con) (spanIn F c (j .0))) × Inner w h c) ⌝ }
+    ensures { λ r. ⌜ (let F = lent w h (now (index .entry)) (now (count .entry)) (now (area .entry)) (now (con .entry)) in
+        r ≡ halfAt F (spanIn F c (j .0))) ⌝ }
 {
     if link_ok(w, h, index, count, area, con, c, j, Layer(cons[0]), 0) {} else {
         return false;
@@ -104,8 +111,10 @@ fn edge_ok(
     x: usize,
     z: usize,
 ) -> bool
-    requires { ⌜ Celled (lent w h (now index) (now count) (now area) (now con)) × (j .0 < getD (now count) c 0) × (cons ≡ consAt (now con) (getD (now index) c 0 + j .0)) × Column w h c x z ⌝ }
-    ensures { λ r. ⌜ r ≡ halfAt (lent w h (now (index .entry)) (now (count .entry)) (now (area .entry)) (now (con .entry))) (getD (now (index .entry)) c 0 + j .0) ⌝ }
+    requires { ⌜ (let F = lent w h (now index) (now count) (now area) (now con) in
+        Layered F c (j .0) × (cons ≡ consAt (now con) (spanIn F c (j .0))) × Column w h c x z) ⌝ }
+    ensures { λ r. ⌜ (let F = lent w h (now (index .entry)) (now (count .entry)) (now (area .entry)) (now (con .entry)) in
+        r ≡ halfAt F (spanIn F c (j .0))) ⌝ }
 {
     if side_ok(
         w,
@@ -152,7 +161,8 @@ fn span_ok(
     z: usize,
     inner: bool,
 ) -> bool
-    requires { ⌜ Celled (lent w h (now index) (now count) (now area) (now con)) × (s .0 ≡ getD (now index) c 0 + j .0) × (j .0 < getD (now count) c 0) × Column w h c x z × (inner ≡ innerAt w h x z) ⌝ }
+    requires { ⌜ (let F = lent w h (now index) (now count) (now area) (now con) in
+        Layered F c (j .0) × (s .0 ≡ spanIn F c (j .0)) × Column w h c x z × (inner ≡ innerAt w h x z)) ⌝ }
     ensures { λ r. ⌜ r ≡ halfAt (lent w h (now (index .entry)) (now (count .entry)) (now (area .entry)) (now (con .entry))) (s .0) ⌝ }
 {
     let cons = connections(con, s);
@@ -176,11 +186,13 @@ fn cell_ok(
     inner: bool,
 ) -> bool
     requires { ⌜ Celled (lent w h (now index) (now count) (now area) (now con)) × Column w h c x z × (inner ≡ innerAt w h x z) × (c < w * h) ⌝ }
-    ensures { λ r. ⌜ r ≡ inCell (lent w h (now (index .entry)) (now (count .entry)) (now (area .entry)) (now (con .entry))) (halfAt (lent w h (now (index .entry)) (now (count .entry)) (now (area .entry)) (now (con .entry)))) c ⌝ }
+    ensures { λ r. ⌜ (let F = lent w h (now (index .entry)) (now (count .entry)) (now (area .entry)) (now (con .entry)) in
+        r ≡ inCell F (halfAt F) c) ⌝ }
 {
     let i = at32(index, c);
     let k = at8(count, c);
     for j in 0..k {
+        let layer = Layer(j as u8);
         if span_ok(
             w,
             h,
@@ -189,8 +201,8 @@ fn cell_ok(
             area,
             con,
             c,
-            SpanIx(i + j),
-            Layer(j as u8),
+            in_layer(i, layer),
+            layer,
             x,
             z,
             inner,
@@ -224,7 +236,8 @@ fn column_ok(
     z: usize,
 ) -> bool
     requires { ⌜ Celled (lent w h (now index) (now count) (now area) (now con)) × (x < w) × (z < h) ⌝ }
-    ensures { λ r. ⌜ r ≡ inCell (lent w h (now (index .entry)) (now (count .entry)) (now (area .entry)) (now (con .entry))) (halfAt (lent w h (now (index .entry)) (now (count .entry)) (now (area .entry)) (now (con .entry)))) (w * z + x) ⌝ }
+    ensures { λ r. ⌜ (let F = lent w h (now (index .entry)) (now (count .entry)) (now (area .entry)) (now (con .entry)) in
+        r ≡ inCell F (halfAt F) (w * z + x)) ⌝ }
 {
     let inner = is_inner(w, h, x, z);
     cell_ok(w, h, index, count, area, con, w * z + x, x, z, inner)
@@ -241,7 +254,8 @@ fn row_ok(
     z: usize,
 ) -> bool
     requires { ⌜ Celled (lent w h (now index) (now count) (now area) (now con)) × (z < h) ⌝ }
-    ensures { λ r. ⌜ r ≡ inRow (lent w h (now (index .entry)) (now (count .entry)) (now (area .entry)) (now (con .entry))) (halfAt (lent w h (now (index .entry)) (now (count .entry)) (now (area .entry)) (now (con .entry)))) z ⌝ }
+    ensures { λ r. ⌜ (let F = lent w h (now (index .entry)) (now (count .entry)) (now (area .entry)) (now (con .entry)) in
+        r ≡ inRow F (halfAt F) z) ⌝ }
 {
     for x in 0..w {
         if column_ok(w, h, index, count, area, con, x, z) {} else {
@@ -254,7 +268,8 @@ fn row_ok(
 // Every row.
 fn rows_ok(w: usize, h: usize, index: &[u32], count: &[u8], area: &[u8], con: &[u8]) -> bool
     requires { ⌜ Celled (lent w h (now index) (now count) (now area) (now con)) ⌝ }
-    ensures { λ r. ⌜ r ≡ every (spans (lent w h (now (index .entry)) (now (count .entry)) (now (area .entry)) (now (con .entry)))) (halfAt (lent w h (now (index .entry)) (now (count .entry)) (now (area .entry)) (now (con .entry)))) ⌝ }
+    ensures { λ r. ⌜ (let F = lent w h (now (index .entry)) (now (count .entry)) (now (area .entry)) (now (con .entry)) in
+        r ≡ every (spans F) (halfAt F)) ⌝ }
 {
     for z in 0..h {
         if row_ok(w, h, index, count, area, con, z) {} else {
@@ -264,7 +279,8 @@ fn rows_ok(w: usize, h: usize, index: &[u32], count: &[u8], area: &[u8], con: &[
     true
 }
 
-// Every connection. Each in directions 0 and 1 is asked. One that is good has an answer of its own in 2 or 3: where there are no others, all of these are answers, and good.
+// Every connection. Each in directions 0 and 1 is asked. One that is good has an answer of its own in 2 or 3:
+// where there are no others, all of these are answers, and good.
 pub(crate) fn links_ok(
     w: usize,
     h: usize,
@@ -274,7 +290,8 @@ pub(crate) fn links_ok(
     con: &[u8],
 ) -> bool
     requires { ⌜ Celled (lent w h (now index) (now count) (now area) (now con)) ⌝ }
-    ensures { λ r. ⌜ r ≡ (every (spans (lent w h (now (index .entry)) (now (count .entry)) (now (area .entry)) (now (con .entry)))) (reachAt (lent w h (now (index .entry)) (now (count .entry)) (now (area .entry)) (now (con .entry)))) and every (spans (lent w h (now (index .entry)) (now (count .entry)) (now (area .entry)) (now (con .entry)))) (backAt (lent w h (now (index .entry)) (now (count .entry)) (now (area .entry)) (now (con .entry))))) ⌝ }
+    ensures { λ r. ⌜ (let F = lent w h (now (index .entry)) (now (count .entry)) (now (area .entry)) (now (con .entry)) in
+        r ≡ (every (spans F) (reachAt F) and every (spans F) (backAt F))) ⌝ }
 {
     if rows_ok(w, h, index, count, area, con) {} else {
         return false;

@@ -1,9 +1,9 @@
 // Refusal 5: a loop over the directions of a span, over the layers of a cell, and over the cells.
 use field::place::Layer;
 use field::place::NO_LAYER;
-use field::place::SpanIx;
 use field::place::cell_across;
 use field::place::connections;
+use field::place::in_layer;
 use field::read::at8;
 use field::read::at32;
 ghost use mathlib.Core.Path.{_≡_};
@@ -70,12 +70,13 @@ fn cell_ok(
     c: usize,
 ) -> bool
     requires { ⌜ Celled (lent w h (now index) (now count) (now area) (now con)) × (c < length (now count)) ⌝ }
-    ensures { λ r. ⌜ r ≡ inCell (lent w h (now (index .entry)) (now (count .entry)) (now (area .entry)) (now (con .entry))) (reachAt (lent w h (now (index .entry)) (now (count .entry)) (now (area .entry)) (now (con .entry)))) c ⌝ }
+    ensures { λ r. ⌜ (let F = lent w h (now (index .entry)) (now (count .entry)) (now (area .entry)) (now (con .entry)) in
+        r ≡ inCell F (reachAt F) c) ⌝ }
 {
     let i = at32(index, c);
     let k = at8(count, c);
     for j in 0..k {
-        let cons = connections(con, SpanIx(i + j));
+        let cons = connections(con, in_layer(i, Layer(j as u8)));
         if span_ok(w, h, count, c, cons) {} else {
             return false;
         }
@@ -93,7 +94,8 @@ pub(crate) fn reach_ok(
     con: &[u8],
 ) -> bool
     requires { ⌜ Celled (lent w h (now index) (now count) (now area) (now con)) ⌝ }
-    ensures { λ r. ⌜ r ≡ every (spans (lent w h (now (index .entry)) (now (count .entry)) (now (area .entry)) (now (con .entry)))) (reachAt (lent w h (now (index .entry)) (now (count .entry)) (now (area .entry)) (now (con .entry)))) ⌝ }
+    ensures { λ r. ⌜ (let F = lent w h (now (index .entry)) (now (count .entry)) (now (area .entry)) (now (con .entry)) in
+        r ≡ every (spans F) (reachAt F)) ⌝ }
 {
     for c in 0..count.len() {
         if cell_ok(w, h, index, count, area, con, c) {} else {

@@ -1,4 +1,5 @@
-// How many connections there are in half of the directions: 0 and 1, or 2 and 3. Counted in bytes, part by part, so that sixteen are counted at once when compiled.
+// How many connections there are in half of the directions: 0 and 1, or 2 and 3.
+// Counted in bytes, part by part, so that sixteen are counted at once when compiled.
 use field::place::NO_LAYER;
 ghost use mathlib.Core.Path.{_≡_};
 ghost use Prim.Native.Nat.{_+_, _%_, _<_, _≤_};

@@ -51,7 +51,8 @@ fn term(
     v: usize,
 ) -> usize
     requires { ⌜ Sized w (now index) (now con) (now raw) (p .cell) (p .span .0) × (cons ≡ consAt (now con) (p .span .0)) × (d < 4) × (v < 65536) ⌝ }
-    ensures { λ r. ⌜ ((F : Field) → Spot F w (now (index .entry)) (now (con .entry)) (p .cell) (p .span .0) → r ≡ rules.term F (now (raw .entry)) (p .span .0) v d) × (r ≤ 131070) ⌝ }
+    ensures { λ r. ⌜ (((F : Field) → Spot F w (now (index .entry)) (now (con .entry)) (p .cell) (p .span .0)
+        → r ≡ rules.term F (now (raw .entry)) (p .span .0) v d) × (r ≤ 131070)) ⌝ }
 {
     if cons[d] == NO_LAYER {
         return v * 2;
@@ -71,7 +72,8 @@ fn term(
 // The blurred value of the span at place p.
 fn blur_span(w: usize, index: &[u32], con: &[u8], raw: &[u16], p: Place) -> u16
     requires { ⌜ Sized w (now index) (now con) (now raw) (p .cell) (p .span .0) ⌝ }
-    ensures { λ r. ⌜ ((F : Field) → Spot F w (now (index .entry)) (now (con .entry)) (p .cell) (p .span .0) → r ≡ rules.blurAt F (now (raw .entry)) (p .span .0)) ⌝ }
+    ensures { λ r. ⌜ ((F : Field) → Spot F w (now (index .entry)) (now (con .entry)) (p .cell) (p .span .0)
+        → r ≡ rules.blurAt F (now (raw .entry)) (p .span .0)) ⌝ }
 {
     let s = p.span;
     let i = p.span.0;
@@ -99,8 +101,10 @@ fn blur_cell(
     blurred: &mut [u16],
     c: usize,
 )
-    requires { ⌜ Reached (lent w h (now index) (now count) (now area) (now con)) × (length (now raw) ≡ length (now area)) × (length (now blurred) ≡ length (now area)) × (c < length (now count)) ⌝ }
-    ensures { λ _. ⌜ now (blurred .exit) ≡ overCell (lent w h (now (index .entry)) (now (count .entry)) (now (area .entry)) (now (con .entry))) (blurTo (lent w h (now (index .entry)) (now (count .entry)) (now (area .entry)) (now (con .entry))) (now (raw .entry))) c (now (blurred .entry)) ⌝ }
+    requires { ⌜ (let F = lent w h (now index) (now count) (now area) (now con) in
+        Reached F × (length (now raw) ≡ length (now area)) × (length (now blurred) ≡ length (now area)) × (c < length (now count))) ⌝ }
+    ensures { λ _. ⌜ (let F = lent w h (now (index .entry)) (now (count .entry)) (now (area .entry)) (now (con .entry)) in
+        now (blurred .exit) ≡ overCell F (blurTo F (now (raw .entry))) c (now (blurred .entry))) ⌝ }
 {
     let i = at32(index, c);
     let k = at8(count, c);
@@ -126,8 +130,10 @@ pub(crate) fn blur_row(
     blurred: &mut [u16],
     y: usize,
 )
-    requires { ⌜ Reached (lent w h (now index) (now count) (now area) (now con)) × (length (now raw) ≡ length (now area)) × (length (now blurred) ≡ length (now area)) × (y < h) ⌝ }
-    ensures { λ _. ⌜ now (blurred .exit) ≡ rowUp (lent w h (now (index .entry)) (now (count .entry)) (now (area .entry)) (now (con .entry))) (blurTo (lent w h (now (index .entry)) (now (count .entry)) (now (area .entry)) (now (con .entry))) (now (raw .entry))) y (now (blurred .entry)) ⌝ }
+    requires { ⌜ (let F = lent w h (now index) (now count) (now area) (now con) in
+        Reached F × (length (now raw) ≡ length (now area)) × (length (now blurred) ≡ length (now area)) × (y < h)) ⌝ }
+    ensures { λ _. ⌜ (let F = lent w h (now (index .entry)) (now (count .entry)) (now (area .entry)) (now (con .entry)) in
+        now (blurred .exit) ≡ rowUp F (blurTo F (now (raw .entry))) y (now (blurred .entry))) ⌝ }
 {
     let first = w * y;
     for x in 0..w {
@@ -146,8 +152,10 @@ pub fn box_blur(
     raw: &[u16],
     blurred: &mut [u16],
 )
-    requires { ⌜ Reached (lent w h (now index) (now count) (now area) (now con)) × (length (now raw) ≡ length (now area)) × (length (now blurred) ≡ length (now area)) ⌝ }
-    ensures { λ _. ⌜ now (blurred .exit) ≡ rules.blur (lent w h (now (index .entry)) (now (count .entry)) (now (area .entry)) (now (con .entry))) (now (raw .entry)) ⌝ }
+    requires { ⌜ (let F = lent w h (now index) (now count) (now area) (now con) in
+        Reached F × (length (now raw) ≡ length (now area)) × (length (now blurred) ≡ length (now area))) ⌝ }
+    ensures { λ _. ⌜ (let F = lent w h (now (index .entry)) (now (count .entry)) (now (area .entry)) (now (con .entry)) in
+        now (blurred .exit) ≡ rules.blur F (now (raw .entry))) ⌝ }
 {
     for y in 0..h {
         blur_row(w, h, index, count, area, con, raw, blurred, y);

@@ -41,7 +41,8 @@ fn side(
     best: u16,
 ) -> u16
     requires { ⌜ Room w (now index) (now con) (now raw) (p .cell) (p .span .0) d e × (cons ≡ consAt (now con) (p .span .0)) × (d < 4) × (e < 4) ⌝ }
-    ensures { λ r. ⌜ ((F : Field) → Spot F w (now (index .entry)) (now (con .entry)) (p .cell) (p .span .0) → r ≡ min best (value.side F (now (raw .entry)) (p .span .0) d e)) ⌝ }
+    ensures { λ r. ⌜ ((F : Field) → Spot F w (now (index .entry)) (now (con .entry)) (p .cell) (p .span .0)
+        → r ≡ min best (value.side F (now (raw .entry)) (p .span .0) d e)) ⌝ }
 {
     if cons[d] == NO_LAYER {
         return best;
@@ -70,8 +71,10 @@ fn lowered(
     c: usize,
     e: usize,
 ) -> u16
-    requires { ⌜ Room w (now index) (now con) (now raw) (p .cell) (p .span .0) a b × Room w (now index) (now con) (now raw) (p .cell) (p .span .0) c e × (a < 4) × (b < 4) × (c < 4) × (e < 4) ⌝ }
-    ensures { λ r. ⌜ ((F : Field) → Spot F w (now (index .entry)) (now (con .entry)) (p .cell) (p .span .0) → r ≡ least F a b c e (p .span .0) (now (raw .entry))) ⌝ }
+    requires { ⌜ (Room w (now index) (now con) (now raw) (p .cell) (p .span .0) a b × Room w (now index) (now con) (now raw) (p .cell) (p .span .0) c e
+        × (a < 4) × (b < 4) × (c < 4) × (e < 4)) ⌝ }
+    ensures { λ r. ⌜ ((F : Field) → Spot F w (now (index .entry)) (now (con .entry)) (p .cell) (p .span .0)
+        → r ≡ least F a b c e (p .span .0) (now (raw .entry))) ⌝ }
 {
     let s = p.span;
     let i = p.span.0;
@@ -95,8 +98,10 @@ fn pass1_cell(
     raw: &mut [u16],
     c: usize,
 )
-    requires { ⌜ Reached (lent w h (now index) (now count) (now area) (now con)) × (c < length (now count)) × Passing (lent w h (now index) (now count) (now area) (now con)) c (now raw) ⌝ }
-    ensures { λ _. ⌜ (now (raw .exit) ≡ overCell (lent w h (now (index .entry)) (now (count .entry)) (now (area .entry)) (now (con .entry))) (rules.lower (lent w h (now (index .entry)) (now (count .entry)) (now (area .entry)) (now (con .entry))) 0 3 3 2) c (now (raw .entry))) × Passing (lent w h (now (index .entry)) (now (count .entry)) (now (area .entry)) (now (con .entry))) (c + 1) (now (raw .exit)) ⌝ }
+    requires { ⌜ (let F = lent w h (now index) (now count) (now area) (now con) in
+        Reached F × (c < length (now count)) × Passing F c (now raw)) ⌝ }
+    ensures { λ _. ⌜ (let F = lent w h (now (index .entry)) (now (count .entry)) (now (area .entry)) (now (con .entry)) in
+        (now (raw .exit) ≡ overCell F (rules.lower F 0 3 3 2) c (now (raw .entry))) × Passing F (c + 1) (now (raw .exit))) ⌝ }
 {
     let i = at32(index, c);
     let k = at8(count, c);
@@ -121,8 +126,10 @@ pub(crate) fn pass1_row(
     raw: &mut [u16],
     y: usize,
 )
-    requires { ⌜ Reached (lent w h (now index) (now count) (now area) (now con)) × (y < h) × Passing (lent w h (now index) (now count) (now area) (now con)) (w * y) (now raw) ⌝ }
-    ensures { λ _. ⌜ (now (raw .exit) ≡ rowUp (lent w h (now (index .entry)) (now (count .entry)) (now (area .entry)) (now (con .entry))) (rules.lower (lent w h (now (index .entry)) (now (count .entry)) (now (area .entry)) (now (con .entry))) 0 3 3 2) y (now (raw .entry))) × Passing (lent w h (now (index .entry)) (now (count .entry)) (now (area .entry)) (now (con .entry))) (w * (y + 1)) (now (raw .exit)) ⌝ }
+    requires { ⌜ (let F = lent w h (now index) (now count) (now area) (now con) in
+        Reached F × (y < h) × Passing F (w * y) (now raw)) ⌝ }
+    ensures { λ _. ⌜ (let F = lent w h (now (index .entry)) (now (count .entry)) (now (area .entry)) (now (con .entry)) in
+        (now (raw .exit) ≡ rowUp F (rules.lower F 0 3 3 2) y (now (raw .entry))) × Passing F (w * (y + 1)) (now (raw .exit))) ⌝ }
 {
     let first = w * y;
     for x in 0..w {
@@ -140,8 +147,10 @@ pub(crate) fn pass1(
     con: &[u8],
     raw: &mut [u16],
 )
-    requires { ⌜ Reached (lent w h (now index) (now count) (now area) (now con)) × Passing (lent w h (now index) (now count) (now area) (now con)) 0 (now raw) ⌝ }
-    ensures { λ _. ⌜ (now (raw .exit) ≡ rules.pass1 (lent w h (now (index .entry)) (now (count .entry)) (now (area .entry)) (now (con .entry))) (now (raw .entry))) × Low (lent w h (now (index .entry)) (now (count .entry)) (now (area .entry)) (now (con .entry))) (now (raw .exit)) ⌝ }
+    requires { ⌜ (let F = lent w h (now index) (now count) (now area) (now con) in
+        Reached F × Passing F 0 (now raw)) ⌝ }
+    ensures { λ _. ⌜ (let F = lent w h (now (index .entry)) (now (count .entry)) (now (area .entry)) (now (con .entry)) in
+        (now (raw .exit) ≡ rules.pass1 F (now (raw .entry))) × Low F (now (raw .exit))) ⌝ }
 {
     for y in 0..h {
         pass1_row(w, h, index, count, area, con, raw, y);
@@ -159,8 +168,10 @@ fn pass2_cell(
     raw: &mut [u16],
     c: usize,
 )
-    requires { ⌜ Reached (lent w h (now index) (now count) (now area) (now con)) × (c < length (now count)) × Low (lent w h (now index) (now count) (now area) (now con)) (now raw) ⌝ }
-    ensures { λ _. ⌜ (now (raw .exit) ≡ overCell (lent w h (now (index .entry)) (now (count .entry)) (now (area .entry)) (now (con .entry))) (rules.lower (lent w h (now (index .entry)) (now (count .entry)) (now (area .entry)) (now (con .entry))) 2 1 1 0) c (now (raw .entry))) × Low (lent w h (now (index .entry)) (now (count .entry)) (now (area .entry)) (now (con .entry))) (now (raw .exit)) ⌝ }
+    requires { ⌜ (let F = lent w h (now index) (now count) (now area) (now con) in
+        Reached F × (c < length (now count)) × Low F (now raw)) ⌝ }
+    ensures { λ _. ⌜ (let F = lent w h (now (index .entry)) (now (count .entry)) (now (area .entry)) (now (con .entry)) in
+        (now (raw .exit) ≡ overCell F (rules.lower F 2 1 1 0) c (now (raw .entry))) × Low F (now (raw .exit))) ⌝ }
 {
     let i = at32(index, c);
     let k = at8(count, c);
@@ -185,8 +196,10 @@ pub(crate) fn pass2_row(
     raw: &mut [u16],
     y: usize,
 )
-    requires { ⌜ Reached (lent w h (now index) (now count) (now area) (now con)) × (y < h) × Low (lent w h (now index) (now count) (now area) (now con)) (now raw) ⌝ }
-    ensures { λ _. ⌜ (now (raw .exit) ≡ rowDown (lent w h (now (index .entry)) (now (count .entry)) (now (area .entry)) (now (con .entry))) (rules.lower (lent w h (now (index .entry)) (now (count .entry)) (now (area .entry)) (now (con .entry))) 2 1 1 0) y (now (raw .entry))) × Low (lent w h (now (index .entry)) (now (count .entry)) (now (area .entry)) (now (con .entry))) (now (raw .exit)) ⌝ }
+    requires { ⌜ (let F = lent w h (now index) (now count) (now area) (now con) in
+        Reached F × (y < h) × Low F (now raw)) ⌝ }
+    ensures { λ _. ⌜ (let F = lent w h (now (index .entry)) (now (count .entry)) (now (area .entry)) (now (con .entry)) in
+        (now (raw .exit) ≡ rowDown F (rules.lower F 2 1 1 0) y (now (raw .entry))) × Low F (now (raw .exit))) ⌝ }
 {
     let first = w * y;
     let mut x = w;
@@ -206,8 +219,10 @@ pub(crate) fn pass2(
     con: &[u8],
     raw: &mut [u16],
 )
-    requires { ⌜ Reached (lent w h (now index) (now count) (now area) (now con)) × Low (lent w h (now index) (now count) (now area) (now con)) (now raw) ⌝ }
-    ensures { λ _. ⌜ (now (raw .exit) ≡ rules.pass2 (lent w h (now (index .entry)) (now (count .entry)) (now (area .entry)) (now (con .entry))) (now (raw .entry))) × Low (lent w h (now (index .entry)) (now (count .entry)) (now (area .entry)) (now (con .entry))) (now (raw .exit)) ⌝ }
+    requires { ⌜ (let F = lent w h (now index) (now count) (now area) (now con) in
+        Reached F × Low F (now raw)) ⌝ }
+    ensures { λ _. ⌜ (let F = lent w h (now (index .entry)) (now (count .entry)) (now (area .entry)) (now (con .entry)) in
+        (now (raw .exit) ≡ rules.pass2 F (now (raw .entry))) × Low F (now (raw .exit))) ⌝ }
 {
     let mut y = h;
     while 0 < y {

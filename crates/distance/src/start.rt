@@ -15,10 +15,14 @@ ghost use Rattle.field.specs.Lent.{lent, Reached, Spot, Leaf};
 ghost use Rattle.distance.specs.Walk.{overCell, rowUp};
 ghost use Rattle.distance.specs.Value.{startTo, Sized, SizedLeaf};
 
+// Where a span starts that has four neighbours of its own area.
+const FARTHEST: u16 = 65535;
+
 // 1 for a neighbour in direction d of the span's own area.
 fn same(w: usize, index: &[u32], area: &[u8], cons: [u8; 4], p: Place, d: usize) -> usize
     requires { ⌜ SizedLeaf w (now index) cons (now area) (p .cell) (p .span .0) × (d < 4) ⌝ }
-    ensures { λ r. ⌜ ((F : Field) → Leaf F w (now (index .entry)) cons (p .cell) (p .span .0) → F .area ≡ now (area .entry) → r ≡ rules.same F (p .span .0) d) × (r ≤ 1) ⌝ }
+    ensures { λ r. ⌜ (((F : Field) → Leaf F w (now (index .entry)) cons (p .cell) (p .span .0) → F .area ≡ now (area .entry)
+        → r ≡ rules.same F (p .span .0) d) × (r ≤ 1)) ⌝ }
 {
     let s = p.span.0;
     let own = area[s];
@@ -36,7 +40,8 @@ fn same(w: usize, index: &[u32], area: &[u8], cons: [u8; 4], p: Place, d: usize)
 // The start of the span at place p: the first neighbour that is missing or of another area decides.
 fn start_span(w: usize, index: &[u32], con: &[u8], area: &[u8], p: Place) -> u16
     requires { ⌜ Sized w (now index) (now con) (now area) (p .cell) (p .span .0) ⌝ }
-    ensures { λ r. ⌜ ((F : Field) → Spot F w (now (index .entry)) (now (con .entry)) (p .cell) (p .span .0) → F .area ≡ now (area .entry) → r ≡ rules.startAt F (p .span .0)) ⌝ }
+    ensures { λ r. ⌜ ((F : Field) → Spot F w (now (index .entry)) (now (con .entry)) (p .cell) (p .span .0) → F .area ≡ now (area .entry)
+        → r ≡ rules.startAt F (p .span .0)) ⌝ }
 {
     let s = p.span;
     let cons = connections(con, s);
@@ -52,7 +57,7 @@ fn start_span(w: usize, index: &[u32], con: &[u8], area: &[u8], p: Place) -> u16
     if same(w, index, area, cons, p, 3) == 0 {
         return 0;
     }
-    65535
+    FARTHEST
 }
 
 // The spans of cell c.
@@ -67,7 +72,8 @@ fn start_cell(
     c: usize,
 )
     requires { ⌜ Reached (lent w h (now index) (now count) (now area) (now con)) × (c < length (now count)) × (length (now raw) ≡ length (now area)) ⌝ }
-    ensures { λ _. ⌜ now (raw .exit) ≡ overCell (lent w h (now (index .entry)) (now (count .entry)) (now (area .entry)) (now (con .entry))) (startTo (lent w h (now (index .entry)) (now (count .entry)) (now (area .entry)) (now (con .entry)))) c (now (raw .entry)) ⌝ }
+    ensures { λ _. ⌜ (let F = lent w h (now (index .entry)) (now (count .entry)) (now (area .entry)) (now (con .entry)) in
+        now (raw .exit) ≡ overCell F (startTo F) c (now (raw .entry))) ⌝ }
 {
     let i = at32(index, c);
     let k = at8(count, c);
@@ -93,7 +99,8 @@ pub(crate) fn start_row(
     y: usize,
 )
     requires { ⌜ Reached (lent w h (now index) (now count) (now area) (now con)) × (y < h) × (length (now raw) ≡ length (now area)) ⌝ }
-    ensures { λ _. ⌜ now (raw .exit) ≡ rowUp (lent w h (now (index .entry)) (now (count .entry)) (now (area .entry)) (now (con .entry))) (startTo (lent w h (now (index .entry)) (now (count .entry)) (now (area .entry)) (now (con .entry)))) y (now (raw .entry)) ⌝ }
+    ensures { λ _. ⌜ (let F = lent w h (now (index .entry)) (now (count .entry)) (now (area .entry)) (now (con .entry)) in
+        now (raw .exit) ≡ rowUp F (startTo F) y (now (raw .entry))) ⌝ }
 {
     let first = w * y;
     for x in 0..w {

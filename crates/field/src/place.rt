@@ -51,18 +51,27 @@ pub fn cell_across(w: usize, c: usize, d: usize) -> usize
     c - w
 }
 
-// The span in a layer of cell c: the one place where a layer becomes a span.
+// The span in a layer of a cell whose spans begin with number `first`: here a layer becomes a span.
+pub fn in_layer(first: usize, l: Layer) -> SpanIx
+    requires { ⌜ first < 4294967296 ⌝ }
+    ensures { λ r. ⌜ r .0 ≡ first + l .0 ⌝ }
+{
+    SpanIx(first + l.0 as usize)
+}
+
+// The same of cell c.
 pub fn span_at(index: &[u32], c: usize, l: Layer) -> SpanIx
     requires { ⌜ c < length (now index) ⌝ }
     ensures { λ r. ⌜ r .0 ≡ getD (now (index .entry)) c 0 + l .0 ⌝ }
 {
-    SpanIx(at32(index, c) + l.0 as usize)
+    in_layer(at32(index, c), l)
 }
 
 // Where the connection in direction d leads, which is not none, of a span in cell c that has the connections cons.
 pub fn follow(w: usize, index: &[u32], cons: [u8; 4], c: usize, d: usize) -> Place
     requires { ⌜ SomeLeaf w (now index) cons c × (d < 4) × (getD cons d 0 ≡ 255 → ⊥) ⌝ }
-    ensures { λ r. ⌜ ((F : Field) (s : ℕ) → Leaf F w (now (index .entry)) cons c s → r .span .0 ≡ near F s d) × (r .cell ≡ cellTo w c d) × (r .span .0 ≡ 65535 → ⊥) ⌝ }
+    ensures { λ r. ⌜ (((F : Field) (s : ℕ) → Leaf F w (now (index .entry)) cons c s → r .span .0 ≡ near F s d)
+        × (r .cell ≡ cellTo w c d) × (r .span .0 ≡ 65535 → ⊥)) ⌝ }
 {
     let cell = cell_across(w, c, d);
     let k = cons[d];

@@ -33,7 +33,8 @@ pub enum Heading {
     Read(Header),
 }
 
-// Where the reading stands: the place in the file, the cells so far, the spans of the last cell that are still to come, and the spans that the cells so far have promised.
+// Where the reading stands: the place in the file, the cells so far, the spans of the last cell that are still to come,
+// and the spans that the cells so far have promised.
 pub struct Place {
     pub at: usize,
     pub cell: usize,
@@ -58,6 +59,13 @@ fn word(bytes: &[u8], i: usize) -> u16
     (low + 256 * high) as u16
 }
 
+// The length of the header, and the most cells and spans of a file's field.
+const HEADER: usize = 11;
+
+const MOST_CELLS: usize = 1024;
+
+const MOST_SPANS: usize = 200;
+
 // w·h.
 fn cells_of(w: u16, h: u16) -> usize
     ensures { λ r. ⌜ r ≡ w * h ⌝ }
@@ -69,7 +77,7 @@ fn cells_of(w: u16, h: u16) -> usize
 fn read_header(bytes: &[u8]) -> Heading
     ensures { λ r. ⌜ Headed (now (bytes .entry)) r ⌝ }
 {
-    if bytes.len() < 11 {
+    if bytes.len() < HEADER {
         return Heading::Refused(FileRefusal::Malformed);
     }
     if bytes[0] != 1 {
@@ -77,7 +85,7 @@ fn read_header(bytes: &[u8]) -> Heading
     }
     let w = word(bytes, 1);
     let h = word(bytes, 3);
-    if 1024 < cells_of(w, h) {
+    if MOST_CELLS < cells_of(w, h) {
         return Heading::Refused(FileRefusal::TooLarge);
     }
     Heading::Read(Header {
@@ -130,7 +138,7 @@ fn cell_record(bytes: &[u8], p: Place, index: &mut [u32], count: &mut [u8]) -> T
     }
     let k = at8(bytes, at + 1);
     let sum = promised + k;
-    if 200 < sum {
+    if MOST_SPANS < sum {
         return Turn::Refused(FileRefusal::TooLarge);
     }
     index[cell] = promised as u32;
@@ -170,7 +178,8 @@ fn next_record(
 ) -> Turn
     requires { ⌜ Standing (now bytes) total p ⌝ }
     requires { ⌜ Lists (now index) (now count) (now area) (now con) ⌝ }
-    ensures { λ r. ⌜ Turned (now (bytes .entry)) total p (now (index .entry)) (now (count .entry)) (now (area .entry)) (now (con .entry)) r (now (index .exit)) (now (count .exit)) (now (area .exit)) (now (con .exit)) ⌝ }
+    ensures { λ r. ⌜ (Turned (now (bytes .entry)) total p (now (index .entry)) (now (count .entry)) (now (area .entry)) (now (con .entry))
+        r (now (index .exit)) (now (count .exit)) (now (area .exit)) (now (con .exit))) ⌝ }
 {
     if bytes.len() <= p.at {
         return Turn::Refused(FileRefusal::Malformed);
@@ -195,11 +204,12 @@ fn read_records(
 ) -> FileReading
     requires { ⌜ Headed (now bytes) (Heading.Read header) ⌝ }
     requires { ⌜ Lists (now index) (now count) (now area) (now con) ⌝ }
-    ensures { λ r. ⌜ Reads (now (bytes .entry)) (now (index .entry)) (now (count .entry)) (now (area .entry)) (now (con .entry)) r (now (index .exit)) (now (count .exit)) (now (area .exit)) (now (con .exit)) ⌝ }
+    ensures { λ r. ⌜ (Reads (now (bytes .entry)) (now (index .entry)) (now (count .entry)) (now (area .entry)) (now (con .entry))
+        r (now (index .exit)) (now (count .exit)) (now (area .exit)) (now (con .exit))) ⌝ }
 {
     let total = cells_of(header.w, header.h);
     let mut p = Place {
-        at: 11,
+        at: HEADER,
         cell: 0,
         due: 0,
         promised: 0,
@@ -222,7 +232,8 @@ pub fn read_file(
     con: &mut [u8],
 ) -> FileReading
     requires { ⌜ Lists (now index) (now count) (now area) (now con) ⌝ }
-    ensures { λ r. ⌜ Reads (now (bytes .entry)) (now (index .entry)) (now (count .entry)) (now (area .entry)) (now (con .entry)) r (now (index .exit)) (now (count .exit)) (now (area .exit)) (now (con .exit)) ⌝ }
+    ensures { λ r. ⌜ (Reads (now (bytes .entry)) (now (index .entry)) (now (count .entry)) (now (area .entry)) (now (con .entry))
+        r (now (index .exit)) (now (count .exit)) (now (area .exit)) (now (con .exit))) ⌝ }
 {
     match read_header(bytes) {
         Heading::Refused(r) => FileReading::Refused(r),

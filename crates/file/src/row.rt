@@ -74,7 +74,8 @@ fn put_row(
 ) -> usize
     requires { ⌜ Room (now out) at (rowText (shown w h (now index) (now count)) (now ids) z) ⌝ }
     requires { ⌜ Filled (w * h) (now index) (now count) (now ids) × (z < h) ⌝ }
-    ensures { λ r. ⌜ Wrote (now (out .entry)) at (rowText (shown w h (now (index .entry)) (now (count .entry))) (now (ids .entry)) z) r (now (out .exit)) ⌝ }
+    ensures { λ r. ⌜ (let F = shown w h (now (index .entry)) (now (count .entry)) in
+        Wrote (now (out .entry)) at (rowText F (now (ids .entry)) z) r (now (out .exit))) ⌝ }
 {
     let mut next = at;
     let mut x = 0;
@@ -98,7 +99,8 @@ pub(crate) fn put_rows(
 ) -> usize
     requires { ⌜ Room (now out) at (rowsText (shown w h (now index) (now count)) (now ids) h 0) ⌝ }
     requires { ⌜ Filled (w * h) (now index) (now count) (now ids) ⌝ }
-    ensures { λ r. ⌜ Wrote (now (out .entry)) at (rowsText (shown w h (now (index .entry)) (now (count .entry))) (now (ids .entry)) h 0) r (now (out .exit)) ⌝ }
+    ensures { λ r. ⌜ (let F = shown w h (now (index .entry)) (now (count .entry)) in
+        Wrote (now (out .entry)) at (rowsText F (now (ids .entry)) h 0) r (now (out .exit))) ⌝ }
 {
     let mut next = at;
     let mut z = 0;

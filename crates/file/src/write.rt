@@ -41,7 +41,8 @@ pub fn write_listing(
     out: &mut [u8],
 ) -> usize
     requires { ⌜ Listable w h (now index) (now count) (now ids) (now out) ⌝ }
-    ensures { λ r. ⌜ Prints (now (out .entry)) (listing (shown w h (now (index .entry)) (now (count .entry))) «max_distance» (numbered «max_region» overlaps (now (ids .entry)))) r (now (out .exit)) ⌝ }
+    ensures { λ r. ⌜ (let F = shown w h (now (index .entry)) (now (count .entry)) in
+        Prints (now (out .entry)) (listing F «max_distance» (numbered «max_region» overlaps (now (ids .entry)))) r (now (out .exit))) ⌝ }
 {
     let next = put_heading(out, max_distance, max_region, overlaps);
     put_rows(out, next, w, h, index, count, ids)

@@ -1,4 +1,5 @@
 // A group: the records that can be reached from one through neighbour lists.
+use region::RegionId;
 use table::at;
 use table::end_of;
 use table::start_of;
@@ -20,7 +21,7 @@ fn reach_one(ws: &mut [u16], m: usize, r: u16, top: usize) -> usize
     ensures { λ n. ⌜ ((f : ℕ) → groupAt (now (ws .exit)) m n f ≡ reachOne r (groupAt (now (ws .entry)) m top f)) ⌝ }
     ensures { λ _. ⌜ Frame (4 * m) (6 * m) (now (ws .entry)) (now (ws .exit)) ⌝ }
 {
-    if 32768 <= r {
+    if RegionId::BORDER_REGION.0 <= r {
         return top;
     }
     let q = r as usize;
@@ -40,7 +41,8 @@ fn reach(ws: &mut [u16], m: usize, i: usize, top: usize) -> usize
     requires { ⌜ Waiting m top (now ws) ⌝ }
     requires { ⌜ i < m ⌝ }
     ensures { λ n. ⌜ Waiting m n (now (ws .exit)) ⌝ }
-    ensures { λ n. ⌜ ((f : ℕ) → groupAt (now (ws .exit)) m n f ≡ reach (listAt (now (ws .entry)) m (7 * m) i) (groupAt (now (ws .entry)) m top f)) ⌝ }
+    ensures { λ n. ⌜ (let list = listAt (now (ws .entry)) m (7 * m) i in
+        (f : ℕ) → groupAt (now (ws .exit)) m n f ≡ reach list (groupAt (now (ws .entry)) m top f)) ⌝ }
     ensures { λ _. ⌜ Frame (4 * m) (6 * m) (now (ws .entry)) (now (ws .exit)) ⌝ }
 {
     let e = end_of(ws, m, 7 * m, i);
@@ -61,7 +63,8 @@ pub(crate) fn enter(ws: &mut [u16], m: usize, i: usize)
     requires { ⌜ getD (now ws) (4 * m + i) 0 ≡ 0 ⌝ }
     ensures { λ _. ⌜ Waiting m 1 (now (ws .exit)) ⌝ }
     ensures { λ _. ⌜ Found m 0 (now (ws .exit)) ⌝ }
-    ensures { λ _. ⌜ groupAt (now (ws .exit)) m 1 0 ≡ record { todo = i ∷ []; recs = set (recsOf (now (ws .entry)) m) i (seen (recOf (recsOf (now (ws .entry)) m) i)); found = [] } ⌝ }
+    ensures { λ _. ⌜ (let records = recsOf (now (ws .entry)) m in
+        groupAt (now (ws .exit)) m 1 0 ≡ record { todo = i ∷ []; recs = set records i (seen (recOf records i)); found = [] }) ⌝ }
     ensures { λ _. ⌜ Frame (4 * m) (6 * m) (now (ws .entry)) (now (ws .exit)) ⌝ }
 {
     ws[5 * m] = i as u16;

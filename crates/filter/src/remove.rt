@@ -1,4 +1,5 @@
 // What is done with a group once it is found.
+use region::RegionId;
 use space::clear;
 use table::any_above;
 use table::at;
@@ -30,7 +31,7 @@ fn total(ws: &[u16], m: usize, f: usize) -> usize
 }
 
 // The flagged ids are those above.
-const LAST_UNFLAGGED: u16 = 32767;
+const LAST_UNFLAGGED: u16 = RegionId::BORDER_REGION.0 - 1;
 
 // Does the list hold a flagged id?
 fn lists_flagged(l: &[u16]) -> bool

@@ -92,7 +92,8 @@ fn sort_some(
     i: usize,
     e: usize,
 ) -> LevelStacks
-    requires { ⌜ SortLists (now area) (now dist) (now ids) (now stacks) × Fills (length (now area)) (l .fills) × (i ≤ e) × (e ≤ length (now area)) ⌝ }
+    requires { ⌜ (SortLists (now area) (now dist) (now ids) (now stacks) × Fills (length (now area)) (l .fills)
+        × (i ≤ e) × (e ≤ length (now area))) ⌝ }
     requires { ⌜ levelsAt (now stacks) (length (now area)) (l .fills) ≡ sortedTo (now area) (now dist) (now ids) level i ⌝ }
     ensures { λ r. ⌜ (let after = sortedTo (now (area .entry)) (now (dist .entry)) (now (ids .entry)) level e in
         Moved (length (now (area .entry))) (now (stacks .entry)) (l .fills) (now (stacks .exit)) (r .fills) after) ⌝ }

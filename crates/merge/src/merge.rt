@@ -76,7 +76,8 @@ fn try_merge(ws: &mut [u16], m: usize, p: usize, i: usize, n: usize, g: Round) -
     requires { ⌜ (getD (now ws) i 0 ≡ n → ⊥) ⌝ }
     requires { ⌜ g .merges < 65536 ⌝ }
     requires { ⌜ Laid m p (g .now) (g .other) (g .top) (now ws) ⌝ }
-    ensures { λ r. ⌜ record { recs = recsOf (now (ws .exit)) m; merges = r .merges } ≡ tryMerge i n (record { recs = recsOf (now (ws .entry)) m; merges = g .merges }) ⌝ }
+    ensures { λ r. ⌜ (record { recs = recsOf (now (ws .exit)) m; merges = r .merges }
+        ≡ tryMerge i n (record { recs = recsOf (now (ws .entry)) m; merges = g .merges })) ⌝ }
     ensures { λ r. ⌜ Pool m p (r .now) (r .other) (now (ws .exit)) ⌝ }
     ensures { λ r. ⌜ r .merges ≤ g .merges + 1 ⌝ }
     ensures { λ r. ⌜ Laid m p (r .now) (r .other) (r .top) (now (ws .exit)) ⌝ }
@@ -110,7 +111,8 @@ fn merge_one(ws: &mut [u16], m: usize, p: usize, area: u16, i: usize, g: Round) 
     requires { ⌜ i < m ⌝ }
     requires { ⌜ g .merges < 65536 ⌝ }
     requires { ⌜ Laid m p (g .now) (g .other) (g .top) (now ws) ⌝ }
-    ensures { λ r. ⌜ record { recs = recsOf (now (ws .exit)) m; merges = r .merges } ≡ mergeOneF area i (record { recs = recsOf (now (ws .entry)) m; merges = g .merges }) ⌝ }
+    ensures { λ r. ⌜ (record { recs = recsOf (now (ws .exit)) m; merges = r .merges }
+        ≡ mergeOneF area i (record { recs = recsOf (now (ws .entry)) m; merges = g .merges })) ⌝ }
     ensures { λ r. ⌜ Pool m p (r .now) (r .other) (now (ws .exit)) ⌝ }
     ensures { λ r. ⌜ r .merges ≤ g .merges + 1 ⌝ }
     ensures { λ r. ⌜ Laid m p (r .now) (r .other) (r .top) (now (ws .exit)) ⌝ }
@@ -139,7 +141,8 @@ fn merge_round(
     requires { ⌜ Pool m p h o (now ws) ⌝ }
     requires { ⌜ Joined (recsOf (now ws) m) ⌝ }
     requires { ⌜ Laid m p h o top (now ws) ⌝ }
-    ensures { λ r. ⌜ record { recs = recsOf (now (ws .exit)) m; merges = r .merges } ≡ upto m (mergeOneF area) (record { recs = recsOf (now (ws .entry)) m; merges = 0 }) ⌝ }
+    ensures { λ r. ⌜ (record { recs = recsOf (now (ws .exit)) m; merges = r .merges }
+        ≡ upto m (mergeOneF area) (record { recs = recsOf (now (ws .entry)) m; merges = 0 })) ⌝ }
     ensures { λ r. ⌜ Pool m p (r .now) (r .other) (now (ws .exit)) ⌝ }
     ensures { λ r. ⌜ Laid m p (r .now) (r .other) (r .top) (now (ws .exit)) ⌝ }
 {

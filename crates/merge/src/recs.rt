@@ -56,7 +56,10 @@ pub(crate) fn can_merge_with(ws: &[u16], m: usize, i: usize, j: usize) -> bool
     requires { ⌜ Held m (7 * m) (11 * m) (now ws) ⌝ }
     requires { ⌜ i < m ⌝ }
     requires { ⌜ j < m ⌝ }
-    ensures { λ r. ⌜ r ≡ suitsF (view (now (ws .entry)) m (7 * m) (11 * m)) (recAt (now (ws .entry)) m (7 * m) (11 * m) i) (recAt (now (ws .entry)) m (7 * m) (11 * m) j) ⌝ }
+    ensures { λ r. ⌜ (let records = view (now (ws .entry)) m (7 * m) (11 * m) in
+        let own = recAt (now (ws .entry)) m (7 * m) (11 * m) i in
+        let other = recAt (now (ws .entry)) m (7 * m) (11 * m) j in
+        r ≡ suitsF records own other) ⌝ }
 {
     if ws[2 * m + i] != ws[2 * m + j] {
         return false;

@@ -1,5 +1,6 @@
 // Numbering: live ids are numbered from 1 by lowest record.
 use pool::many;
+use region::RegionId;
 use table::at;
 ghost use mathlib.Core.Path.{_≡_};
 ghost use mathlib.Core.List.{List, [], map};
@@ -15,7 +16,8 @@ fn number_one(ws: &mut [u16], m: usize, b: usize, i: usize, k: u16) -> u16
     requires { ⌜ Column m b (now ws) ⌝ }
     requires { ⌜ i < m ⌝ }
     requires { ⌜ k ≤ i ⌝ }
-    ensures { λ r. ⌜ ((l : List ℕ) → Numbers m b (now (ws .entry)) l k → Numbers m b (now (ws .exit)) (stepLive l (getD (now (ws .entry)) i 0)) r) ⌝ }
+    ensures { λ r. ⌜ ((l : List ℕ) → Numbers m b (now (ws .entry)) l k
+        → Numbers m b (now (ws .exit)) (stepLive l (getD (now (ws .entry)) i 0)) r) ⌝ }
     ensures { λ _. ⌜ Frame b (b + m) (now (ws .entry)) (now (ws .exit)) ⌝ }
     ensures { λ r. ⌜ r ≤ k + 1 ⌝ }
 {
@@ -53,7 +55,7 @@ fn new_id(ws: &[u16], m: usize, b: usize, r: u16) -> u16
     requires { ⌜ (r < 32768 → r < m) ⌝ }
     ensures { λ x. ⌜ x ≡ renumber (take m (now (ws .entry))) r ⌝ }
 {
-    if 32768 <= r {
+    if RegionId::BORDER_REGION.0 <= r {
         return r;
     }
     let i = at(ws, r as usize);
@@ -93,7 +95,8 @@ pub fn number(ids: &mut [u16], ws: &mut [u16], m: usize) -> Regions
     requires { ⌜ Column m (5 * m) (now ws) ⌝ }
     requires { ⌜ Blank m (5 * m) (now ws) ⌝ }
     requires { ⌜ Spans m (now ids) ⌝ }
-    ensures { λ r. ⌜ record { ids = now (ids .exit); most = r .«max_region»; over = r .overlaps } ≡ numbered (recsOf (now (ws .entry)) m) (now (ids .entry)) ⌝ }
+    ensures { λ r. ⌜ (record { ids = now (ids .exit); most = r .«max_region»; over = r .overlaps }
+        ≡ numbered (recsOf (now (ws .entry)) m) (now (ids .entry))) ⌝ }
     ensures { λ _. ⌜ Frame (5 * m) (5 * m + m) (now (ws .entry)) (now (ws .exit)) ⌝ }
 {
     let a = 3 * m;

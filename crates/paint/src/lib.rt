@@ -1,4 +1,4 @@
-// The border's painting (flood and expansion rule 1), and the cell of each span.
+// The border's painting (flood and expansion rule 1).
 ghost use mathlib.Core.Path.{_≡_};
 ghost use Prim.Native.Nat.{_+_, _*_, _<_, _≤_, min};
 ghost use lib.ListN.{length, getD, replicate};
@@ -76,8 +76,10 @@ fn paint_row(
     z: usize,
     region: u16,
 )
-    requires { ⌜ («min_x» ≤ «max_x») × («max_x» ≤ w) × ((z + 1) * w ≤ length (now count)) × (length (now ids) ≡ length (now area)) × Plot (now index) (now count) (length (now area)) ⌝ }
-    ensures { λ _. ⌜ now (ids .exit) ≡ putIf (walkIn (now (area .entry)) (inRect w (now (count .entry)) «min_x» «max_x» z (z + 1))) region (now (ids .entry)) ⌝ }
+    requires { ⌜ ((«min_x» ≤ «max_x») × («max_x» ≤ w) × ((z + 1) * w ≤ length (now count))
+        × (length (now ids) ≡ length (now area)) × Plot (now index) (now count) (length (now area))) ⌝ }
+    ensures { λ _. ⌜ (let here = inRect w (now (count .entry)) «min_x» «max_x» z (z + 1) in
+        now (ids .exit) ≡ putIf (walkIn (now (area .entry)) here) region (now (ids .entry))) ⌝ }
 {
     let mut x = min_x;
     while x < max_x {
@@ -99,8 +101,10 @@ fn paint_rect_region(
     max_z: usize,
     region: u16,
 )
-    requires { ⌜ («min_x» ≤ «max_x») × («max_x» ≤ w) × («min_z» ≤ «max_z») × («max_z» * w ≤ length (now count)) × (length (now ids) ≡ length (now area)) × Plot (now index) (now count) (length (now area)) ⌝ }
-    ensures { λ _. ⌜ now (ids .exit) ≡ putIf (walkIn (now (area .entry)) (inRect w (now (count .entry)) «min_x» «max_x» «min_z» «max_z»)) region (now (ids .entry)) ⌝ }
+    requires { ⌜ ((«min_x» ≤ «max_x») × («max_x» ≤ w) × («min_z» ≤ «max_z») × («max_z» * w ≤ length (now count))
+        × (length (now ids) ≡ length (now area)) × Plot (now index) (now count) (length (now area))) ⌝ }
+    ensures { λ _. ⌜ (let here = inRect w (now (count .entry)) «min_x» «max_x» «min_z» «max_z» in
+        now (ids .exit) ≡ putIf (walkIn (now (area .entry)) here) region (now (ids .entry))) ⌝ }
 {
     let mut z = min_z;
     while z < max_z {
@@ -118,6 +122,20 @@ fn smaller(a: usize, b: usize) -> usize
     b
 }
 
+// What the four strips are painted with: the flag of a border region plus the strip's number.
+const LEFT: u16 = 0x8001;
+
+const RIGHT: u16 = 0x8002;
+
+const LOW: u16 = 0x8003;
+
+const HIGH: u16 = 0x8004;
+
+// The next id after these, and where there are none.
+const NEXT_AFTER_PAINT: u16 = 5;
+
+const NEXT_UNPAINTED: u16 = 1;
+
 // "If border size is above 0, walkable spans are painted with 0x8000 plus 1 (left columns), 2 (right), 3 (low rows), 4 (high rows),
 // later paint over earlier, each strip clipped to the field; next id is then 5." Returns the next id.
 pub fn paint_border(
@@ -129,21 +147,23 @@ pub fn paint_border(
     ids: &mut [u16],
     border_size: u16,
 ) -> u16
-    requires { ⌜ (length (now count) ≡ w * h) × (length (now ids) ≡ length (now area)) × (now ids ≡ replicate (length (now area)) 0) × Plot (now index) (now count) (length (now area)) ⌝ }
-    ensures { λ _. ⌜ ((F : Field) → F .w ≡ w → F .h ≡ h → F .count ≡ now (count .entry) → F .area ≡ now (area .entry) → now (ids .exit) ≡ painted F «border_size» .ids) ⌝ }
+    requires { ⌜ ((length (now count) ≡ w * h) × (length (now ids) ≡ length (now area))
+        × (now ids ≡ replicate (length (now area)) 0) × Plot (now index) (now count) (length (now area))) ⌝ }
+    ensures { λ _. ⌜ ((F : Field) → F .w ≡ w → F .h ≡ h → F .count ≡ now (count .entry) → F .area ≡ now (area .entry)
+        → now (ids .exit) ≡ painted F «border_size» .ids) ⌝ }
     ensures { λ r. ⌜ r ≡ firstId «border_size» ⌝ }
 {
     if border_size == 0 {
-        return 1;
+        return NEXT_UNPAINTED;
     }
     let b = wide16(border_size);
     let border_width = smaller(b, w);
     let border_height = smaller(b, h);
     let right = w - border_width;
     let high = h - border_height;
-    paint_rect_region(w, index, count, area, ids, 0, border_width, 0, h, 0x8001);
-    paint_rect_region(w, index, count, area, ids, right, w, 0, h, 0x8002);
-    paint_rect_region(w, index, count, area, ids, 0, w, 0, border_height, 0x8003);
-    paint_rect_region(w, index, count, area, ids, 0, w, high, h, 0x8004);
-    5
+    paint_rect_region(w, index, count, area, ids, 0, border_width, 0, h, LEFT);
+    paint_rect_region(w, index, count, area, ids, right, w, 0, h, RIGHT);
+    paint_rect_region(w, index, count, area, ids, 0, w, 0, border_height, LOW);
+    paint_rect_region(w, index, count, area, ids, 0, w, high, h, HIGH);
+    NEXT_AFTER_PAINT
 }

@@ -25,7 +25,8 @@ fn join_lists(
 ) -> usize
     requires { ⌜ Target m n i to z (now ws) ⌝ }
     requires { ⌜ Pair m n k i j (now ws) ⌝ }
-    ensures { λ r. ⌜ part to r (now (ws .exit)) ≡ joinedList (listAt (now (ws .entry)) m (7 * m) n) (listAt (now (ws .entry)) m (7 * m) i) k j old new ⌝ }
+    ensures { λ r. ⌜ (part to r (now (ws .exit))
+        ≡ joinedList (listAt (now (ws .entry)) m (7 * m) n) (listAt (now (ws .entry)) m (7 * m) i) k j old new) ⌝ }
     ensures { λ r. ⌜ (to ≤ r) × (r ≤ to + lenAt (now (ws .entry)) m n + lenAt (now (ws .entry)) m i) ⌝ }
     ensures { λ _. ⌜ Frame to z (now (ws .entry)) (now (ws .exit)) ⌝ }
 {

@@ -15,7 +15,8 @@ fn recount(ws: &mut [u16], m: usize, n: usize, i: usize)
     requires { ⌜ n < m ⌝ }
     requires { ⌜ i < m ⌝ }
     requires { ⌜ getD (now ws) (m + n) 0 + getD (now ws) (m + i) 0 < 65536 ⌝ }
-    ensures { λ _. ⌜ now (ws .exit) ≡ set (set (now (ws .entry)) (m + n) (getD (now (ws .entry)) (m + n) 0 + getD (now (ws .entry)) (m + i) 0)) (m + i) 0 ⌝ }
+    ensures { λ _. ⌜ (let sum = getD (now (ws .entry)) (m + n) 0 + getD (now (ws .entry)) (m + i) 0 in
+        now (ws .exit) ≡ set (set (now (ws .entry)) (m + n) sum) (m + i) 0) ⌝ }
 {
     ws[m + n] = ws[m + n] + ws[m + i];
     ws[m + i] = 0;

@@ -9,7 +9,7 @@ array-read-t16 : tie.Need-array-read-t16
 array-read-t16 c = search needs
 
 side-ok-requires : tie.Need-side-ok-requires
-side-ok-requires c κs = (search needs, search needs, search (needs, span-con), search needs, search (needs, side-left))
+side-ok-requires c κs = ((search needs, search needs), search (needs, span-con), search needs, search (needs, side-left))
 
 returns : tie.Need-returns
 returns c = search (needs, span-halt)
@@ -21,7 +21,7 @@ add-side-ok : tie.Need-add-side-ok
 add-side-ok c = search needs
 
 side-ok-requires-2 : tie.Need-side-ok-requires-2
-side-ok-requires-2 c κs = (search needs, search needs, search (needs, span-con), search needs, search (needs, side-down))
+side-ok-requires-2 c κs = ((search needs, search needs), search (needs, span-con), search needs, search (needs, side-down))
 
 returns-2 : tie.Need-returns-2
 returns-2 c = search (needs, span-end)

@@ -9,7 +9,7 @@ array-read-t14 : tie.Need-array-read-t14
 array-read-t14 c = search needs
 
 link-ok-requires : tie.Need-link-ok-requires
-link-ok-requires c κs = (search needs, search needs, search (needs, span-con), search needs, search needs)
+link-ok-requires c κs = ((search needs, search needs), search (needs, span-con), search needs, search needs)
 
 returns : tie.Need-returns
 returns c = search (needs, span-halt)
@@ -18,7 +18,7 @@ array-read-t14-2 : tie.Need-array-read-t14-2
 array-read-t14-2 c = search needs
 
 link-ok-requires-2 : tie.Need-link-ok-requires-2
-link-ok-requires-2 c κs = (search needs, search needs, search (needs, span-con), search needs, search needs)
+link-ok-requires-2 c κs = ((search needs, search needs), search (needs, span-con), search needs, search needs)
 
 returns-2 : tie.Need-returns-2
 returns-2 c = search (needs, span-end)

@@ -6,7 +6,7 @@ use Rattle.checker.proofs.links.side_ok.Statement.{statement}
 use Rattle.checker.proofs.links.side_ok.Tie as tie
 
 link-ok-requires : tie.Need-link-ok-requires
-link-ok-requires c κs = (search needs, search needs, search needs, search needs, search (needs, side-in))
+link-ok-requires c κs = ((search needs, search needs), search needs, search needs, search (needs, side-in))
 
 returns : tie.Need-returns
 returns c = search needs

@@ -9,13 +9,13 @@ connections-requires : tie.Need-connections-requires
 connections-requires c κs = search (needs, span-room)
 
 inner-ok-requires : tie.Need-inner-ok-requires
-inner-ok-requires c κs = (search needs, search needs, search (needs, span-cons), search (needs, inner-is))
+inner-ok-requires c κs = ((search needs, search needs), search (needs, span-cons), search (needs, inner-is))
 
 returns : tie.Need-returns
 returns c = search (needs, span-link)
 
 edge-ok-requires : tie.Need-edge-ok-requires
-edge-ok-requires c κs = (search needs, search needs, search (needs, span-cons), search needs)
+edge-ok-requires c κs = ((search needs, search needs), search (needs, span-cons), search needs)
 
 returns-2 : tie.Need-returns-2
 returns-2 c = search (needs, span-link)

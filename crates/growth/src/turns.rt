@@ -24,7 +24,8 @@ fn load(
     level: u16,
 ) -> LevelStacks
     requires { ⌜ (length (now area) ≤ mostSpans) × (length (now dist) ≡ length (now area)) × (length (now ids) ≡ length (now area)) ⌝ }
-    requires { ⌜ SectionsFor (length (now area)) at × (at .table ≤ length (now ws)) × (l .turn < 8) × Left (length (now area)) (l .fills) (l .turn) (now ws) ⌝ }
+    requires { ⌜ SectionsFor (length (now area)) at × (at .table ≤ length (now ws)) × (l .turn < 8)
+        × Left (length (now area)) (l .fills) (l .turn) (now ws) ⌝ }
     ensures { λ r. ⌜ (let fills = l .fills in let j = l .turn in
         Loaded (now (area .entry)) (now (dist .entry)) (now (ids .entry)) level fills j (now (ws .entry)) (r .fills) (r .turn) (now (ws .exit))) ⌝ }
 {
@@ -67,7 +68,8 @@ fn turn(
     level: u16,
     next: u16,
 ) -> TurnResult
-    requires { ⌜ Between (now area) (now con) at next (l .fills) (l .turn) (now ids) (now ws) × (length (now dist) ≡ length (now area)) × Bytes (now area) ⌝ }
+    requires { ⌜ Between (now area) (now con) at next (l .fills) (l .turn) (now ids) (now ws)
+        × (length (now dist) ≡ length (now area)) × Bytes (now area) ⌝ }
     ensures { λ r. ⌜ (let ids₀ = now (ids .entry) in let ws₀ = now (ws .entry) in
         Turned (now (area .entry)) (now (con .entry)) (now (dist .entry)) at next (l .fills) (l .turn) level ids₀ ws₀
         (r .next) (r .stacks .fills) (r .stacks .turn) (now (ids .exit)) (now (ws .exit))) ⌝ }

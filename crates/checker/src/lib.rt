@@ -1,7 +1,7 @@
 // The refusals 1 to 6 in their order: each over the whole field before the next.
 mod cells;
-mod links;
-mod reach;
+pub mod links;
+pub mod reach;
 mod tally;
 
 use crate::cells::cells_ok;

@@ -15,8 +15,9 @@ ghost use Prim.Native.Nat.{_+_, _*_, _<_};
 ghost use lib.ListN.{getD};
 ghost use Rattle.rules.specs.Base.{_and_, every};
 ghost use Rattle.rules.specs.Field.{spans, leaves, conOf};
+ghost use Rattle.rules.specs.Mend.{stays};
 ghost use Rattle.field.specs.Lent.{lent, Celled, consAt};
-ghost use Rattle.checker.specs.Links.{Inner, Column, innerAt, goodLink, halfAt, reachAt, backAt, inCell, inRow};
+ghost use Rattle.checker.specs.Links.{Inner, Column, innerAt, halfAt, reachAt, backAt, inCell, inRow};
 
 // The connection k of the span in layer j of cell c, in a direction d that does not leave the grid, is none, or leads to a span that leads back.
 fn link_ok(
@@ -32,7 +33,7 @@ fn link_ok(
     d: usize,
 ) -> bool
     requires { ⌜ Celled (lent w h (now index) (now count) (now area) (now con)) × (j .0 < getD (now count) c 0) × (k .0 ≡ conOf (lent w h (now index) (now count) (now area) (now con)) (getD (now index) c 0 + j .0) d) × (d < 4) × (leaves w h c d ≡ false) ⌝ }
-    ensures { λ r. ⌜ r ≡ goodLink (lent w h (now (index .entry)) (now (count .entry)) (now (area .entry)) (now (con .entry))) (getD (now (index .entry)) c 0 + j .0) d ⌝ }
+    ensures { λ r. ⌜ r ≡ stays (lent w h (now (index .entry)) (now (count .entry)) (now (area .entry)) (now (con .entry))) (getD (now (index .entry)) c 0 + j .0) d ⌝ }
 {
     if k.0 == NO_LAYER {
         return true;
@@ -47,7 +48,7 @@ fn link_ok(
 }
 
 // The same in any direction; inside: it does not leave the grid.
-fn side_ok(
+pub fn side_ok(
     w: usize,
     h: usize,
     index: &[u32],
@@ -61,7 +62,7 @@ fn side_ok(
     inside: bool,
 ) -> bool
     requires { ⌜ Celled (lent w h (now index) (now count) (now area) (now con)) × (j .0 < getD (now count) c 0) × (k .0 ≡ conOf (lent w h (now index) (now count) (now area) (now con)) (getD (now index) c 0 + j .0) d) × (d < 4) × (inside ≡ not (leaves w h c d)) ⌝ }
-    ensures { λ r. ⌜ r ≡ goodLink (lent w h (now (index .entry)) (now (count .entry)) (now (area .entry)) (now (con .entry))) (getD (now (index .entry)) c 0 + j .0) d ⌝ }
+    ensures { λ r. ⌜ r ≡ stays (lent w h (now (index .entry)) (now (count .entry)) (now (area .entry)) (now (con .entry))) (getD (now (index .entry)) c 0 + j .0) d ⌝ }
 {
     if inside {
         return link_ok(w, h, index, count, area, con, c, j, k, d);

@@ -14,3 +14,4 @@ pub mod Outcomes
 pub mod File
 pub mod Listing
 pub mod Open
+pub mod Mend

@@ -1,28 +1,31 @@
--- The entry's three ends: a refusal 1 to 4, a list without room, and the mending.
+-- The entry's four ends: a refusal 1 to 4, a sound field, a list without room, and the mending.
+-- The verdict tells the first two, the count of changes the others apart. Assumes nothing.
 use Prim.Native.Nat.{ℕ, _+_, _*_, _/_, _≤_, _<_}
 use native.Mathlib.Omega.{arith}
 use native.Mathlib.Nat.{div-add-mod'}
 use mathlib.Core.Path.{_≡_, refl, sym, ap, _∙_}
-use mathlib.Core.Bool.{Bool, true, false, true≢false}
+use mathlib.Core.Bool.{Bool, true, false}
 use mathlib.Core.List.{List, [], _∷_}
 use lib.ListN.{length}
 use lib.Dec.{leb}
-use borrow.Author.Tests.{eq-eqb, ne-eqb, ltb-false, leb-true, le-leb, lt-ltb, le-ltb, not-false}
+use borrow.Author.Tests.{eq-eqb, ne-eqb, lt-ltb, le-ltb, lt-leb, le-leb, leb-true, leb-false}
 use Rattle.rules.specs.Base.{_and_, if_then_else_, every}
 use Rattle.rules.specs.Field.{Field, spans}
-use Rattle.rules.specs.Refusals.{tooWide, tooMany, wrongLength, wrongCells, refusal}
+use Rattle.rules.specs.Refusals.{wrongLength, refusal}
 use Rattle.rules.specs.Mend.{MendOutcome, changed, mendRefusal, mendOutcome}
-use Rattle.laws.proofs.Basics.{both, neither}
-use Rattle.field.specs.Lent.{lent, Celled}
-use Rattle.checker.specs.Answer.{verdictNumber}
+use Rattle.field.specs.Lent.{lent}
+use Rattle.checker.specs.Answer.{numberOf, verdictNumber}
+use Rattle.checker.specs.declared.Refusal.{Refusal}
 use Rattle.checker.specs.declared.Refusal.the-variants.{TooWide, TooMany, WrongLength, WrongCells, WrongReach, WrongBack, TooShort, TooFar}
 use Rattle.checker.specs.declared.Verdict.{Verdict}
 use Rattle.checker.specs.declared.Verdict.the-variants.{Sound, Refused}
-use Rattle.field.proofs.Passed.{celled-of}
+use Rattle.checker.proofs.Numbers.{number-pos}
 use Rattle.mend.specs.Walk.{state, ground, walk, Ready}
-use Rattle.mend.specs.Answer.{cellsNumber, beforeLinks}
+use Rattle.mend.specs.Answer.{pastCells, beforeLinks}
+use Rattle.mend.proofs.Before.{links-only, ends-celled}
 use Rattle.mend.proofs.WalkLaws.{walk-keeps}
 use Rattle.mend.proofs.Walked.{walk-counts, walk-writes}
+use Rattle.mend.proofs.Mended.{sound-same}
 
 -- ---------------------------------------------------------------- refusals 1 to 4
 
@@ -31,84 +34,54 @@ lens-same : (F : Field) → refusal F (spans F ∷ spans F ∷ []) ≡ refusal F
 unfolding refusal wrongLength every _and_
 lens-same F = rw (eq-eqb (spans F) (spans F) refl)
 
--- a choice that did not come to k
-past : (b : Bool) (x k r : ℕ) → x ≡ (if b then k else r) → (x ≡ k → ⊥) → (b ≡ false) × (x ≡ r)
-unfolding if_then_else_
-past true x k r e n = absurd (n e)
-past false x k r e n = (refl, e)
-
-only : (b : Bool) (u : ℕ) → (leb 1 u and leb u 4) ≡ b → beforeLinks u ≡ 0 → b ≡ false
-unfolding beforeLinks if_then_else_
-only true u f e = let z : u ≡ 0 = rw f at e in absurd (omega (arith, leb-true 1 u (both _ _ f .0)))
-only false u f e = refl
-
--- what comes to 0 is none of 1 to 4
-module _ (u : ℕ) (e : beforeLinks u ≡ 0) where
-  links-only : (leb 1 u and leb u 4) ≡ false
-  links-only = only (leb 1 u and leb u 4) u refl e
-
-  links-not : (k : ℕ) → 1 ≤ k → k ≤ 4 → u ≡ k → ⊥
-  unfolding _and_
-  links-not k a b f = true≢false (sym (rw (le-leb 1 u (omega arith)) (le-leb u 4 (omega arith))) ∙ links-only)
-
-meets : (b : Bool) (u : ℕ) → ((if b then u else 0) ≡ 0 → ⊥) → b ≡ true
-unfolding if_then_else_
-meets true u n = refl
-meets false u n = absurd (n refl)
-
-same-if : (b : Bool) (u : ℕ) → ((if b then u else 0) ≡ 0 → ⊥) → (if b then u else 0) ≡ u
-unfolding if_then_else_
-same-if true u n = refl
-same-if false u n = absurd (n refl)
-
--- so the field's cells are in order
-pub ends-celled : (F : Field) → beforeLinks (refusal F []) ≡ 0 → Celled F
-unfolding refusal tooWide tooMany wrongCells
-ends-celled F z =
-    let p = past (tooWide F) (refusal F []) 1 _ refl (links-not (refusal F []) z 1 (omega arith) (omega arith)) in
-    let q = past (tooMany F) (refusal F []) 2 _ (p .1) (links-not (refusal F []) z 2 (omega arith) (omega arith)) in
-    let r = past (wrongLength F []) (refusal F []) 3 _ (q .1) (links-not (refusal F []) z 3 (omega arith) (omega arith)) in
-    let s = past (wrongCells F) (refusal F []) 4 _ (r .1) (links-not (refusal F []) z 4 (omega arith) (omega arith)) in
-    let v = neither _ _ (p .0) in
-    celled-of F [] (ltb-false _ _ (v .0)) (ltb-false _ _ (v .1)) (ltb-false _ _ (q .0)) (r .0) (not-false _ (s .0))
-
 -- an answer from the state that is left
 made-outcome : {a b c d : List ℕ} {m k : ℕ} → state a b m ≡ state c d k
     → _≡_ {A = MendOutcome} (record { refused = 0; count = m; con = a; changes = b }) (record { refused = 0; count = k; con = c; changes = d })
 made-outcome e = ap (λ v. record { refused = 0; count = v .found; con = v .con; changes = v .changes }) e
 
--- what does not is one of them
-met : (u : ℕ) → (beforeLinks u ≡ 0 → ⊥) → ((leb 1 u and leb u 4) ≡ true) × (beforeLinks u ≡ u)
-unfolding beforeLinks
-met u n = (meets (leb 1 u and leb u 4) u n, same-if (leb 1 u and leb u 4) u n)
+past-is : (r : Refusal) → pastCells r ≡ leb 5 (numberOf r)
+past-is TooWide = refl
+past-is TooMany = refl
+past-is WrongLength = refl
+past-is WrongCells = refl
+past-is WrongReach = refl
+past-is WrongBack = refl
+past-is TooShort = refl
+past-is TooFar = refl
 
--- the verdict's number, as the code gives it
-cells-number : (v : Verdict) → cellsNumber v ≡ beforeLinks (verdictNumber v)
-unfolding beforeLinks if_then_else_ _and_
-cells-number Sound = refl
-cells-number (Refused TooWide) = refl
-cells-number (Refused TooMany) = refl
-cells-number (Refused WrongLength) = refl
-cells-number (Refused WrongCells) = refl
-cells-number (Refused WrongReach) = refl
-cells-number (Refused WrongBack) = refl
-cells-number (Refused TooShort) = refl
-cells-number (Refused TooFar) = refl
+-- a number is one of 1 to 4, or past them
+low-before : (u : ℕ) → 0 < u → leb 5 u ≡ false → (leb 1 u and leb u 4) ≡ true
+unfolding _and_
+low-before u p e = rw (le-leb 1 u p) (le-leb u 4 (omega (arith, leb-false 5 u e)))
+
+high-before : (u : ℕ) → leb 5 u ≡ true → beforeLinks u ≡ 0
+unfolding beforeLinks _and_ if_then_else_
+high-before u e = let l = leb-true 5 u e in rw (le-leb 1 u (omega arith), lt-leb u 4 (omega arith))
 
 module _ (w h : ℕ) (is ks ar cs : List ℕ) where
-  pub number-is : (n r : ℕ) (v : Verdict) → n ≡ length ar → verdictNumber v ≡ refusal (lent w h is ks ar cs) (n ∷ n ∷ []) → r ≡ cellsNumber v
-      → r ≡ beforeLinks (refusal (lent w h is ks ar cs) [])
-  number-is n r v p e f =
-      let q : verdictNumber v ≡ refusal (lent w h is ks ar cs) (length ar ∷ length ar ∷ []) = rw p at e in
-      f ∙ cells-number v ∙ ap beforeLinks (q ∙ lens-same (lent w h is ks ar cs))
+  -- the verdict, with two lists of n numbers as the entry's own
+  module _ (n : ℕ) (l : n ≡ length ar) (v : Verdict) (e : verdictNumber v ≡ refusal (lent w h is ks ar cs) (n ∷ n ∷ [])) where
+    own-number : verdictNumber v ≡ refusal (lent w h is ks ar cs) []
+    own-number =
+        let q : verdictNumber v ≡ refusal (lent w h is ks ar cs) (length ar ∷ length ar ∷ []) = rw l at e in
+        q ∙ lens-same (lent w h is ks ar cs)
 
-  pub ends-refused : (ch : List ℕ) (r : ℕ) → r ≡ beforeLinks (refusal (lent w h is ks ar cs) []) → (r ≡ 0 → ⊥)
-      → _≡_ {A = MendOutcome} (record { refused = r; count = 0; con = cs; changes = ch }) (mendOutcome (lent w h is ks ar cs) ch)
-  unfolding mendOutcome mendRefusal if_then_else_
-  ends-refused ch r e n =
-      let f = met (refusal (lent w h is ks ar cs) []) (λ z. n (e ∙ z)) in
-      let g : refusal (lent w h is ks ar cs) [] ≡ r = sym (e ∙ f .1) in
-      rw (f .0, g, ne-eqb r 0 n)
+    pub ends-sound : (ch : List ℕ) → v ≡ Sound
+        → _≡_ {A = MendOutcome} (record { refused = 0; count = 0; con = cs; changes = ch }) (mendOutcome (lent w h is ks ar cs) ch)
+    ends-sound ch z = sym (sound-same (lent w h is ks ar cs) (sym own-number ∙ ap verdictNumber z) ch)
+
+    module _ (r : Refusal) (z : v ≡ Refused r) (b : Bool) (f : b ≡ pastCells r) where
+      given : refusal (lent w h is ks ar cs) [] ≡ numberOf r
+      given = sym own-number ∙ ap verdictNumber z
+
+      pub ends-refused : (ch : List ℕ) → b ≡ false
+          → _≡_ {A = MendOutcome} (record { refused = numberOf r; count = 0; con = cs; changes = ch }) (mendOutcome (lent w h is ks ar cs) ch)
+      unfolding mendOutcome mendRefusal if_then_else_
+      ends-refused ch y =
+          rw (given, low-before (numberOf r) (number-pos r) (sym (f ∙ past-is r) ∙ y), ne-eqb (numberOf r) 0 (λ k. omega (arith, number-pos r)))
+
+      pub ends-mends : b ≡ true → beforeLinks (refusal (lent w h is ks ar cs) []) ≡ 0
+      ends-mends y = rw given (high-before (numberOf r) (sym (f ∙ past-is r) ∙ y))
 
   -- a field with none of them
   module _ (ok : beforeLinks (refusal (lent w h is ks ar cs) []) ≡ 0) (ch : List ℕ) where

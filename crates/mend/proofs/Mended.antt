@@ -21,7 +21,7 @@ use Rattle.mend.proofs.StepLaws.{span-of, way-of}
 use Rattle.mend.proofs.WalkLaws.{celled-on}
 use Rattle.mend.proofs.Keeping.{Loses, none-stays, stays-on}
 use Rattle.mend.proofs.Walked.{way-in, span-in, mended-loses, mended-is}
-use Rattle.mend.proofs.Ends.{ends-celled}
+use Rattle.mend.proofs.Before.{ends-celled}
 
 -- ---------------------------------------------------------------- a field with cells in order whose connections all stay is sound
 

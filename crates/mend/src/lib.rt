@@ -18,12 +18,13 @@ ghost use Rattle.rules.specs.Refusals.{refusal};
 ghost use Rattle.rules.specs.Mend.{stays, mendOutcome};
 ghost use Rattle.field.specs.Lent.{lent, Celled};
 ghost use Rattle.mend.specs.Walk.{state, ground, noted, step, walk, Ready};
-ghost use Rattle.mend.specs.Answer.{outcome, cellsNumber, beforeLinks};
+ghost use Rattle.mend.specs.Answer.{outcome, pastCells, beforeLinks};
 
-// The refusal's number, 0 for none; how many connections were set to none.
-pub struct MendAnswer {
-    pub refusal: u32,
-    pub count: u32,
+// One of refusals 1 to 4; 27, a list without room; or how many connections were set to none.
+pub enum MendAnswer {
+    Refused(Refusal),
+    NoRoom,
+    Done(u32),
 }
 
 // Change number k in its place.
@@ -199,34 +200,23 @@ fn mend_cells(
     found
 }
 
-// The number of a refusal that mending gives too, 0 for the others and for none: those of connections are what it mends.
-fn refused(v: Verdict) -> u32
-    ensures { λ r. ⌜ r ≡ cellsNumber v ⌝ }
+// A refusal past 4: of those that the checker gives 5 and 6, which are about connections and are what is mended.
+fn past_cells(r: Refusal) -> bool
+    ensures { λ b. ⌜ b ≡ pastCells r ⌝ }
 {
-    match v {
-        Verdict::Sound => 0,
-        Verdict::Refused(r) => match r {
-            Refusal::TooWide => 1,
-            Refusal::TooMany => 2,
-            Refusal::WrongLength => 3,
-            Refusal::WrongCells => 4,
-            Refusal::WrongReach => 0,
-            Refusal::WrongBack => 0,
-            Refusal::TooShort => 0,
-            Refusal::TooFar => 0,
-        },
+    match r {
+        Refusal::TooWide => false,
+        Refusal::TooMany => false,
+        Refusal::WrongLength => false,
+        Refusal::WrongCells => false,
+        Refusal::WrongReach => true,
+        Refusal::WrongBack => true,
+        Refusal::TooShort => true,
+        Refusal::TooFar => true,
     }
 }
 
-// The first of refusals 1 to 4, 0 for none.
-fn refusal_before(w: usize, h: usize, index: &[u32], count: &[u8], area: &[u8], con: &[u8]) -> u32
-    ensures { λ r. ⌜ r ≡ beforeLinks (refusal (lent w h (now (index .entry)) (now (count .entry)) (now (area .entry)) (now (con .entry))) []) ⌝ }
-{
-    let n = area.len();
-    refused(check(w, h, index, count, area, con, n, n))
-}
-
-// A field with none of them. Counts first, since nothing is written where the list has no room.
+// A field with none of refusals 1 to 4. Counts first, since nothing is written where the list has no room.
 fn mend_all(
     w: usize,
     h: usize,
@@ -242,19 +232,13 @@ fn mend_all(
 {
     let room = changes.len() / 3;
     if room < mend_cells(w, h, index, count, area, con, changes, 0) {
-        return MendAnswer {
-            refusal: 27,
-            count: 0,
-        };
+        return MendAnswer::NoRoom;
     }
     let made = mend_cells(w, h, index, count, area, con, changes, room);
-    MendAnswer {
-        refusal: 0,
-        count: made as u32,
-    }
+    MendAnswer::Done(made as u32)
 }
 
-// The entry: any input.
+// The entry: any input. A sound field is left as it is after the checker's one pass.
 pub fn mend(
     w: u16,
     h: u16,
@@ -267,9 +251,16 @@ pub fn mend(
     ensures { λ r. ⌜ outcome r (now (con .exit)) (now (changes .exit))
         ≡ mendOutcome (lent w h (now (index .entry)) (now (count .entry)) (now (area .entry)) (now (con .entry))) (now (changes .entry)) ⌝ }
 {
-    let refusal = refusal_before(w as usize, h as usize, index, count, area, con);
-    if refusal != 0 {
-        return MendAnswer { refusal, count: 0 };
+    let width = w as usize;
+    let height = h as usize;
+    let n = area.len();
+    match check(width, height, index, count, area, con, n, n) {
+        Verdict::Sound => MendAnswer::Done(0),
+        Verdict::Refused(r) => {
+            if past_cells(r) {
+                return mend_all(width, height, index, count, area, con, changes);
+            }
+            MendAnswer::Refused(r)
+        }
     }
-    mend_all(w as usize, h as usize, index, count, area, con, changes)
 }

@@ -7,3 +7,4 @@ pub mod Walked
 pub mod Mended
 pub mod Ends
 pub mod OneAnswer
+pub mod Calls

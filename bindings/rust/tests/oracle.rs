@@ -399,7 +399,7 @@ fn an_empty_field_takes_empty_lists() {
 
 #[test]
 fn a_refusal_names_its_number_and_meaning() {
-    for (number, refusal) in (1..).zip(Refusal::ALL) {
+    for (number, refusal) in (1..=8).chain([27]).zip(Refusal::ALL) {
         assert_eq!(refusal.number(), number);
         assert_eq!(Refusal::from_number(number), Some(refusal));
         assert_eq!(
@@ -407,7 +407,7 @@ fn a_refusal_names_its_number_and_meaning() {
             format!("refused {number}: {}", refusal.meaning())
         );
     }
-    for number in [0, 9, 20, 21, u16::MAX] {
+    for number in [0, 9, 20, 21, 26, 28, u16::MAX] {
         assert_eq!(Refusal::from_number(number), None);
     }
     assert_eq!(

@@ -1,11 +1,11 @@
 // The functions that C and Rust call (include/gussetraft.h). They take any input, as the entries do.
+use checker::refusal_number;
 use mend::MendAnswer;
 use mend::mend;
 use watershed::DistanceAnswer;
 use watershed::RegionAnswer;
 use watershed::build_distance_field;
 use watershed::build_regions;
-use watershed::refusal_number;
 ghost use mathlib.Core.Path.{_≡_};
 ghost use Rattle.rules.specs.Outcomes.{Sizes, distanceOutcome, regionOutcome};
 ghost use Rattle.rules.specs.Mend.{mendOutcome};

@@ -1,11 +1,11 @@
 // The region entry on the open field of 3 by 3, at the limits that are its own: workspace and distances.
+use checker::refusal_number;
 use crate::fields::CON;
 use crate::fields::COUNT;
 use crate::fields::INDEX;
 use crate::show::list;
 use watershed::RegionAnswer;
 use watershed::build_regions;
-use watershed::refusal_number;
 
 // A line for the answer: refused and its number, or max_region and the overlap count.
 fn answer(r: RegionAnswer) {

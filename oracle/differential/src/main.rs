@@ -1,6 +1,7 @@
-//! Compares what is proved with the unchanged Rust on fields by seed. `oracle/compare` runs it.
+//! Compares what is proved with the unchanged Rust, and with the models of document 02, on fields by seed. `oracle/compare` runs it.
 
 mod calls;
+mod edited;
 mod faults;
 mod large;
 mod lent;
@@ -14,6 +15,7 @@ struct Order {
     program: PathBuf,
     small: u64,
     large: u64,
+    edited: u64,
     seed: u64,
 }
 
@@ -40,13 +42,17 @@ fn run() -> Result<bool, String> {
     if large.fields > 0 {
         print!("calls on large fields by kind, and their answers:\n{large}");
     }
-    if small.is_enough() || large.is_enough() {
+    let edited = edited::compare(seed, order.edited);
+    if edited.fields > 0 {
+        print!("mendings of edited fields by edit, and their answers:\n{edited}");
+    }
+    if small.is_enough() || large.is_enough() || edited.is_enough() {
         println!("{ended}");
     }
-    let differences = small.differences + large.differences;
+    let differences = small.differences + large.differences + edited.differences;
     println!(
-        "compared {} small, {} large fields: {differences} differences",
-        small.fields, large.fields
+        "compared {} small, {} large, {} edited fields: {differences} differences",
+        small.fields, large.fields, edited.fields
     );
     Ok(differences == 0)
 }
@@ -59,6 +65,7 @@ fn order() -> Result<Order, String> {
         program: program.into(),
         small: 20_000,
         large: 38,
+        edited: 7_000,
         seed: 0,
     };
     while let Some(option) = arguments.next() {
@@ -71,6 +78,7 @@ fn order() -> Result<Order, String> {
         match option.as_str() {
             "--small" => order.small = number,
             "--large" => order.large = number,
+            "--edited" => order.edited = number,
             "--seed" => order.seed = number,
             _ => {
                 return Err(format!(

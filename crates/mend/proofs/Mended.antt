@@ -1,17 +1,17 @@
 -- What mending gives, of the rules alone: a mended field is sound, a sound one stays as it is with nothing listed, so mending twice is mending once.
 use Prim.Native.Nat.{ℕ, zero, suc, _+_, _*_, _/_, _%_, _≤_, _<_}
 use native.Mathlib.Omega.{arith}
-use native.Mathlib.Nat.{le-refl}
+use native.Mathlib.Nat.{le-refl, div-add-mod'}
 use mathlib.Core.Path.{_≡_, refl, sym, ap, _∙_}
 use mathlib.Core.Bool.{Bool, true, false, not}
 use mathlib.Core.List.{List, []}
 use lib.ListN.{length}
 use lib.Dec.{eqb, leb}
-use borrow.Author.Tests.{eq-eqb, le-ltb, not-false, eqb-true, eqb-false}
+use borrow.Author.Tests.{eq-eqb, le-ltb, ltb-false, leb-true, not-false, eqb-true, eqb-false}
 use Rattle.rules.specs.Base.{_or_, _and_, if_then_else_, every}
 use Rattle.rules.specs.Field.{Field, spans, conOf}
 use Rattle.rules.specs.Refusals.{goodCon, goodBack, tooWide, tooMany, wrongLength, wrongCells, wrongReach, wrongBack, refusal}
-use Rattle.rules.specs.Mend.{stays, staysAt, mendedAt, mendedCon, mended, relinked, changesTo, changedTo, MendOutcome, mendRefusal, mendOutcome}
+use Rattle.rules.specs.Mend.{stays, staysAt, mendedAt, mendedCon, mended, relinked, changesTo, changedTo, changed, MendOutcome, mendRefusal, mendOutcome}
 use Rattle.laws.proofs.Basics.{both, and-both, every-at, every-all, tab-at, length-tab}
 use Rattle.laws.proofs.Cells.{passed}
 use Rattle.field.specs.Lent.{Celled}
@@ -166,7 +166,34 @@ none-before u x = by (leb 1 u and leb u 4) refl
     by true f g = g
     by false f g = refl
 
+chosen-count : (r : ℕ) (done left : MendOutcome) → left .refused ≡ r
+    → (if eqb r 0 then done else left) .refused ≡ 0 → (if eqb r 0 then done else left) .count ≡ done .count
+unfolding if_then_else_
+chosen-count r done left e = by (eqb r 0) refl
+  where
+    by : (b : Bool) → eqb r 0 ≡ b → (if b then done else left) .refused ≡ 0 → (if b then done else left) .count ≡ done .count
+    by true f g = refl
+    by false f g = absurd (eqb-false r 0 f (sym e ∙ g))
+
+none-full : (u : ℕ) (c : Bool) → (if leb 1 u and leb u 4 then u else if c then 27 else 0) ≡ 0 → c ≡ false
+unfolding if_then_else_
+none-full u c = by (leb 1 u and leb u 4) refl c
+  where
+    by : (b : Bool) → (leb 1 u and leb u 4) ≡ b → (c : Bool) → (if b then u else if c then 27 else 0) ≡ 0 → c ≡ false
+    by true f c g = absurd (omega (arith, leb-true 1 u (both _ _ f .0)))
+    by false f true g = absurd (omega arith)
+    by false f false g = refl
+
 module _ (F : Field) (changes : List ℕ) (done : mendOutcome F changes .refused ≡ 0) where
+  -- the changes have their places
+  pub mend-fits : 3 * (mendOutcome F changes .count) ≤ length changes
+  unfolding mendOutcome mendRefusal
+  mend-fits =
+      let r = chosen (mendRefusal F (length changes)) _ _ refl done .0 in
+      let q : changed F ≤ length changes / 3 = ltb-false _ _ (none-full (refusal F []) _ r) in
+      let c : mendOutcome F changes .count ≡ changed F = chosen-count (mendRefusal F (length changes)) _ _ refl done in
+      rw c (omega (arith, div-add-mod' (length changes) 3))
+
   mend-celled : Celled F
   unfolding mendOutcome mendRefusal
   mend-celled = ends-celled F (none-before (refusal F []) _ (chosen (mendRefusal F (length changes)) _ _ refl done .0))

@@ -5,7 +5,7 @@ mod patch;
 
 use checker::refusal_number;
 use crate::patch::mend_bytes;
-use crate::patch::spot;
+use crate::patch::spot_of;
 use file::read::FileReading;
 use file::read::Header;
 use file::read::file_number;
@@ -36,7 +36,7 @@ fn tell(v: usize, after: &[u8]) {
 fn tell_change(w: u16, count: &[u8], changes: &[u16], k: usize)
     requires { ⌜ (3 * k + 2 < length (now changes)) × (length (now changes) ≤ 2400) ⌝ }
 {
-    let at = spot(count, changes[3 * k] as usize);
+    let at = spot_of(count, changes[3 * k] as usize);
     if w == 0 {
         return;
     }

@@ -14,7 +14,7 @@ pub struct Spot {
 }
 
 // The place of span s.
-pub(crate) fn spot(count: &[u8], s: usize) -> Spot
+pub(crate) fn spot_of(count: &[u8], s: usize) -> Spot
     ensures { λ r. ⌜ (r .cell ≡ cellOf (now (count .entry)) s) × (r .layer ≡ layerOf (now (count .entry)) s) × (r .cell ≤ length (now (count .entry))) ⌝ }
 {
     let mut c: usize = 0;
@@ -43,7 +43,7 @@ fn mend_byte(bytes: &mut [u8], count: &[u8], changes: &[u16], k: usize)
 {
     let s = changes[3 * k] as usize;
     let d = changes[3 * k + 1] as usize;
-    let at = 11 + 2 * (spot(count, s).cell + 1) + 6 * s + 2 + d;
+    let at = 11 + 2 * (spot_of(count, s).cell + 1) + 6 * s + 2 + d;
     if at < bytes.len() {
         bytes[at] = NO_LAYER;
     }

@@ -1,9 +1,9 @@
 // The region entry on the open field of 3 by 3, at the limits that are its own: workspace and distances.
-use checker::refusal_number;
 use crate::fields::CON;
 use crate::fields::COUNT;
 use crate::fields::INDEX;
 use crate::show::list;
+use checker::refusal_number;
 use watershed::RegionAnswer;
 use watershed::build_regions;
 

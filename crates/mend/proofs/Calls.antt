@@ -22,8 +22,7 @@ module _ (F : Field) (changes : List ℕ) (a : MendAnswer) (con l : List ℕ) (e
   pub call-twice : (again : List ℕ) (b : MendAnswer) (con′ l′ : List ℕ) → outcome b con′ l′ ≡ mendOutcome (relinked F con) again
       → (mendRefusedBy b ≡ 0) × (changesIn b ≡ 0) × (con′ ≡ con) × (l′ ≡ again)
   call-twice again b con′ l′ f =
-      let g = f ∙ sound-same (relinked F con) call-leaves-sound again in
-      (
+      let g = f ∙ sound-same (relinked F con) call-leaves-sound again in (
         ap (λ (v : MendOutcome). v .refused) g,
         ap (λ (v : MendOutcome). v .count) g,
         ap (λ (v : MendOutcome). v .con) g,

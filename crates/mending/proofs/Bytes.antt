@@ -7,7 +7,12 @@ use mathlib.Core.Path.{_≡_, refl, sym, ap, _∙_}
 use mathlib.Core.List.{List, [], _∷_}
 use lib.ListN.{length, getD, set}
 use Rattle.rules.specs.Base.{upto}
-use Rattle.rules.specs.Field.{cellOf}
+use Rattle.rules.specs.Field.{Field, cellOf}
+use Rattle.rules.specs.Mend.{mendOutcome}
+use Rattle.mend.specs.Answer.{outcome}
+use Rattle.mend.specs.declared.MendAnswer.{MendAnswer}
+use Rattle.mend.specs.declared.MendAnswer.the-variants.{Done}
+use Rattle.mend.proofs.Calls.{call-fits}
 use Rattle.mending.specs.Patch.{conPlace, byteMended, bytesMended}
 
 set-past : (l : List ℕ) (i v : ℕ) → length l ≤ i → set l i v ≡ l
@@ -40,3 +45,8 @@ bytes-one count changes bytes b b′ k e f = rw (add-one k, ← e) f
 pub bytes-all : (count changes bytes b : List ℕ) (k made : ℕ) → b ≡ bytesMended count changes k bytes → k ≤ made → made ≤ k
     → b ≡ bytesMended count changes made bytes
 bytes-all count changes bytes b k made e p q = let z : k ≡ made = omega arith in rw (← z) e
+
+-- the changes that a call made have their places in the list as it leaves it
+pub room-left : (F : Field) (changes : List ℕ) (a : MendAnswer) (con l : List ℕ) (k : ℕ) → outcome a con l ≡ mendOutcome F changes → a ≡ Done k
+    → length l ≡ length changes → 3 * k ≤ length l
+room-left F changes a con l k e z p = rw p (call-fits F changes a con l k e z)

@@ -4,7 +4,7 @@ use Prim.Native.Nat.{ℕ, zero, suc, _+_, _-_, _≤_, _<_}
 use native.Mathlib.Omega.{arith}
 use mathlib.Core.Path.{_≡_, refl, sym, ap, _∙_}
 use mathlib.Core.List.{List, [], _∷_}
-use lib.ListN.{length, getD, drop}
+use lib.ListN.{length, getD, drop, drop-of-length-le}
 use borrow.Author.Tests.{lt-ltb, le-ltb}
 use Rattle.rules.specs.Base.{if_then_else_}
 use Rattle.rules.specs.Field.{cellOf}
@@ -13,13 +13,7 @@ use Rattle.mending.specs.Patch.{layerOf}
 drop-here : (l : List ℕ) (c : ℕ) → c < length l → drop c l ≡ getD l c 0 ∷ drop (c + 1) l
 drop-here [] c h = absurd (omega arith)
 drop-here (x ∷ l) zero h = refl
-drop-here (x ∷ l) (suc c) h = drop-here l c (omega arith)
-
-drop-past : (l : List ℕ) (c : ℕ) → length l ≤ c → drop c l ≡ []
-drop-past [] zero h = refl
-drop-past [] (suc c) h = refl
-drop-past (x ∷ l) zero h = absurd (omega arith)
-drop-past (x ∷ l) (suc c) h = drop-past l c (omega arith)
+drop-here (x ∷ l) (suc c) h = let p : suc c + 1 ≡ suc (c + 1) = omega arith in rw p (drop-here l c (omega arith))
 
 -- the first cell of those that are left has it, or not
 cell-here : (k left : ℕ) (ks : List ℕ) → left < k → cellOf (k ∷ ks) left ≡ 0
@@ -73,7 +67,7 @@ module _ (ks : List ℕ) (s : ℕ) where
       layer-on f h = f ∙ ap (λ (x : List ℕ). layerOf x left) left-is ∙ layer-not k left (drop (c + 1) ks) h
 
     pub cell-end : cellOf ks s ≡ c + cellOf (drop c ks) left → length ks ≤ c → c ≡ cellOf ks s
-    cell-end f h = omega (arith, f, ap (λ (x : List ℕ). cellOf x left) (drop-past ks c h), cell-none left)
+    cell-end f h = omega (arith, f, ap (λ (x : List ℕ). cellOf x left) (drop-of-length-le ks h), cell-none left)
 
     pub layer-end : layerOf ks s ≡ layerOf (drop c ks) left → length ks ≤ c → left ≡ layerOf ks s
-    layer-end f h = sym (f ∙ ap (λ (x : List ℕ). layerOf x left) (drop-past ks c h) ∙ layer-none left)
+    layer-end f h = sym (f ∙ ap (λ (x : List ℕ). layerOf x left) (drop-of-length-le ks h) ∙ layer-none left)

@@ -3,9 +3,10 @@
 // The first 4,096 bytes are enough: a file that is not refused is shorter (`first-bytes-decide` in crates/file/proofs/FirstBytes.antt).
 mod patch;
 
-use checker::refusal_number;
 use crate::patch::mend_bytes;
 use crate::patch::spot_of;
+use checker::refusal_number;
+use field::read::at16;
 use file::read::FileReading;
 use file::read::Header;
 use file::read::file_number;
@@ -36,15 +37,15 @@ fn tell(v: usize, after: &[u8]) {
 fn tell_change(w: u16, count: &[u8], changes: &[u16], k: usize)
     requires { ⌜ (3 * k + 2 < length (now changes)) × (length (now changes) ≤ 2400) ⌝ }
 {
-    let at = spot_of(count, changes[3 * k] as usize);
+    let at = spot_of(count, at16(changes, 3 * k));
     if w == 0 {
         return;
     }
     tell(at.cell % w as usize, b" ");
     tell(at.cell / w as usize, b" ");
     tell(at.layer, b" ");
-    tell(changes[3 * k + 1] as usize, b" ");
-    tell(changes[3 * k + 2] as usize, b"\n");
+    tell(at16(changes, 3 * k + 1), b" ");
+    tell(at16(changes, 3 * k + 2), b"\n");
 }
 
 // The first `made` of them.

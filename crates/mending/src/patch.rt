@@ -1,6 +1,7 @@
 // The changes of a mended field, made in the bytes of its file.
 use field::place::NO_LAYER;
 use field::read::at8;
+use field::read::at16;
 ghost use mathlib.Core.Path.{_≡_};
 ghost use Prim.Native.Nat.{_+_, _*_, _≤_, _<_};
 ghost use lib.ListN.{length};
@@ -41,8 +42,8 @@ fn mend_byte(bytes: &mut [u8], count: &[u8], changes: &[u16], k: usize)
     requires { ⌜ (3 * k + 1 < length (now changes)) × (length (now changes) ≤ 2400) × (length (now count) ≤ 1024) ⌝ }
     ensures { λ _. ⌜ now (bytes .exit) ≡ byteMended (now (count .entry)) (now (changes .entry)) k (now (bytes .entry)) ⌝ }
 {
-    let s = changes[3 * k] as usize;
-    let d = changes[3 * k + 1] as usize;
+    let s = at16(changes, 3 * k);
+    let d = at16(changes, 3 * k + 1);
     let at = 11 + 2 * (spot_of(count, s).cell + 1) + 6 * s + 2 + d;
     if at < bytes.len() {
         bytes[at] = NO_LAYER;

@@ -2,7 +2,6 @@
 -- Assumes nothing.
 use Rattle.gussetraft.proofs.Apart.{gives-mending}
 use borrow.Author.Needs.{needs}
-
 use Rattle.gussetraft.proofs.gussetraft_mend.Statement.{statement}
 use Rattle.gussetraft.proofs.gussetraft_mend.Tie as tie
 

@@ -8,7 +8,7 @@ use crate::{
 };
 use oracle::{
     damage::DAMAGES,
-    field::{DIRECTIONS, Field, NONE, Settings},
+    field::{Case, DIRECTIONS, Field, NONE, Settings},
     file::{self, Limits},
     levels::{KINDS, Size, at_limits},
     mending::{self, Mended},
@@ -141,6 +141,15 @@ fn make(seed: u64, rng: &mut Rng) -> (&'static str, Field) {
         _ => {}
     }
     (edit, field)
+}
+
+/// The edited field of a seed as a file, if it is small enough for the program.
+pub fn file(seed: u64) -> Option<(&'static str, Vec<u8>)> {
+    let (edit, field) = make(seed, &mut Rng::new(!seed));
+    let Limits { cells, spans } = Limits::PROGRAM;
+    let settings = Settings::default();
+    (field.cells() <= cells && field.spans() <= spans)
+        .then(|| (edit, file::write(&Case { field, settings })))
 }
 
 /// The field as a script leaves it that deletes spans and does not look at connections.

@@ -3,6 +3,7 @@
 mod calls;
 mod edited;
 mod faults;
+mod files;
 mod large;
 mod lent;
 mod library;
@@ -10,6 +11,9 @@ mod small;
 mod tally;
 
 use std::{env, path::PathBuf, process::ExitCode};
+
+/// One file is mended by the program for so many edited fields.
+const FILES_IN: u64 = 7;
 
 struct Order {
     program: PathBuf,
@@ -46,13 +50,22 @@ fn run() -> Result<bool, String> {
     if edited.fields > 0 {
         print!("mendings of edited fields by edit, and their answers:\n{edited}");
     }
-    if small.is_enough() || large.is_enough() || edited.is_enough() {
+    let mending = order.program.with_file_name("mending");
+    let files = files::compare(&mending, seed, order.edited / FILES_IN)?;
+    if files.fields > 0 {
+        print!("files mended by kind, and their answers:\n{files}");
+    }
+    if [&small, &large, &edited, &files]
+        .iter()
+        .any(|tally| tally.is_enough())
+    {
         println!("{ended}");
     }
-    let differences = small.differences + large.differences + edited.differences;
+    let differences =
+        small.differences + large.differences + edited.differences + files.differences;
     println!(
-        "compared {} small, {} large, {} edited fields: {differences} differences",
-        small.fields, large.fields, edited.fields
+        "compared {} small, {} large, {} edited fields, {} files mended: {differences} differences",
+        small.fields, large.fields, edited.fields, files.fields
     );
     Ok(differences == 0)
 }

@@ -1,4 +1,5 @@
 -- What stays, stays: setting connections that do not stay to none changes nothing for the others, in whatever order it is done.
+-- One that stays is answered by one that stays, which is therefore not set to none; one that does not is answered by none, before and after. Assumes nothing.
 use Prim.Native.Nat.{ℕ, _+_, _%_, _<_}
 use native.Mathlib.Omega.{arith}
 use native.Mathlib.Nat.{mod-lt}

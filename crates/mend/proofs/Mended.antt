@@ -1,4 +1,5 @@
 -- What mending gives, of the rules alone: a mended field is sound, a sound one stays as it is with nothing listed, so mending twice is mending once.
+-- A connection that stays keeps its answer, so all that is left passes both tests of connections. Assumes nothing.
 use Prim.Native.Nat.{ℕ, zero, suc, _+_, _*_, _/_, _%_, _≤_, _<_}
 use native.Mathlib.Omega.{arith}
 use native.Mathlib.Nat.{le-refl, div-add-mod'}

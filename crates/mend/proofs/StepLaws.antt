@@ -1,4 +1,5 @@
 -- One connection as the code has it: its place in the list, the test that decides it, and the three ways that a step ends.
+-- Span and direction are the number's two digits to base 4. Assumes nothing.
 use Prim.Native.Nat.{ℕ, _+_, _*_, _/_, _%_, _≤_, _<_}
 use native.Mathlib.Omega.{arith}
 use native.Mathlib.Nat.{mul-comm}

@@ -1,4 +1,5 @@
 -- A walk keeps the lists' lengths and finds no more changes than it meets connections; walks one after the other are one walk.
+-- By induction on the number of connections; the cells of a field one after the other are all of its spans. Assumes nothing.
 use Prim.Native.Nat.{ℕ, zero, suc, _+_, _*_, _≤_, _<_}
 use native.Mathlib.Omega.{arith}
 use native.Mathlib.Numerals.{add-one}

@@ -1,4 +1,5 @@
 -- The code's walk is the rule: with no room it counts the changes, with room for all it makes and lists them.
+-- After k connections: those before k are mended, the others as they came, and the list begins with the changes so far (`Written`). Assumes nothing.
 use Prim.Native.Nat.{ℕ, zero, suc, _+_, _*_, _/_, _%_, _≤_, _<_}
 use native.Mathlib.Omega.{arith}
 use native.Mathlib.Nat.{mod-lt, div-add-mod', le-refl}

@@ -16,7 +16,8 @@ pub struct Spot {
 
 // The place of span s.
 pub(crate) fn spot_of(count: &[u8], s: usize) -> Spot
-    ensures { λ r. ⌜ (r .cell ≡ cellOf (now (count .entry)) s) × (r .layer ≡ layerOf (now (count .entry)) s) × (r .cell ≤ length (now (count .entry))) ⌝ }
+    ensures { λ r. ⌜ (r .cell ≡ cellOf (now (count .entry)) s) × (r .layer ≡ layerOf (now (count .entry)) s)
+        × (r .cell ≤ length (now (count .entry))) ⌝ }
 {
     let mut c: usize = 0;
     let mut left = s;

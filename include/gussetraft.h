@@ -124,7 +124,7 @@ typedef struct {
  * has changes_len / 3 places; one or two elements left over are no place. What is past the last change keeps what it held.
  *
  * Refusals: 1 to 4, and then 27 exactly if there are more changes than places; nothing is written then. After a call that is not
- * refused no other call refuses the field 1 to 6. A sound field comes back as it was, with no change. */
+ * refused the field is sound: none of 1 to 6 is given for its lists any more. A sound field comes back as it was, with no change. */
 gussetraft_mend_answer gussetraft_mend(
     uint16_t w, uint16_t h,
     const uint32_t *index, size_t index_len,

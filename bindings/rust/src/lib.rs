@@ -263,7 +263,8 @@ pub struct Edited<'a> {
 /// the direction (0 to 3) and the layer that was named. So `changes` has a third of its length in places, one or two numbers left
 /// over being none; [`changes_len`] is always enough. What is past the last change keeps what it held.
 ///
-/// Afterwards no function refuses the field 1 to 6. A sound field comes back as it was, with no change.
+/// Afterwards the field is sound: none of 1 to 6 is given for its lists any more. A sound field comes back as it was, with no
+/// change.
 ///
 /// ```
 /// use gussetraft::{build_distance_field, changes_len, mend, Edited, Field, Refusal, NO_CONNECTION};

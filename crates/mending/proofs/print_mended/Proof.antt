@@ -1,63 +1,48 @@
--- The lists are as long as the largest field that a file may have, and the field that was read is no larger.
+-- The changes that were made have their places in the list, which is what telling them requires.
 -- Assumes nothing.
-use Prim.Native.Nat.{ℕ}
-use mathlib.Core.Path.{_≡_, subst}
-use Rattle.file.specs.Reads.{Few}
-use Rattle.file.specs.declared.read.Header.{Header}
-use Rattle.file.specs.declared.read.FileReading.{FileReading}
-use Rattle.file.specs.declared.read.FileReading.the-variants.{Described}
+use Rattle.mending.proofs.Files.{placed-made}
 use borrow.Author.Needs.{needs}
 use Rattle.mending.proofs.print_mended.Statement.{statement}
 use Rattle.mending.proofs.print_mended.Tie as tie
 
--- the field that was read is no larger
-few-of : (x : FileReading) → Few x → (t : Header) (n : ℕ) → x ≡ Described t n → Few (Described t n)
-few-of x f t n u = subst (λ (v : FileReading). Few v) u f
+slice-aggregate-mend-file : tie.Need-slice-aggregate-mend-file
+slice-aggregate-mend-file c = search needs
 
-slice-aggregate-read-file : tie.Need-slice-aggregate-read-file
-slice-aggregate-read-file c = search needs
+slice-aggregate-mend-file-2 : tie.Need-slice-aggregate-mend-file-2
+slice-aggregate-mend-file-2 c = search needs
 
-slice-aggregate-read-file-2 : tie.Need-slice-aggregate-read-file-2
-slice-aggregate-read-file-2 c = search needs
+slice-aggregate-mend-file-3 : tie.Need-slice-aggregate-mend-file-3
+slice-aggregate-mend-file-3 c = search needs
 
-slice-aggregate-read-file-3 : tie.Need-slice-aggregate-read-file-3
-slice-aggregate-read-file-3 c = search needs
+slice-aggregate-mend-file-4 : tie.Need-slice-aggregate-mend-file-4
+slice-aggregate-mend-file-4 c = search needs
 
-slice-aggregate-read-file-4 : tie.Need-slice-aggregate-read-file-4
-slice-aggregate-read-file-4 c = search needs
+slice-aggregate-mend-file-5 : tie.Need-slice-aggregate-mend-file-5
+slice-aggregate-mend-file-5 c = search needs
 
-read-file-requires : tie.Need-read-file-requires
-read-file-requires c κs = search needs
+mend-file-requires : tie.Need-mend-file-requires
+mend-file-requires c κs = search needs
 
 enum-known-k : tie.Need-enum-known-k
 enum-known-k c = search needs
 
-file-number-requires : tie.Need-file-number-requires
-file-number-requires c κs = search needs
-
 print-refused-requires : tie.Need-print-refused-requires
 print-refused-requires c κs = search needs
 
-enum-known-head : tie.Need-enum-known-head
-enum-known-head c = search needs
+enum-known-w : tie.Need-enum-known-w
+enum-known-w c = search needs
 
-slice-aggregate-print-first : tie.Need-slice-aggregate-print-first
-slice-aggregate-print-first c = search needs
+write-all-requires : tie.Need-write-all-requires
+write-all-requires c κs = search needs
 
-slice-aggregate-print-first-2 : tie.Need-slice-aggregate-print-first-2
-slice-aggregate-print-first-2 c = search needs
+slice-aggregate-tell-changes : tie.Need-slice-aggregate-tell-changes
+slice-aggregate-tell-changes c = search needs
 
-slice-aggregate-print-first-3 : tie.Need-slice-aggregate-print-first-3
-slice-aggregate-print-first-3 c = search needs
+slice-aggregate-tell-changes-2 : tie.Need-slice-aggregate-tell-changes-2
+slice-aggregate-tell-changes-2 c = search needs
 
-slice-aggregate-print-first-4 : tie.Need-slice-aggregate-print-first-4
-slice-aggregate-print-first-4 c = search needs
-
-print-first-requires : tie.Need-print-first-requires
-print-first-requires c κs = (
-  record { cells₁ = search needs; cells₂ = search needs; spans₁ = search needs; spans₂ = search needs },
-  search (needs, few-of),
-)
+tell-changes-requires : tie.Need-tell-changes-requires
+tell-changes-requires c κs = (search (needs, placed-made), search needs)
 
 same-length : tie.Need-same-length
 same-length c = search needs
@@ -75,20 +60,19 @@ pub print-mended-spec : {M : Type 1} → statement M
 print-mended-spec =
     tie.close
     (tie.spec
-    slice-aggregate-read-file
-    slice-aggregate-read-file-2
-    slice-aggregate-read-file-3
-    slice-aggregate-read-file-4
-    read-file-requires
+    slice-aggregate-mend-file
+    slice-aggregate-mend-file-2
+    slice-aggregate-mend-file-3
+    slice-aggregate-mend-file-4
+    slice-aggregate-mend-file-5
+    mend-file-requires
     enum-known-k
-    file-number-requires
     print-refused-requires
-    enum-known-head
-    slice-aggregate-print-first
-    slice-aggregate-print-first-2
-    slice-aggregate-print-first-3
-    slice-aggregate-print-first-4
-    print-first-requires
+    enum-known-w
+    write-all-requires
+    slice-aggregate-tell-changes
+    slice-aggregate-tell-changes-2
+    tell-changes-requires
     same-length
     returns
     same-length-2

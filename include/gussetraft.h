@@ -33,7 +33,8 @@ extern "C" {
 /* The least number of elements of the workspace, for n spans. */
 #define GUSSETRAFT_WORKSPACE_LEN(n) ((size_t)128 * (size_t)(n) + (size_t)4096)
 
-/* Refusals, looked for in this order; the first that applies is given. 7 and 8 are given by gussetraft_build_regions alone. */
+/* Refusals, looked for in this order; the first that applies is given. 7 and 8 are given by gussetraft_build_regions alone, 27 by
+ * gussetraft_mend alone, which gives 1 to 4 beside it. */
 enum {
     GUSSETRAFT_TOO_WIDE = 1,     /* w or h above 256 */
     GUSSETRAFT_TOO_MANY = 2,     /* n above 32,000 */
@@ -42,7 +43,8 @@ enum {
     GUSSETRAFT_WRONG_REACH = 5,  /* a connection leaves the grid or names a layer that the cell lacks */
     GUSSETRAFT_WRONG_BACK = 6,   /* a connection is not answered from the other side */
     GUSSETRAFT_TOO_SHORT = 7,    /* workspace_len is below GUSSETRAFT_WORKSPACE_LEN(n) */
-    GUSSETRAFT_TOO_FAR = 8       /* max_distance is above 510, or a distance is above max_distance */
+    GUSSETRAFT_TOO_FAR = 8,      /* max_distance is above 510, or a distance is above max_distance */
+    GUSSETRAFT_NO_ROOM = 27      /* there are more changes than places in their list */
 };
 
 /* What the number of a refusal means; of 0, "not refused". The text is constant. */
@@ -57,6 +59,7 @@ static inline const char *gussetraft_refusal_text(uint16_t refusal) {
     case GUSSETRAFT_WRONG_BACK: return "a connection is not answered from the other side";
     case GUSSETRAFT_TOO_SHORT: return "the workspace is shorter than 128 numbers a span and 4,096";
     case GUSSETRAFT_TOO_FAR: return "the greatest distance is above 510, or a distance is above the greatest";
+    case GUSSETRAFT_NO_ROOM: return "there are more changes than places in their list";
     default: return "no such refusal";
     }
 }
@@ -103,6 +106,32 @@ gussetraft_region_answer gussetraft_build_regions(
     uint16_t border_size, uint16_t min_region_area, uint16_t merge_region_area,
     uint16_t *workspace, size_t workspace_len,
     uint16_t *ids, size_t ids_len);
+
+/* The most elements that a list of changes needs, for n spans: with so many gussetraft_mend never gives 27. */
+#define GUSSETRAFT_CHANGES_LEN(n) ((size_t)12 * (size_t)(n))
+
+/* refusal: 0, or the number of the refusal; count, how many connections were set to none: 0 where refused. */
+typedef struct {
+    uint32_t refusal;
+    uint32_t count;
+} gussetraft_mend_answer;
+
+/* Mends a field that was edited by hand, whose connections are perhaps refused 5 or 6. A connection stays exactly if it leads to a span
+ * that is there and is answered from it; every other becomes GUSSETRAFT_NO_CONNECTION, in con.
+ *
+ * Each change is listed, in the order of spans and, for a span, of directions: three numbers make a place, the span, the direction (0 to
+ * 3) and the layer that was named, as changes[3 * k], changes[3 * k + 1] and changes[3 * k + 2] for change k, counted from 0. The list
+ * has changes_len / 3 places; one or two elements left over are no place. What is past the last change keeps what it held.
+ *
+ * Refusals: 1 to 4, and then 27 exactly if there are more changes than places; nothing is written then. After a call that is not
+ * refused the field is sound: none of 1 to 6 is given for its lists any more. A sound field comes back as it was, with no change. */
+gussetraft_mend_answer gussetraft_mend(
+    uint16_t w, uint16_t h,
+    const uint32_t *index, size_t index_len,
+    const uint8_t *count, size_t count_len,
+    const uint8_t *area, size_t area_len,
+    uint8_t *con, size_t con_len,
+    uint16_t *changes, size_t changes_len);
 
 #ifdef __cplusplus
 }

@@ -1,4 +1,4 @@
-/* rooms: a small field through both functions of Gussetraft, and its listing as document 01 has it.
+/* rooms: a small field through the functions of Gussetraft, and its listing as document 01 has it.
  *
  * Two rooms with a door between them; over a part of the left one lies a gallery, a second layer that leads nowhere else. */
 #include "gussetraft.h"
@@ -78,9 +78,24 @@ static int run(size_t n) {
     return 0;
 }
 
+/* Mends the connections of n spans, and prints each change. */
+static int mend(size_t n) {
+    static uint16_t changes[GUSSETRAFT_CHANGES_LEN(SPANS)];
+    gussetraft_mend_answer got = gussetraft_mend(
+        W, H, index_of, CELLS, count, CELLS, area, n, con, 4 * n, changes, GUSSETRAFT_CHANGES_LEN(n));
+    if (got.refusal) return refused((uint16_t)got.refusal);
+
+    for (uint32_t k = 0; k < got.count; k++) {
+        const uint16_t *change = changes + 3 * k;
+        printf("mended: span %u, direction %u led to layer %u\n", (unsigned)change[0], (unsigned)change[1], (unsigned)change[2]);
+    }
+    return 0;
+}
+
 int main(void) {
     size_t n = field();
     if (run(n)) return 1;
     con[4] = GUSSETRAFT_NO_CONNECTION; /* the second span no longer answers the first: bad input, told by its number */
-    return run(n) == 1 ? 0 : 1;
+    if (run(n) != 1) return 1;
+    return mend(n);
 }

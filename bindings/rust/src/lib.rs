@@ -1,7 +1,7 @@
 //! Safe bindings to Gussetraft: from the cells, connections and area codes of a compact heightfield to distances and one
 //! region id per span.
 //!
-//! What the two functions answer is proved, for every input, damaged lists included; `docs/PROOFS.md` of the Gussetraft
+//! What the functions answer is proved, for every input, damaged lists included; `docs/PROOFS.md` of the Gussetraft
 //! repository says what and where. Nothing is allocated, kept or shared: every list is the caller's, so calls on different
 //! lists may run on several threads at once.
 //!
@@ -125,11 +125,13 @@ pub enum Refusal {
     TooShort = 7,
     /// 8: the greatest distance is above 510, or a distance is above the greatest.
     TooFar = 8,
+    /// 27: there are more changes than places in their list.
+    NoRoom = 27,
 }
 
 impl Refusal {
     /// Every refusal, in the order of the numbers.
-    pub const ALL: [Self; 8] = [
+    pub const ALL: [Self; 9] = [
         Self::TooWide,
         Self::TooMany,
         Self::WrongLength,
@@ -138,9 +140,10 @@ impl Refusal {
         Self::WrongBack,
         Self::TooShort,
         Self::TooFar,
+        Self::NoRoom,
     ];
 
-    /// The number, 1 to 8.
+    /// The number, 1 to 8 or 27.
     pub const fn number(self) -> u16 {
         self as u16
     }
@@ -149,6 +152,7 @@ impl Refusal {
     pub const fn from_number(number: u16) -> Option<Self> {
         match number {
             1..=8 => Some(Self::ALL[number as usize - 1]),
+            27 => Some(Self::NoRoom),
             _ => None,
         }
     }
@@ -168,6 +172,7 @@ impl Refusal {
             Self::TooFar => {
                 "the greatest distance is above 510, or a distance is above the greatest"
             }
+            Self::NoRoom => "there are more changes than places in their list",
         }
     }
 }
@@ -227,6 +232,78 @@ pub fn build_regions(
         max_region: answer.max_region,
         overlaps: answer.overlaps,
     })
+}
+
+/// The most numbers that the list of changes of [`mend`] needs, for n spans: with so many it never refuses 27.
+pub const fn changes_len(n: usize) -> usize {
+    n.saturating_mul(12)
+}
+
+/// A field whose connections are to be mended: the lists of [`Field`], the connections lent for writing.
+#[derive(Debug, PartialEq, Eq)]
+pub struct Edited<'a> {
+    /// How many cells a row has, 256 at most.
+    pub w: u16,
+    /// How many rows there are, 256 at most.
+    pub h: u16,
+    /// As in [`Field`].
+    pub index: &'a [u32],
+    /// As in [`Field`].
+    pub count: &'a [u8],
+    /// As in [`Field`].
+    pub area: &'a [u8],
+    /// As in [`Field`], with any connections.
+    pub con: &'a mut [u8],
+}
+
+/// Mends a field that was edited by hand, whose connections are perhaps refused 5 or 6, and gives the number of changes.
+///
+/// A connection stays exactly if it leads to a span that is there and is answered from it; every other becomes
+/// [`NO_CONNECTION`]. Each change is listed, in the order of spans and, for a span, of directions, as three numbers: the span,
+/// the direction (0 to 3) and the layer that was named. So `changes` has a third of its length in places, one or two numbers left
+/// over being none; [`changes_len`] is always enough. What is past the last change keeps what it held.
+///
+/// Afterwards the field is sound: none of 1 to 6 is given for its lists any more. A sound field comes back as it was, with no
+/// change.
+///
+/// ```
+/// use gussetraft::{build_distance_field, changes_len, mend, Edited, Field, Refusal, NO_CONNECTION};
+///
+/// // Three cells in a row, joined; then a script deleted the last span.
+/// let (index, count, area) = ([0, 1, 2], [1, 1, 0], [1, 1]);
+/// let mut con = [255, 255, 0, 255, 0, 255, 0, 255];
+/// let field = Field { w: 3, h: 1, index: &index, count: &count, area: &area, con: &con };
+/// let (mut raw, mut blurred) = ([0; 2], [0; 2]);
+/// let refused = build_distance_field(&field, &mut raw, &mut blurred);
+/// assert_eq!(refused, Err(Refusal::WrongReach));
+///
+/// let mut changes = vec![0; changes_len(area.len())];
+/// let mut edited = Edited { w: 3, h: 1, index: &index, count: &count, area: &area, con: &mut con };
+/// let made = mend(&mut edited, &mut changes)?;
+///
+/// // Span 1 led to layer 0 in direction 2.
+/// assert_eq!(changes[..3 * made], [1, 2, 0]);
+/// assert_eq!(con[6], NO_CONNECTION);
+/// let field = Field { w: 3, h: 1, index: &index, count: &count, area: &area, con: &con };
+/// build_distance_field(&field, &mut raw, &mut blurred)?;
+/// # Ok::<(), Refusal>(())
+/// ```
+///
+/// # Errors
+///
+/// Refusals 1 to 4, and 27 exactly if there are more changes than places. Nothing is written then.
+pub fn mend(field: &mut Edited<'_>, changes: &mut [u16]) -> Result<usize, Refusal> {
+    let sides = (field.w, field.h);
+    let answer = sys::mend(
+        sides,
+        field.index,
+        field.count,
+        field.area,
+        field.con,
+        changes,
+    );
+    accepted(answer.refusal.try_into().unwrap_or(u16::MAX))?;
+    Ok(answer.count as usize)
 }
 
 /// No answer of libgussetraft.a but 0 and the numbers of [`Refusal`] is possible (that is proved).

@@ -1,4 +1,4 @@
-//! The two functions of libgussetraft.a (include/gussetraft.h). A slice is passed as a pointer and a number of elements.
+//! The functions of libgussetraft.a (include/gussetraft.h). A slice is passed as a pointer and a number of elements.
 
 use crate::{Field, Sizes};
 
@@ -13,6 +13,12 @@ pub struct RegionAnswer {
     pub refusal: u16,
     pub max_region: u16,
     pub overlaps: u16,
+}
+
+#[repr(C)]
+pub struct MendAnswer {
+    pub refusal: u32,
+    pub count: u32,
 }
 
 extern "C" {
@@ -55,6 +61,21 @@ extern "C" {
         ids: *mut u16,
         ids_len: usize,
     ) -> RegionAnswer;
+
+    fn gussetraft_mend(
+        w: u16,
+        h: u16,
+        index: *const u32,
+        index_len: usize,
+        count: *const u8,
+        count_len: usize,
+        area: *const u8,
+        area_len: usize,
+        con: *mut u8,
+        con_len: usize,
+        changes: *mut u16,
+        changes_len: usize,
+    ) -> MendAnswer;
 }
 
 pub fn distance_field(field: &Field<'_>, raw: &mut [u16], blurred: &mut [u16]) -> DistanceAnswer {
@@ -111,6 +132,33 @@ pub fn regions(
             workspace.len(),
             ids.as_mut_ptr(),
             ids.len(),
+        )
+    }
+}
+
+pub fn mend(
+    (w, h): (u16, u16),
+    index: &[u32],
+    count: &[u8],
+    area: &[u8],
+    con: &mut [u8],
+    changes: &mut [u16],
+) -> MendAnswer {
+    // SAFETY: as above.
+    unsafe {
+        gussetraft_mend(
+            w,
+            h,
+            index.as_ptr(),
+            index.len(),
+            count.as_ptr(),
+            count.len(),
+            area.as_ptr(),
+            area.len(),
+            con.as_mut_ptr(),
+            con.len(),
+            changes.as_mut_ptr(),
+            changes.len(),
         )
     }
 }

@@ -1,12 +1,15 @@
-//! Both functions held against the unchanged Rust: every number and every list, refused or not.
+//! The functions held against the unchanged Rust, and the mending against the model of document 02: every number and every list, refused or not.
 
-use gussetraft::{build_distance_field, build_regions, workspace_len, Refusal, Regions, Sizes};
+use gussetraft::{
+    build_distance_field, build_regions, changes_len, mend, workspace_len, Edited, Refusal,
+    Regions, Sizes,
+};
 use oracle::{
     damage::DAMAGES,
     field::{Field, Settings},
     file::{self, Limits},
     levels::{Size, KINDS},
-    refusals,
+    mending, refusals,
     rng::Rng,
     run,
 };
@@ -23,7 +26,7 @@ fn lent(field: &Field) -> gussetraft::Field<'_> {
 }
 
 fn refusal(refusal: refusals::Refusal) -> Refusal {
-    Refusal::from_number(refusal as u16).expect("the entries give 1 to 8")
+    Refusal::from_number(refusal as u16).expect("a number that the functions give")
 }
 
 /// A list that is no answer: what a refused call must leave as it is, and what any other must write over.
@@ -399,7 +402,7 @@ fn an_empty_field_takes_empty_lists() {
 
 #[test]
 fn a_refusal_names_its_number_and_meaning() {
-    for (number, refusal) in (1..).zip(Refusal::ALL) {
+    for (number, refusal) in (1..=8).chain([27]).zip(Refusal::ALL) {
         assert_eq!(refusal.number(), number);
         assert_eq!(Refusal::from_number(number), Some(refusal));
         assert_eq!(
@@ -407,7 +410,7 @@ fn a_refusal_names_its_number_and_meaning() {
             format!("refused {number}: {}", refusal.meaning())
         );
     }
-    for number in [0, 9, 20, 21, u16::MAX] {
+    for number in [0, 9, 20, 21, 26, 28, u16::MAX] {
         assert_eq!(Refusal::from_number(number), None);
     }
     assert_eq!(
@@ -439,4 +442,56 @@ fn the_workspace_of_too_many_spans_is_no_wrapped_number() {
     assert_eq!(workspace_len(0), 4_096);
     assert_eq!(workspace_len(32_000), 4_100_096);
     assert_eq!(workspace_len(usize::MAX), usize::MAX);
+}
+
+/// The mending, with a list of some length.
+fn check_mending(name: &str, field: &Field, len: usize) {
+    let before = scribbled(len);
+    let (mut con, mut changes) = (field.con.clone(), before.clone());
+    let mut edited = Edited {
+        w: field.w,
+        h: field.h,
+        index: &field.index,
+        count: &field.count,
+        area: &field.area,
+        con: &mut con,
+    };
+    let answer = mend(&mut edited, &mut changes);
+    match mending::mend(field, len / 3) {
+        Ok(expected) => {
+            assert_eq!(answer, Ok(expected.changes.len()), "{name}");
+            assert_eq!(con, expected.con, "{name}");
+            let mut listed = expected.numbers();
+            listed.extend(&before[listed.len()..]);
+            same(name, "changes", &changes, &listed);
+        }
+        Err(expected) => {
+            assert_eq!(answer, Err(refusal(expected)), "{name}");
+            assert_eq!(con, field.con, "{name}");
+            same(name, "changes", &changes, &before);
+        }
+    }
+}
+
+#[test]
+fn edited_fields_are_mended() {
+    let mut rng = Rng::new(27);
+    for kind in &KINDS {
+        for seed in 0..100 {
+            let name = format!("{} {seed}", kind.name);
+            let mut field = kind.make(Size::Small, seed).field;
+            check_mending(&name, &field, 0);
+            for _ in 0..rng.within(1..=6) {
+                let n = field.spans();
+                if n > 0 {
+                    field.con[rng.within(0..=4 * n - 1)] = rng.pick(&[0, 1, 63, 254, 255]);
+                }
+            }
+            for len in [0, 2, 3, 5, 6, 11, changes_len(field.spans())] {
+                check_mending(&name, &field, len);
+            }
+            field.con.pop();
+            check_mending(&name, &field, 3);
+        }
+    }
 }

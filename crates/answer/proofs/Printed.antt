@@ -34,7 +34,7 @@ use Rattle.watershed.specs.declared.DistanceAnswer.{DistanceAnswer}
 use Rattle.watershed.specs.declared.DistanceAnswer.the-variants as distance
 use Rattle.watershed.specs.declared.regions.RegionAnswer.{RegionAnswer}
 use Rattle.watershed.specs.declared.regions.RegionAnswer.the-variants as region
-use Rattle.watershed.proofs.Outcome.{number-pos}
+use Rattle.checker.proofs.Numbers.{number-pos}
 use Rattle.answer.specs.Answers.{Fitting, second}
 
 -- the listing of a field is that of its cells, ids and numbers

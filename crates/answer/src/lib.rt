@@ -1,7 +1,8 @@
 // From the bytes of a field file to the bytes that are printed for it.
+use checker::refusal_number;
 use file::read::FileReading;
-use file::read::FileRefusal;
 use file::read::Header;
+use file::read::file_number;
 use file::read::read_file;
 use file::write::write_listing;
 use file::write::write_refused;
@@ -9,26 +10,14 @@ use watershed::DistanceAnswer;
 use watershed::RegionAnswer;
 use watershed::build_distance_field;
 use watershed::build_regions;
-use watershed::refusal_number;
-ghost use mathlib.Core.Path.{_≡_};
 ghost use Prim.Native.Nat.{_*_, _≤_};
 ghost use lib.ListN.{length};
 ghost use Rattle.rules.specs.Listing.{ran, printed};
 ghost use Rattle.field.specs.Lent.{lent};
-ghost use Rattle.file.specs.Reads.{Few, Lists, fileNumber, first, sizesOf};
+ghost use Rattle.file.specs.Reads.{Few, Lists, first, sizesOf};
 ghost use Rattle.file.specs.declared.read.FileReading.the-variants.{Described};
 ghost use Rattle.file.specs.Shown.{Prints};
 ghost use Rattle.answer.specs.Answers.{Buffers, Fitting, Own, second};
-
-// Document 01's number of a file's refusal.
-fn file_number(r: FileRefusal) -> u16
-    ensures { λ k. ⌜ k ≡ fileNumber r ⌝ }
-{
-    match r {
-        FileRefusal::Malformed => 20,
-        FileRefusal::TooLarge => 21,
-    }
-}
 
 // The region entry, and its answer printed.
 fn print_regions(

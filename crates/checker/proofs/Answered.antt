@@ -16,11 +16,12 @@ use mir.Syntax.{w64}
 use Rattle.rules.specs.Base.{_and_, _or_, every}
 use Rattle.rules.specs.Field.{Field, spans, cellOf, cellTo, leaves, conOf, near}
 use Rattle.rules.specs.Refusals.{goodCon, goodBack}
+use Rattle.rules.specs.Mend.{stays}
 use Rattle.laws.proofs.Basics.{both, in-list, getD-any}
 use Rattle.laws.proofs.Cells.{near-none, near-is}
 use Rattle.laws.proofs.Passes.{across-in}
 use Rattle.field.specs.Lent.{Stands, Celled, consAt, lent}
-use Rattle.checker.specs.Links.{Inner, Column, innerAt, goodLink, halfAt, inCell, inRow}
+use Rattle.checker.specs.Links.{Inner, Column, innerAt, halfAt, inCell, inRow}
 use Rattle.field.proofs.Loops.{every-rows, every-halt, every-end}
 use Rattle.field.proofs.Places.{room-left, room-up, layer-stands, cell-is, con-at, turned}
 use Rattle.checker.proofs.Checks.{flip, every-cells}
@@ -53,8 +54,8 @@ module _ (w h : ℕ) (is ks ar cs : List ℕ) (ok : Celled (lent w h is ks ar cs
   here : Stands (lent w h is ks ar cs) c (getD is c 0 + j)
   here = layer-stands (lent w h is ks ar cs) ok c j g
 
-  pub link-none : k ≡ 255 → true ≡ goodLink (lent w h is ks ar cs) (getD is c 0 + j) d
-  unfolding goodLink goodCon goodBack _or_ _and_
+  pub link-none : k ≡ 255 → true ≡ stays (lent w h is ks ar cs) (getD is c 0 + j) d
+  unfolding stays goodCon goodBack _or_ _and_
   link-none z = rw (← e, z)
 
   link-cell : c < w * h
@@ -64,8 +65,8 @@ module _ (w h : ℕ) (is ks ar cs : List ℕ) (ok : Celled (lent w h is ks ar cs
   link-small = omega (arith, link-cell, ok .grid)
 
   -- a way out of the grid is none
-  pub link-out : (r : Bool) → r ≡ not (leaves w h c d) → r ≡ false → eqb k 255 ≡ goodLink (lent w h is ks ar cs) (getD is c 0 + j) d
-  unfolding goodLink goodCon _or_ _and_
+  pub link-out : (r : Bool) → r ≡ not (leaves w h c d) → r ≡ false → eqb k 255 ≡ stays (lent w h is ks ar cs) (getD is c 0 + j) d
+  unfolding stays goodCon _or_ _and_
   link-out r i z =
       elim (ℕ-discrete k 255) [ yes q ↦ eq-eqb k 255 q ∙ link-none q | no q ↦ rw (← e, ne-eqb k 255 q, here .cell, ← i, z) ]
 
@@ -81,8 +82,8 @@ module _ (w h : ℕ) (is ks ar cs : List ℕ) (ok : Celled (lent w h is ks ar cs
     link-indexed = omega (arith, link-in, ok .indexed)
 
     -- and lacks the layer
-    pub link-over : getD ks a 0 ≤ k → false ≡ goodLink (lent w h is ks ar cs) (getD is c 0 + j) d
-    unfolding goodLink goodCon _or_ _and_
+    pub link-over : getD ks a 0 ≤ k → false ≡ stays (lent w h is ks ar cs) (getD is c 0 + j) d
+    unfolding stays goodCon _or_ _and_
     link-over m = rw (← e, ne-eqb k 255 n, here .cell, i, ← p, le-ltb k (getD ks a 0) m)
 
     -- or has it, as span t
@@ -115,8 +116,8 @@ module _ (w h : ℕ) (is ks ar cs : List ℕ) (ok : Celled (lent w h is ks ar cs
       unfolding conOf
       read-con = getD-any cs (4 * t + (d + 2) % 4) 0 255 (link-room 2)
 
-      pub link-back : eqb (getD cs (4 * t + (d + 2) % 4) 0) j ≡ goodLink (lent w h is ks ar cs) (getD is c 0 + j) d
-      unfolding goodLink goodCon goodBack _or_ _and_
+      pub link-back : eqb (getD cs (4 * t + (d + 2) % 4) 0) j ≡ stays (lent w h is ks ar cs) (getD is c 0 + j) d
+      unfolding stays goodCon goodBack _or_ _and_
       link-back =
           rw (← e, ne-eqb k 255 n, here .cell, i, ← p, lt-ltb k (getD ks a 0) m, leads-to)
           (answer (getD cs (4 * t + (d + 2) % 4) 0) read-con)
@@ -138,11 +139,11 @@ module _ (s t : ℕ) (e : s ≡ t) where
   pub span-link : (F : Field) (r : Bool) → r ≡ halfAt F t → r ≡ halfAt F s
   span-link F r f = rw e f
 
-pub span-halt : (F : Field) (s : ℕ) (r : Bool) → r ≡ goodLink F s 0 → r ≡ false → false ≡ halfAt F s
+pub span-halt : (F : Field) (s : ℕ) (r : Bool) → r ≡ stays F s 0 → r ≡ false → false ≡ halfAt F s
 unfolding halfAt _and_
 span-halt F s r e z = rw (← e, z)
 
-pub span-end : (F : Field) (s : ℕ) (r₀ r₁ : Bool) → r₀ ≡ goodLink F s 0 → r₀ ≡ true → r₁ ≡ goodLink F s 1 → r₁ ≡ halfAt F s
+pub span-end : (F : Field) (s : ℕ) (r₀ r₁ : Bool) → r₀ ≡ stays F s 0 → r₀ ≡ true → r₁ ≡ stays F s 1 → r₁ ≡ halfAt F s
 unfolding halfAt _and_
 span-end F s r₀ r₁ e₀ z₀ e₁ = rw (← e₀, z₀, ← e₁)
 

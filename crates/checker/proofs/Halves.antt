@@ -2,7 +2,7 @@
 -- So if no more spans have a connection the other way, each of these is an answer, and is itself answered by the connection that asked.
 use Prim.Native.Nat.{ℕ, zero, suc, _+_, _*_, _-_, _/_, _%_, _≤_, _<_}
 use native.Mathlib.Omega.{arith}
-use native.Mathlib.Nat.{mod-lt, div-add-mod', suc-mul}
+use native.Mathlib.Nat.{mod-lt, div-add-mod', div-lt-iff-lt-mul, mul-comm, suc-mul}
 use native.Mathlib.Numerals.{add-one}
 use native.Mathlib.Decide.{ℕ-discrete}
 use lib.Arith.{digits-div, digits-mod}
@@ -10,15 +10,16 @@ use mathlib.Core.Path.{_≡_, refl, sym, ap, _∙_}
 use mathlib.Core.Bool.{Bool, true, false, not, true≢false}
 use lib.ListN.{length, getD}
 use lib.Dec.{eqb}
-use borrow.Author.Tests.{eq-eqb, ne-eqb, eqb-true, eqb-false, lt-ltb, ltb-true, lt-leb, not-true, not-false}
+use borrow.Author.Tests.{eq-eqb, ne-eqb, eqb-true, eqb-false, lt-ltb, ltb-true, leb-false, lt-leb, not-true, not-false}
 use Rattle.rules.specs.Base.{_and_, _or_, if_then_else_, every}
 use Rattle.rules.specs.Field.{Field, spans, cellOf, cellTo, leaves, conOf, near}
 use Rattle.rules.specs.Refusals.{goodCon, goodBack}
+use Rattle.rules.specs.Mend.{stays}
 use Rattle.laws.proofs.Basics.{both, either, and-no, and-both, same-test, if-ind, every-at, every-all}
 use Rattle.laws.proofs.Cells.{cellOf-in, near-none, near-is}
 use Rattle.laws.proofs.Passes.{wide-pos}
 use Rattle.field.specs.Lent.{Stands, Celled}
-use Rattle.checker.specs.Links.{reachAt, backAt, goodLink, halfAt, howMany, linksIn}
+use Rattle.checker.specs.Links.{reachAt, backAt, halfAt, howMany, linksIn}
 use Rattle.field.proofs.Loops.{and-yes, every-ext, every-and}
 use Rattle.field.proofs.Places.{layer-stands, cell-is, sum-is, stands-in}
 use Rattle.checker.proofs.Answered.{there-back}
@@ -92,28 +93,28 @@ abbrev ways : Field → ℕ → ℕ
 ways F d = howMany (spans F) (hasLink F d)
 
 -- span s has a connection in direction d, which is answered
-module _ (F : Field) (ok : Celled F) (s d : ℕ) (h : s < spans F) (l : d < 4) (e : hasLink F d s ≡ true) (g : goodLink F s d ≡ true) where
+module _ (F : Field) (ok : Celled F) (s d : ℕ) (h : s < spans F) (l : d < 4) (e : hasLink F d s ≡ true) (g : stays F s d ≡ true) where
   some-con : conOf F s d ≡ 255 → ⊥
   unfolding hasLink
   some-con = eqb-false _ _ (not-true _ e)
 
   leads-in : (leaves (F .w) (F .h) (cellOf (F .count) s) d ≡ false) × (conOf F s d < getD (F .count) (cellTo (F .w) (cellOf (F .count) s) d) 0)
-  unfolding goodLink goodCon
+  unfolding stays goodCon
   leads-in =
       either _ _ _ (both _ _ g .0)
       (λ z. absurd (some-con (eqb-true _ _ z)))
       (λ z. let b = both _ _ z in (not-true _ (b .0), ltb-true _ _ (b .1)))
 
   -- to a span of the cell across
-  stands-there : Stands F (cellTo (F .w) (cellOf (F .count) s) d) (near F s d)
+  pub stands-there : Stands F (cellTo (F .w) (cellOf (F .count) s) d) (near F s d)
   stands-there = rw (near-is F s d some-con) (layer-stands F ok (cellTo (F .w) (cellOf (F .count) s) d) (conOf F s d) (leads-in .1))
 
   -- which leads back
-  leads-back : near F (near F s d) ((d + 2) % 4) ≡ s
-  unfolding goodLink goodBack
+  pub leads-back : near F (near F s d) ((d + 2) % 4) ≡ s
+  unfolding stays goodBack
   leads-back = either _ _ _ (both _ _ g .1) (λ z. absurd (some-con (eqb-true _ _ z))) (λ z. eqb-true _ _ z)
 
-  answer-some : conOf F (near F s d) ((d + 2) % 4) ≡ 255 → ⊥
+  pub answer-some : conOf F (near F s d) ((d + 2) % 4) ≡ 255 → ⊥
   answer-some z = omega (arith, near-none F (near F s d) ((d + 2) % 4) z, leads-back, ok .few)
 
   answers : hasLink F ((d + 2) % 4) (near F s d) ≡ true
@@ -121,7 +122,7 @@ module _ (F : Field) (ok : Celled F) (s d : ℕ) (h : s < spans F) (l : d < 4) (
   answers = rw (ne-eqb _ _ answer-some)
 
 -- each connection in direction d is answered
-module _ (F : Field) (ok : Celled F) (d : ℕ) (l : d < 4) (a : every (spans F) (λ s. goodLink F s d) ≡ true) where
+module _ (F : Field) (ok : Celled F) (d : ℕ) (l : d < 4) (a : every (spans F) (λ s. stays F s d) ≡ true) where
   asks : Takes (spans F) (spans F) (hasLink F d) (hasLink F ((d + 2) % 4)) (λ s. near F s d)
   asks =
       record {
@@ -137,7 +138,7 @@ module _ (F : Field) (ok : Celled F) (d : ℕ) (l : d < 4) (a : every (spans F) 
 -- ---------------------------------------------------------------- an answer is answered
 
 -- the way back does not leave the grid
-back-in : (w h c d : ℕ) → c < w * h → d < 2 → leaves w h c d ≡ false → leaves w h (cellTo w c d) ((d + 2) % 4) ≡ false
+back-in : (w h c d : ℕ) → c < w * h → d < 4 → leaves w h c d ≡ false → leaves w h (cellTo w c d) ((d + 2) % 4) ≡ false
 unfolding leaves cellTo
 back-in w h c zero g l e =
     let p = mod-lt c (wide-pos w h c g) in
@@ -151,7 +152,21 @@ back-in w h c (suc zero) g l e =
     let q : c + w ≡ (c / w + 1) * w + c % w = omega (arith, div-add-mod' c w) in
     let r : (c + w) / w ≡ c / w + 1 = ap (λ (x : ℕ). x / w) q ∙ digits-div (c / w + 1) p in
     ne-eqb ((c + w) / w) 0 (λ z. omega arith)
-back-in w h c (suc (suc d)) g l e = absurd (omega arith)
+back-in w h c (suc (suc zero)) g l e =
+    let f : c % w + 1 < w = leb-false _ _ e in
+    let q : c + 1 ≡ c / w * w + (c % w + 1) = omega (arith, div-add-mod' c w) in
+    let r : (c + 1) % w ≡ c % w + 1 = ap (λ (x : ℕ). x % w) q ∙ digits-mod (c / w) f in
+    ne-eqb ((c + 1) % w) 0 (λ z. omega arith)
+back-in w h c (suc (suc (suc zero))) g l e =
+    let p = mod-lt c (wide-pos w h c g) in
+    let f : (c / w ≡ 0) → ⊥ = eqb-false _ _ e in
+    let k : suc (c / w - 1) ≡ c / w = omega arith in
+    let y : c / w * w ≡ (c / w - 1) * w + w = rw k at (suc-mul (c / w - 1) w) in
+    let q : c - w ≡ (c / w - 1) * w + c % w = omega (arith, div-add-mod' c w) in
+    let r : (c - w) / w ≡ c / w - 1 = ap (λ (x : ℕ). x / w) q ∙ digits-div (c / w - 1) p in
+    let y : c / w < h = div-lt-iff-lt-mul (wide-pos w h c g) .1 (rw (mul-comm h w) g) in
+    lt-leb h ((c - w) / w + 1) (omega arith)
+back-in w h c (suc (suc (suc (suc d)))) g l e = absurd (omega arith)
 
 -- a span is a layer of its cell
 layer-of : (F : Field) → Celled F → (s k : ℕ) → s < spans F → getD (F .index) (cellOf (F .count) s) 0 + k ≡ s → k < getD (F .count) (cellOf (F .count) s) 0
@@ -160,85 +175,84 @@ layer-of F ok s k h e =
     omega (arith, r .0, r .1, cell-is F ok (cellOf (F .count) s) .starts (omega arith))
 
 -- so that the answer is good: it stays in the grid, names a layer, and is answered
-module _ (F : Field) (ok : Celled F) (s d : ℕ) (h : s < spans F) (l : d < 2) (e : hasLink F d s ≡ true) (g : goodLink F s d ≡ true) where
-  l4 : d < 4
-  l4 = omega arith
-
+module _ (F : Field) (ok : Celled F) (s d : ℕ) (h : s < spans F) (l : d < 4) (e : hasLink F d s ≡ true) (g : stays F s d ≡ true) where
   out-in : leaves (F .w) (F .h) (cellOf (F .count) s) d ≡ false
-  out-in = leads-in F ok s d h l4 e g .0
+  out-in = leads-in F ok s d h l e g .0
 
   -- the cell that it stands in, seen from there
   home : cellTo (F .w) (cellOf (F .count) (near F s d)) ((d + 2) % 4) ≡ cellOf (F .count) s
-  home = rw (stands-there F ok s d h l4 e g .cell) (there-back (F .w) (F .h) (cellOf (F .count) s) d out-in l4)
+  home = rw (stands-there F ok s d h l e g .cell) (there-back (F .w) (F .h) (cellOf (F .count) s) d out-in l)
 
   answer-in : leaves (F .w) (F .h) (cellOf (F .count) (near F s d)) ((d + 2) % 4) ≡ false
   answer-in =
-      rw (stands-there F ok s d h l4 e g .cell)
+      rw (stands-there F ok s d h l e g .cell)
       (back-in (F .w) (F .h) (cellOf (F .count) s) d (stands-in F ok (cellOf (F .count) s) s (record { span = h; cell = refl })) l out-in)
 
   answer-layer : conOf F (near F s d) ((d + 2) % 4) < getD (F .count) (cellOf (F .count) s) 0
   answer-layer =
       layer-of F ok s (conOf F (near F s d) ((d + 2) % 4)) h
-      (rw (← home) (sym (near-is F (near F s d) ((d + 2) % 4) (answer-some F ok s d h l4 e g)) ∙ leads-back F ok s d h l4 e g))
+      (rw (← home) (sym (near-is F (near F s d) ((d + 2) % 4) (answer-some F ok s d h l e g)) ∙ leads-back F ok s d h l e g))
 
-  answer-good : goodLink F (near F s d) ((d + 2) % 4) ≡ true
-  unfolding goodLink goodCon goodBack _or_ _and_
+  pub answer-good : stays F (near F s d) ((d + 2) % 4) ≡ true
+  unfolding stays goodCon goodBack _or_ _and_
   answer-good =
-      rw (ne-eqb _ _ (answer-some F ok s d h l4 e g), answer-in, home, lt-ltb _ _ answer-layer, leads-back F ok s d h l4 e g)
+      rw (ne-eqb _ _ (answer-some F ok s d h l e g), answer-in, home, lt-ltb _ _ answer-layer, leads-back F ok s d h l e g)
       (eq-eqb _ _ (ap (near F s) (turn-back d l)))
     where
-      turn-back : (d : ℕ) → d < 2 → ((d + 2) % 4 + 2) % 4 ≡ d
+      turn-back : (d : ℕ) → d < 4 → ((d + 2) % 4 + 2) % 4 ≡ d
       turn-back zero k = refl
       turn-back (suc zero) k = refl
-      turn-back (suc (suc d)) k = absurd (omega arith)
+      turn-back (suc (suc zero)) k = refl
+      turn-back (suc (suc (suc zero))) k = refl
+      turn-back (suc (suc (suc (suc d)))) k = absurd (omega arith)
 
 -- a span with no connection passes
-none-good : (F : Field) (s d : ℕ) → hasLink F d s ≡ false → goodLink F s d ≡ true
-unfolding hasLink goodLink goodCon goodBack _or_ _and_
+none-good : (F : Field) (s d : ℕ) → hasLink F d s ≡ false → stays F s d ≡ true
+unfolding hasLink stays goodCon goodBack _or_ _and_
 none-good F s d e = let z : eqb (conOf F s d) 255 ≡ true = not-false _ e in rw z
 
 -- where no more than those have a connection the other way, each of these is an answer
-module _ (F : Field) (ok : Celled F) (d : ℕ) (l : d < 2) (a : every (spans F) (λ s. goodLink F s d) ≡ true)
+module _ (F : Field) (ok : Celled F) (d : ℕ) (l : d < 4) (a : every (spans F) (λ s. stays F s d) ≡ true)
     (m : ways F ((d + 2) % 4) ≤ ways F d) where
-  half-fits : every (spans F) (λ s. goodLink F s ((d + 2) % 4)) ≡ true
+  half-fits : every (spans F) (λ s. stays F s ((d + 2) % 4)) ≡ true
   half-fits = every-all _ _ (λ t h. good t h _ _ refl refl)
     where
-      good : (t : ℕ) → t < spans F → (b c : Bool) → hasLink F ((d + 2) % 4) t ≡ b → goodLink F t ((d + 2) % 4) ≡ c → c ≡ true
+      good : (t : ℕ) → t < spans F → (b c : Bool) → hasLink F ((d + 2) % 4) t ≡ b → stays F t ((d + 2) % 4) ≡ c → c ≡ true
       good t h b true e f = refl
       good t h false false e f = absurd (true≢false (sym (none-good F t ((d + 2) % 4) e) ∙ f))
       good t h true false e f =
-          absurd (many-onto _ _ _ _ _ (asks F ok d (omega arith) a) m t h e
-          (λ s k g z. true≢false (sym (answer-good F ok s d k l g (every-at _ _ a s k)) ∙ ap (λ (x : ℕ). goodLink F x ((d + 2) % 4)) z ∙ f)))
+          absurd (many-onto _ _ _ _ _ (asks F ok d l a) m t h e
+          (λ s k g z. true≢false (sym (answer-good F ok s d k l g (every-at _ _ a s k)) ∙ ap (λ (x : ℕ). stays F x ((d + 2) % 4)) z ∙ f)))
 
 -- ---------------------------------------------------------------- the four directions by two of them and the numbers
 
 -- both refusals of one span
 unfoldable linkAt : Field → ℕ → Bool
-linkAt F s = every 4 (goodLink F s)
+linkAt F s = every 4 (stays F s)
 
 module _ (F : Field) (ok : Celled F) where
   -- one direction of what holds of all
-  one-way : (d : ℕ) → d < 4 → every (spans F) (linkAt F) ≡ true → every (spans F) (λ s. goodLink F s d) ≡ true
+  one-way : (d : ℕ) → d < 4 → every (spans F) (linkAt F) ≡ true → every (spans F) (λ s. stays F s d) ≡ true
   unfolding linkAt
-  one-way d l a = every-all _ _ (λ s h. every-at 4 (goodLink F s) (every-at _ _ a s h) d l)
+  one-way d l a = every-all _ _ (λ s h. every-at 4 (stays F s) (every-at _ _ a s h) d l)
 
   halves-of : every (spans F) (linkAt F) ≡ true → every (spans F) (halfAt F) ≡ true
   unfolding halfAt
   halves-of a =
       every-all _ _ (λ s h. and-both _ _ (every-at _ _ (one-way 0 (omega arith) a) s h) (every-at _ _ (one-way 1 (omega arith) a) s h))
 
-  four-ways : every (spans F) (λ s. goodLink F s 0) ≡ true → every (spans F) (λ s. goodLink F s 1) ≡ true
-      → every (spans F) (λ s. goodLink F s 2) ≡ true → every (spans F) (λ s. goodLink F s 3) ≡ true → every (spans F) (linkAt F) ≡ true
+  four-ways : every (spans F) (λ s. stays F s 0) ≡ true → every (spans F) (λ s. stays F s 1) ≡ true
+      → every (spans F) (λ s. stays F s 2) ≡ true → every (spans F) (λ s. stays F s 3) ≡ true → every (spans F) (linkAt F) ≡ true
   unfolding linkAt every _and_
   four-ways a b c e =
       every-all (spans F) (linkAt F) (λ s h. rw (every-at _ _ a s h, every-at _ _ b s h, every-at _ _ c s h) (every-at _ _ e s h))
 
   module _ (a : every (spans F) (halfAt F) ≡ true) where
-    half-0 : every (spans F) (λ s. goodLink F s 0) ≡ true
+    half-0 : every (spans F) (λ s. stays F s 0) ≡ true
     unfolding halfAt
     half-0 = every-all _ _ (λ s h. both _ _ (every-at _ _ a s h) .0)
 
-    half-1 : every (spans F) (λ s. goodLink F s 1) ≡ true
+    half-1 : every (spans F) (λ s. stays F s 1) ≡ true
     unfolding halfAt
     half-1 = every-all _ _ (λ s h. both _ _ (every-at _ _ a s h) .1)
 
@@ -265,7 +279,7 @@ module _ (F : Field) (ok : Celled F) where
 
   -- both refusals of every span
   all-links : every (spans F) (linkAt F) ≡ every (spans F) (reachAt F) and every (spans F) (backAt F)
-  unfolding linkAt goodLink reachAt backAt
+  unfolding linkAt stays reachAt backAt
   all-links =
       every-ext (spans F) (linkAt F) (λ s. reachAt F s and backAt F s) (λ s _. every-and 4 (goodCon F s) (goodBack F s))
       ∙ every-and (spans F) (reachAt F) (backAt F)

@@ -3,3 +3,4 @@ pub mod Answered
 pub mod Refused
 pub mod Counted
 pub mod Halves
+pub mod Numbers

@@ -8,6 +8,7 @@ use lib.Dec.{leb, ltb, eqb}
 use Rattle.rules.specs.Base.{_and_, _or_, if_then_else_, every}
 use Rattle.rules.specs.Field.{Field, cellTo, leaves}
 use Rattle.rules.specs.Refusals.{goodCon, goodBack}
+use Rattle.rules.specs.Mend.{stays}
 use Rattle.field.specs.Lent.{Celled}
 
 -- the span in layer j of cell c
@@ -33,13 +34,9 @@ reachAt F s = every 4 (goodCon F s)
 unfoldable pub backAt : Field → ℕ → Bool
 backAt F s = every 4 (goodBack F s)
 
--- both of one connection
-unfoldable pub goodLink : Field → ℕ → ℕ → Bool
-goodLink F s d = goodCon F s d and goodBack F s d
-
 -- of a span, the half that the walk asks
 unfoldable pub halfAt : Field → ℕ → Bool
-halfAt F s = goodLink F s 0 and goodLink F s 1
+halfAt F s = stays F s 0 and stays F s 1
 
 -- how many numbers below n p holds of
 unfoldable pub howMany : ℕ → (ℕ → Bool) → ℕ

@@ -1,7 +1,7 @@
 // The refusals 1 to 6 in their order: each over the whole field before the next.
 mod cells;
-mod links;
-mod reach;
+pub mod links;
+pub mod reach;
 mod tally;
 
 use crate::cells::cells_ok;
@@ -14,7 +14,7 @@ ghost use Prim.Native.Nat.{_≤_};
 ghost use lib.ListN.{length};
 ghost use Rattle.rules.specs.Refusals.{refusal, wrongLength};
 ghost use Rattle.field.specs.Lent.{lent};
-ghost use Rattle.checker.specs.Answer.{verdictNumber};
+ghost use Rattle.checker.specs.Answer.{numberOf, verdictNumber};
 
 // Document 01's table of refusals. The last two are the region entry's.
 pub enum Refusal {
@@ -26,6 +26,22 @@ pub enum Refusal {
     WrongBack,
     TooShort,
     TooFar,
+}
+
+// Document 01's number of a refusal.
+pub fn refusal_number(r: Refusal) -> u16
+    ensures { λ k. ⌜ k ≡ numberOf r ⌝ }
+{
+    match r {
+        Refusal::TooWide => 1,
+        Refusal::TooMany => 2,
+        Refusal::WrongLength => 3,
+        Refusal::WrongCells => 4,
+        Refusal::WrongReach => 5,
+        Refusal::WrongBack => 6,
+        Refusal::TooShort => 7,
+        Refusal::TooFar => 8,
+    }
 }
 
 pub enum Verdict {

@@ -15,8 +15,9 @@ ghost use mathlib.Core.Bool.{false, not};
 ghost use Prim.Native.Nat.{_+_, _*_, _<_};
 ghost use Rattle.rules.specs.Base.{_and_, every};
 ghost use Rattle.rules.specs.Field.{spans, leaves, conOf};
+ghost use Rattle.rules.specs.Mend.{stays};
 ghost use Rattle.field.specs.Lent.{lent, Celled, consAt};
-ghost use Rattle.checker.specs.Links.{spanIn, Layered, Inner, Column, innerAt, goodLink, halfAt, reachAt, backAt, inCell, inRow};
+ghost use Rattle.checker.specs.Links.{spanIn, Layered, Inner, Column, innerAt, halfAt, reachAt, backAt, inCell, inRow};
 
 // The connection k of the span in layer j of cell c, in a direction d that does not leave the grid, is none, or leads to a span that leads back.
 fn link_ok(
@@ -34,7 +35,7 @@ fn link_ok(
     requires { ⌜ (let F = lent w h (now index) (now count) (now area) (now con) in
         Layered F c (j .0) × (k .0 ≡ conOf F (spanIn F c (j .0)) d) × (d < 4) × (leaves w h c d ≡ false)) ⌝ }
     ensures { λ r. ⌜ (let F = lent w h (now (index .entry)) (now (count .entry)) (now (area .entry)) (now (con .entry)) in
-        r ≡ goodLink F (spanIn F c (j .0)) d) ⌝ }
+        r ≡ stays F (spanIn F c (j .0)) d) ⌝ }
 {
     if k.0 == NO_LAYER {
         return true;
@@ -49,7 +50,7 @@ fn link_ok(
 }
 
 // The same in any direction; inside: it does not leave the grid.
-fn side_ok(
+pub fn side_ok(
     w: usize,
     h: usize,
     index: &[u32],
@@ -65,7 +66,7 @@ fn side_ok(
     requires { ⌜ (let F = lent w h (now index) (now count) (now area) (now con) in
         Layered F c (j .0) × (k .0 ≡ conOf F (spanIn F c (j .0)) d) × (d < 4) × (inside ≡ not (leaves w h c d))) ⌝ }
     ensures { λ r. ⌜ (let F = lent w h (now (index .entry)) (now (count .entry)) (now (area .entry)) (now (con .entry)) in
-        r ≡ goodLink F (spanIn F c (j .0)) d) ⌝ }
+        r ≡ stays F (spanIn F c (j .0)) d) ⌝ }
 {
     if inside {
         return link_ok(w, h, index, count, area, con, c, j, k, d);

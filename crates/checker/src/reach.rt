@@ -15,7 +15,7 @@ ghost use Rattle.field.specs.Lent.{lent, Celled};
 ghost use Rattle.checker.specs.Links.{names, namesAt, reachAt, inCell};
 
 // There is no cell across.
-fn leaves_grid(w: usize, h: usize, c: usize, d: usize) -> bool
+pub fn leaves_grid(w: usize, h: usize, c: usize, d: usize) -> bool
     requires { ⌜ (0 < w) × (c < 65536) × (d < 4) ⌝ }
     ensures { λ r. ⌜ r ≡ leaves w h c d ⌝ }
 {

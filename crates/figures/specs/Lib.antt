@@ -2,3 +2,4 @@
 pub mod Figures
 pub mod Refused
 pub mod Printed
+pub mod Mended

@@ -5,12 +5,22 @@ ghost use mathlib.Core.Path.{_≡_};
 ghost use Prim.Native.Nat.{_+_, _-_, _*_, _≤_, _<_};
 ghost use lib.ListN.{length};
 ghost use Rattle.rules.specs.File.{word};
-ghost use Rattle.file.specs.Reads.{Lists, Standing, SpanTurned, CellTurned, EndTurned, Turned, Headed, Reads};
+ghost use Rattle.file.specs.Reads.{fileNumber, Lists, Standing, SpanTurned, CellTurned, EndTurned, Turned, Headed, Reads};
 
 // Document 01's refusals of a file.
 pub enum FileRefusal {
     Malformed,
     TooLarge,
+}
+
+// Document 01's number of a file's refusal.
+pub fn file_number(r: FileRefusal) -> u16
+    ensures { λ k. ⌜ k ≡ fileNumber r ⌝ }
+{
+    match r {
+        FileRefusal::Malformed => 20,
+        FileRefusal::TooLarge => 21,
+    }
 }
 
 // The numbers of a file's header.

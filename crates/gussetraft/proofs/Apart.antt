@@ -1,14 +1,18 @@
--- The region entry's answer, taken apart into numbers, is the outcome:
+-- An entry's answer, taken apart into numbers, is the outcome:
 -- each number is that of the answer, and the answer's is the outcome's.
 use Prim.Native.Nat.{ℕ}
-use mathlib.Core.Path.{_≡_, sym, _∙_}
+use mathlib.Core.Path.{_≡_, sym, ap, _∙_}
 use mathlib.Core.List.{List}
 use Rattle.rules.specs.Field.{Field}
 use Rattle.rules.specs.Outcomes.{RegionOutcome}
+use Rattle.rules.specs.Mend.{MendOutcome}
 use Rattle.watershed.specs.declared.regions.RegionAnswer.{RegionAnswer}
 use Rattle.watershed.specs.Answer.{regionsRefusedBy, maxRegionIn, overlapsIn, AnswersRegions, GivesRooms}
+use Rattle.mend.specs.declared.MendAnswer.{MendAnswer}
+use Rattle.mend.specs.Answer.{mendRefusedBy, changesIn, outcome}
 use Rattle.gussetraft.specs.declared.Regions.{Regions}
-use Rattle.gussetraft.specs.Exported.{GivesRegions, LeavesRooms}
+use Rattle.gussetraft.specs.declared.Mending.{Mending}
+use Rattle.gussetraft.specs.Exported.{GivesRegions, LeavesRooms, GivesMending}
 
 pub gives-regions : (o : RegionOutcome) (a : RegionAnswer) (r : Regions) (ws ids : List ℕ) → AnswersRegions o a ws ids
     → r .refusal ≡ regionsRefusedBy a → r .«max_region» ≡ maxRegionIn a → r .overlaps ≡ overlapsIn a → GivesRegions o r ws ids
@@ -18,3 +22,13 @@ gives-regions o a r ws ids p e f g =
 pub leaves-rooms : (F : Field) (border : ℕ) (a : RegionAnswer) (r : Regions) (ids : List ℕ) → GivesRooms F border a ids
     → r .refusal ≡ regionsRefusedBy a → r .«max_region» ≡ maxRegionIn a → LeavesRooms F border r ids
 leaves-rooms F border a r ids g e f = record { rooms = λ z. rw f (g .rooms (sym e ∙ z)) }
+
+pub gives-mending : (o : MendOutcome) (a : MendAnswer) (r : Mending) (con changes : List ℕ) → outcome a con changes ≡ o
+    → r .refusal ≡ mendRefusedBy a → r .count ≡ changesIn a → GivesMending o r con changes
+gives-mending o a r con changes p e f =
+    record {
+      refusal = e ∙ ap (λ v. v .refused) p;
+      many = f ∙ ap (λ v. v .count) p;
+      left = ap (λ v. v .con) p;
+      listed = ap (λ v. v .changes) p;
+    }

@@ -4,9 +4,11 @@ use Prim.Native.Nat.{ℕ}
 use mathlib.Core.Path.{_≡_, sym, _∙_}
 use mathlib.Core.List.{List}
 use Rattle.rules.specs.Outcomes.{DistanceOutcome, RegionOutcome}
+use Rattle.rules.specs.Mend.{MendOutcome}
 use Rattle.gussetraft.specs.declared.Distances.{Distances}
 use Rattle.gussetraft.specs.declared.Regions.{Regions}
-use Rattle.gussetraft.specs.Exported.{Gives, GivesRegions}
+use Rattle.gussetraft.specs.declared.Mending.{Mending}
+use Rattle.gussetraft.specs.Exported.{Gives, GivesRegions, GivesMending}
 
 distances-same : (a b : Distances) → a .refusal ≡ b .refusal → a .«max_distance» ≡ b .«max_distance» → a ≡ b
 distances-same a b e f = rw (e, f)
@@ -28,4 +30,15 @@ one-region-answer o a b l m x y p q = (
   regions-same a b (p .refusal ∙ sym (q .refusal)) (p .most ∙ sym (q .most)) (p .over ∙ sym (q .over)),
   p .cleared ∙ sym (q .cleared),
   p .numbers ∙ sym (q .numbers),
+)
+
+mendings-same : (a b : Mending) → a .refusal ≡ b .refusal → a .count ≡ b .count → a ≡ b
+mendings-same a b e f = rw (e, f)
+
+-- `gussetraft_mend`
+pub one-mending : (o : MendOutcome) (a b : Mending) (l m x y : List ℕ) → GivesMending o a l m → GivesMending o b x y → (a ≡ b) × (l ≡ x) × (m ≡ y)
+one-mending o a b l m x y p q = (
+  mendings-same a b (p .refusal ∙ sym (q .refusal)) (p .many ∙ sym (q .many)),
+  p .left ∙ sym (q .left),
+  p .listed ∙ sym (q .listed),
 )

@@ -5,9 +5,11 @@ use mathlib.Core.List.{List}
 use Rattle.rules.specs.Field.{Field}
 use Rattle.rules.specs.Growth.{firstId}
 use Rattle.rules.specs.Outcomes.{DistanceOutcome, RegionOutcome}
+use Rattle.rules.specs.Mend.{MendOutcome}
 use Rattle.rooms.specs.Rooms.{Rooms}
 use Rattle.gussetraft.specs.declared.Distances.{Distances}
 use Rattle.gussetraft.specs.declared.Regions.{Regions}
+use Rattle.gussetraft.specs.declared.Mending.{Mending}
 
 pub record Gives (o : DistanceOutcome) (r : Distances) (raw blurred : List ℕ) : Type 0 where
   pub refusal : r .refusal ≡ o .refused
@@ -25,3 +27,9 @@ pub record GivesRegions (o : RegionOutcome) (r : Regions) (workspace ids : List 
 -- demand 3 of a call that returns 0, with ids as it leaves them
 pub record LeavesRooms (F : Field) (border : ℕ) (r : Regions) (ids : List ℕ) : Type 0 where
   pub rooms : r .refusal ≡ 0 → Rooms F (firstId border) ids (r .«max_region»)
+
+pub record GivesMending (o : MendOutcome) (r : Mending) (con changes : List ℕ) : Type 0 where
+  pub refusal : r .refusal ≡ o .refused
+  pub many : r .count ≡ o .count
+  pub left : con ≡ o .con
+  pub listed : changes ≡ o .changes

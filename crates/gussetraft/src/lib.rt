@@ -1,14 +1,18 @@
 // The functions that C and Rust call (include/gussetraft.h). They take any input, as the entries do.
+use checker::refusal_number;
+use mend::MendAnswer;
+use mend::mend;
 use watershed::DistanceAnswer;
 use watershed::RegionAnswer;
 use watershed::build_distance_field;
 use watershed::build_regions;
-use watershed::refusal_number;
 ghost use mathlib.Core.Path.{_≡_};
 ghost use Rattle.rules.specs.Outcomes.{Sizes, distanceOutcome, regionOutcome};
+ghost use Rattle.rules.specs.Mend.{mendOutcome};
 ghost use Rattle.field.specs.Lent.{lent};
+ghost use Rattle.mend.specs.Answer.{mendRefusedBy, changesIn};
 ghost use Rattle.watershed.specs.Answer.{refusedBy, mostIn, regionsRefusedBy, maxRegionIn, overlapsIn};
-ghost use Rattle.gussetraft.specs.Exported.{Gives, GivesRegions, LeavesRooms};
+ghost use Rattle.gussetraft.specs.Exported.{Gives, GivesRegions, LeavesRooms, GivesMending};
 
 // The answer of the distance entry: 0 or the refusal number, and max_distance.
 #[repr(C)]
@@ -23,6 +27,13 @@ pub struct Regions {
     pub refusal: u16,
     pub max_region: u16,
     pub overlaps: u16,
+}
+
+// The answer of the mending: 0 or the refusal number, and how many connections were set to none.
+#[repr(C)]
+pub struct Mending {
+    pub refusal: u32,
+    pub count: u32,
 }
 
 fn numbers(a: DistanceAnswer) -> Distances
@@ -53,6 +64,25 @@ fn region_numbers(a: RegionAnswer) -> Regions
             refusal: 0,
             max_region: m,
             overlaps: o,
+        },
+    }
+}
+
+fn mend_numbers(a: MendAnswer) -> Mending
+    ensures { λ r. ⌜ (r .refusal ≡ mendRefusedBy a) × (r .count ≡ changesIn a) ⌝ }
+{
+    match a {
+        MendAnswer::Refused(r) => Mending {
+            refusal: refusal_number(r) as u32,
+            count: 0,
+        },
+        MendAnswer::NoRoom => Mending {
+            refusal: 27,
+            count: 0,
+        },
+        MendAnswer::Done(k) => Mending {
+            refusal: 0,
+            count: k,
         },
     }
 }
@@ -114,4 +144,21 @@ pub extern "C" fn gussetraft_build_regions(
         ids,
     );
     region_numbers(answer)
+}
+
+#[no_mangle]
+pub extern "C" fn gussetraft_mend(
+    w: u16,
+    h: u16,
+    index: &[u32],
+    count: &[u8],
+    area: &[u8],
+    con: &mut [u8],
+    changes: &mut [u16],
+) -> Mending
+    ensures { λ r. ⌜ (let F = lent w h (now (index .entry)) (now (count .entry)) (now (area .entry)) (now (con .entry)) in
+        let o = mendOutcome F (now (changes .entry)) in
+        GivesMending o r (now (con .exit)) (now (changes .exit))) ⌝ }
+{
+    mend_numbers(mend(w, h, index, count, area, con, changes))
 }

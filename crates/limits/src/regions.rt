@@ -3,9 +3,9 @@ use crate::fields::CON;
 use crate::fields::COUNT;
 use crate::fields::INDEX;
 use crate::show::list;
+use checker::refusal_number;
 use watershed::RegionAnswer;
 use watershed::build_regions;
-use watershed::refusal_number;
 
 // A line for the answer: refused and its number, or max_region and the overlap count.
 fn answer(r: RegionAnswer) {

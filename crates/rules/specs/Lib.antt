@@ -15,3 +15,4 @@ pub mod Outcomes
 pub mod File
 pub mod Listing
 pub mod Open
+pub mod Mend

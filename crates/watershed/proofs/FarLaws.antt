@@ -16,7 +16,7 @@ use Rattle.checker.specs.declared.Verdict.{Verdict}
 use Rattle.checker.specs.declared.Verdict.the-variants as verdict
 use Rattle.field.proofs.Passed.{reached-of}
 use Rattle.watershed.specs.Stages.{ownRefusal}
-use Rattle.watershed.proofs.Outcome.{number-pos}
+use Rattle.checker.proofs.Numbers.{number-pos}
 
 module _ (dist : List ℕ) (most : ℕ) where
   pub far-most : 510 < most → true ≡ tooFar dist most

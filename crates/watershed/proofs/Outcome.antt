@@ -1,11 +1,11 @@
 -- The distance entry's two ways out are the two cases of its outcome, and an outcome has one answer:
 -- a refusal's number is never 0, and no two refusals have the same.
-use Prim.Native.Nat.{ℕ, _<_}
+use Prim.Native.Nat.{ℕ}
 use native.Mathlib.Omega.{arith}
 use mathlib.Core.Path.{_≡_, refl, sym, ap, _∙_}
 use mathlib.Core.Bool.{true, false}
 use mathlib.Core.List.{List, [], _∷_}
-use lib.ListN.{length, getD}
+use lib.ListN.{length}
 use lib.Dec.{eqb}
 use borrow.Author.Tests.{eq-eqb, ne-eqb}
 use Rattle.rules.specs.Base.{if_then_else_}
@@ -17,23 +17,13 @@ use Rattle.laws.proofs.Lengths.{raw-length}
 use Rattle.field.specs.Lent.{Reached, lent}
 use Rattle.checker.specs.Answer.{numberOf, verdictNumber}
 use Rattle.checker.specs.declared.Refusal.{Refusal}
-use Rattle.checker.specs.declared.Refusal.the-variants.{TooWide, TooMany, WrongLength, WrongCells, WrongReach, WrongBack, TooShort, TooFar}
 use Rattle.checker.specs.declared.Verdict.{Verdict}
 use Rattle.checker.specs.declared.Verdict.the-variants as verdict
+use Rattle.checker.proofs.Numbers.{number-pos, number-same}
 use Rattle.field.proofs.Passed.{reached-of, own-lengths}
 use Rattle.watershed.specs.declared.DistanceAnswer.{DistanceAnswer}
 use Rattle.watershed.specs.declared.DistanceAnswer.the-variants.{Refused, Done}
 use Rattle.watershed.specs.Answer.{refusedBy, mostIn, Answers}
-
-pub number-pos : (r : Refusal) → 0 < numberOf r
-number-pos TooWide = omega arith
-number-pos TooMany = omega arith
-number-pos WrongLength = omega arith
-number-pos WrongCells = omega arith
-number-pos WrongReach = omega arith
-number-pos WrongBack = omega arith
-number-pos TooShort = omega arith
-number-pos TooFar = omega arith
 
 -- ---------------------------------------------------------------- the two ways out
 
@@ -70,24 +60,6 @@ pub raw-sized : (w h : ℕ) (is ks ar cs x : List ℕ) → x ≡ raw (lent w h i
 raw-sized w h is ks ar cs x p = rw p (raw-length (lent w h is ks ar cs))
 
 -- ---------------------------------------------------------------- one answer
-
--- the table of the refusals, by number
-table : List Refusal
-table = TooWide ∷ TooWide ∷ TooMany ∷ WrongLength ∷ WrongCells ∷ WrongReach ∷ WrongBack ∷ TooShort ∷ TooFar ∷ []
-
-at-number : (r : Refusal) → r ≡ getD table (numberOf r) TooWide
-unfolding table
-at-number TooWide = refl
-at-number TooMany = refl
-at-number WrongLength = refl
-at-number WrongCells = refl
-at-number WrongReach = refl
-at-number WrongBack = refl
-at-number TooShort = refl
-at-number TooFar = refl
-
-pub number-same : (r s : Refusal) → numberOf r ≡ numberOf s → r ≡ s
-number-same r s e = at-number r ∙ ap (λ (n : ℕ). getD table n TooWide) e ∙ sym (at-number s)
 
 answer-same : (a b : DistanceAnswer) → refusedBy a ≡ refusedBy b → mostIn a ≡ mostIn b → a ≡ b
 answer-same (Refused r) (Refused s) e f = ap Refused (number-same r s e)

@@ -24,7 +24,7 @@ use Rattle.watershed.specs.declared.regions.RegionAnswer.the-variants.{R
 use Rattle.watershed.specs.Answer.{regionsRefusedBy, maxRegionIn, overlapsIn, AnswersRegions}
 use Rattle.watershed.specs.Stages.{Admitted}
 use Rattle.watershed.proofs.FarLaws.{short-seven}
-use Rattle.watershed.proofs.Outcome.{number-pos, number-same}
+use Rattle.checker.proofs.Numbers.{number-pos, number-same}
 
 -- nothing is refused: the workspace is long enough
 roomy : (F : Field) (lens : List ℕ) (work : ℕ) (dist : List ℕ) (most : ℕ) → regionRefusal F lens work dist most ≡ 0 → 128 * spans F + 4096 ≤ work

@@ -18,7 +18,7 @@ use Rattle.checker.specs.declared.Verdict.the-variants as verdict
 use Rattle.watershed.specs.declared.regions.RegionAnswer.{RegionAnswer}
 use Rattle.watershed.specs.declared.regions.RegionAnswer.the-variants.{Refused, Done}
 use Rattle.watershed.specs.Answer.{AnswersRegions, GivesRooms}
-use Rattle.watershed.proofs.Outcome.{number-pos}
+use Rattle.checker.proofs.Numbers.{number-pos}
 use Rattle.watershed.proofs.RegionOutcome.{regions-done}
 
 pub refused-no-rooms : (F : Field) (border : ℕ) (r : Refusal) (l : List ℕ) → GivesRooms F border (Refused r) l

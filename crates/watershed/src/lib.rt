@@ -9,27 +9,9 @@ use checker::check;
 use distance::blur::box_blur;
 use distance::blur::greatest;
 use distance::distances::calculate_distance_field;
-ghost use mathlib.Core.Path.{_≡_};
 ghost use Rattle.rules.specs.Outcomes.{distanceOutcome};
-ghost use Rattle.checker.specs.Answer.{numberOf};
 ghost use Rattle.field.specs.Lent.{lent};
 ghost use Rattle.watershed.specs.Answer.{Answers};
-
-// Document 01's number of a refusal.
-pub fn refusal_number(r: Refusal) -> u16
-    ensures { λ k. ⌜ k ≡ numberOf r ⌝ }
-{
-    match r {
-        Refusal::TooWide => 1,
-        Refusal::TooMany => 2,
-        Refusal::WrongLength => 3,
-        Refusal::WrongCells => 4,
-        Refusal::WrongReach => 5,
-        Refusal::WrongBack => 6,
-        Refusal::TooShort => 7,
-        Refusal::TooFar => 8,
-    }
-}
 
 // What the distance entry gives: the refusal, or max_distance.
 pub enum DistanceAnswer {

@@ -1,4 +1,4 @@
-//! The two functions of libgussetraft.a as include/gussetraft.h declares them: here the numbers beside a refusal are seen,
+//! The functions of libgussetraft.a as include/gussetraft.h declares them: here the numbers beside a refusal are seen,
 //! too, which the safe package does not hand out.
 
 use gussetraft as _; // links the archive
@@ -19,6 +19,14 @@ pub struct RegionAnswer {
     pub refusal: u16,
     pub max_region: u16,
     pub overlaps: u16,
+}
+
+/// What the mending answers.
+#[repr(C)]
+#[derive(Debug, Clone, Copy, PartialEq, Eq)]
+pub struct MendAnswer {
+    pub refusal: u32,
+    pub count: u32,
 }
 
 #[rustfmt::skip]
@@ -45,6 +53,15 @@ unsafe extern "C" {
         workspace: *mut u16, workspace_len: usize,
         ids: *mut u16, ids_len: usize,
     ) -> RegionAnswer;
+
+    fn gussetraft_mend(
+        w: u16, h: u16,
+        index: *const u32, index_len: usize,
+        count: *const u8, count_len: usize,
+        area: *const u8, area_len: usize,
+        con: *mut u8, con_len: usize,
+        changes: *mut u16, changes_len: usize,
+    ) -> MendAnswer;
 }
 
 /// The distance entry.
@@ -87,6 +104,22 @@ pub fn regions(
             settings.border_size, settings.least_area, settings.merge_area,
             workspace.as_mut_ptr(), workspace.len(),
             ids.as_mut_ptr(), ids.len(),
+        )
+    }
+}
+
+/// The mending, with a list of connections in place of the field's own.
+#[rustfmt::skip]
+pub fn mend(field: &Field, con: &mut [u8], changes: &mut [u16]) -> MendAnswer {
+    // SAFETY: as above.
+    unsafe {
+        gussetraft_mend(
+            field.w, field.h,
+            field.index.as_ptr(), field.index.len(),
+            field.count.as_ptr(), field.count.len(),
+            field.area.as_ptr(), field.area.len(),
+            con.as_mut_ptr(), con.len(),
+            changes.as_mut_ptr(), changes.len(),
         )
     }
 }

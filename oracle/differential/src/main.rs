@@ -1,7 +1,9 @@
-//! Compares what is proved with the unchanged Rust on fields by seed. `oracle/compare` runs it.
+//! Compares what is proved with the unchanged Rust, and with the models of document 02, on fields by seed. `oracle/compare` runs it.
 
 mod calls;
+mod edited;
 mod faults;
+mod files;
 mod large;
 mod lent;
 mod library;
@@ -10,10 +12,14 @@ mod tally;
 
 use std::{env, path::PathBuf, process::ExitCode};
 
+/// One file is mended by the program for so many edited fields.
+const FILES_IN: u64 = 7;
+
 struct Order {
     program: PathBuf,
     small: u64,
     large: u64,
+    edited: u64,
     seed: u64,
 }
 
@@ -40,13 +46,26 @@ fn run() -> Result<bool, String> {
     if large.fields > 0 {
         print!("calls on large fields by kind, and their answers:\n{large}");
     }
-    if small.is_enough() || large.is_enough() {
+    let edited = edited::compare(seed, order.edited);
+    if edited.fields > 0 {
+        print!("mendings of edited fields by edit, and their answers:\n{edited}");
+    }
+    let mending = order.program.with_file_name("mending");
+    let files = files::compare(&mending, seed, order.edited / FILES_IN)?;
+    if files.fields > 0 {
+        print!("files mended by kind, and their answers:\n{files}");
+    }
+    if [&small, &large, &edited, &files]
+        .iter()
+        .any(|tally| tally.is_enough())
+    {
         println!("{ended}");
     }
-    let differences = small.differences + large.differences;
+    let differences =
+        small.differences + large.differences + edited.differences + files.differences;
     println!(
-        "compared {} small, {} large fields: {differences} differences",
-        small.fields, large.fields
+        "compared {} small, {} large, {} edited fields, {} files mended: {differences} differences",
+        small.fields, large.fields, edited.fields, files.fields
     );
     Ok(differences == 0)
 }
@@ -59,6 +78,7 @@ fn order() -> Result<Order, String> {
         program: program.into(),
         small: 20_000,
         large: 38,
+        edited: 7_000,
         seed: 0,
     };
     while let Some(option) = arguments.next() {
@@ -71,6 +91,7 @@ fn order() -> Result<Order, String> {
         match option.as_str() {
             "--small" => order.small = number,
             "--large" => order.large = number,
+            "--edited" => order.edited = number,
             "--seed" => order.seed = number,
             _ => {
                 return Err(format!(

@@ -66,7 +66,7 @@ impl Sample {
 }
 
 /// The kind and the file of a seed.
-fn make(seed: u64) -> (&'static str, Vec<u8>) {
+pub fn make(seed: u64) -> (&'static str, Vec<u8>) {
     let turn = (seed % ROUND) as usize;
     if let Some(kind) = KINDS.get(turn) {
         return (kind.name, file::write(&kind.make(Size::Small, seed)));

@@ -5,6 +5,7 @@ pub mod field;
 pub mod file;
 pub mod levels;
 pub mod listing;
+pub mod mending;
 pub mod model;
 pub mod refusals;
 pub mod rng;

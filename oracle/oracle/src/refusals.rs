@@ -1,4 +1,4 @@
-//! The refusals of document 01, written from its table alone.
+//! The refusals of documents 01 and 02, written from their words alone.
 
 use crate::field::{DIRECTIONS, Field};
 use std::fmt;
@@ -26,6 +26,8 @@ pub enum Refusal {
     BadFile = 20,
     /// A file with too many cells or spans for the program.
     FileTooLarge = 21,
+    /// More changes than the list of changes has places.
+    NoRoom = 27,
 }
 
 impl fmt::Display for Refusal {
@@ -69,13 +71,7 @@ pub fn region_entry(
 
 /// Refusals 1 to 6. The lists beside the field's own have one entry a span.
 fn field_with_lists(field: &Field, span_lists: [usize; 2]) -> Result<(), Refusal> {
-    require(
-        field.w <= SIDE_LIMIT && field.h <= SIDE_LIMIT,
-        Refusal::GridTooLarge,
-    )?;
-    require(field.spans() <= SPAN_LIMIT, Refusal::TooManySpans)?;
-    require(lengths_fit(field, span_lists), Refusal::WrongLength)?;
-    require(cells_fit(field), Refusal::WrongCells)?;
+    cells_with_lists(field, &span_lists)?;
     require(
         every_connection(field, stays_inside),
         Refusal::ConnectionAstray,
@@ -86,11 +82,26 @@ fn field_with_lists(field: &Field, span_lists: [usize; 2]) -> Result<(), Refusal
     )
 }
 
+/// Refusals 1 to 4 of a field with no lists beside its own.
+pub fn cells(field: &Field) -> Result<(), Refusal> {
+    cells_with_lists(field, &[])
+}
+
+fn cells_with_lists(field: &Field, span_lists: &[usize]) -> Result<(), Refusal> {
+    require(
+        field.w <= SIDE_LIMIT && field.h <= SIDE_LIMIT,
+        Refusal::GridTooLarge,
+    )?;
+    require(field.spans() <= SPAN_LIMIT, Refusal::TooManySpans)?;
+    require(lengths_fit(field, span_lists), Refusal::WrongLength)?;
+    require(cells_fit(field), Refusal::WrongCells)
+}
+
 fn require(fits: bool, refusal: Refusal) -> Result<(), Refusal> {
     if fits { Ok(()) } else { Err(refusal) }
 }
 
-fn lengths_fit(field: &Field, span_lists: [usize; 2]) -> bool {
+fn lengths_fit(field: &Field, span_lists: &[usize]) -> bool {
     field.index.len() == field.cells()
         && field.count.len() == field.cells()
         && field.con.len() == 4 * field.spans()

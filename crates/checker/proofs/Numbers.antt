@@ -1,0 +1,48 @@
+-- Document 01's numbers of the refusals: none is 0, none is above 8, and no two refusals have the same.
+-- Assumes nothing.
+use Prim.Native.Nat.{ℕ, _≤_, _<_}
+use native.Mathlib.Omega.{arith}
+use mathlib.Core.Path.{_≡_, refl, sym, ap, _∙_}
+use mathlib.Core.List.{List, [], _∷_}
+use lib.ListN.{getD}
+use Rattle.checker.specs.Answer.{numberOf}
+use Rattle.checker.specs.declared.Refusal.{Refusal}
+use Rattle.checker.specs.declared.Refusal.the-variants.{TooWide, TooMany, WrongLength, WrongCells, WrongReach, WrongBack, TooShort, TooFar}
+
+pub number-pos : (r : Refusal) → 0 < numberOf r
+number-pos TooWide = omega arith
+number-pos TooMany = omega arith
+number-pos WrongLength = omega arith
+number-pos WrongCells = omega arith
+number-pos WrongReach = omega arith
+number-pos WrongBack = omega arith
+number-pos TooShort = omega arith
+number-pos TooFar = omega arith
+
+pub number-low : (r : Refusal) → numberOf r ≤ 8
+number-low TooWide = omega arith
+number-low TooMany = omega arith
+number-low WrongLength = omega arith
+number-low WrongCells = omega arith
+number-low WrongReach = omega arith
+number-low WrongBack = omega arith
+number-low TooShort = omega arith
+number-low TooFar = omega arith
+
+-- the table of the refusals, by number
+table : List Refusal
+table = TooWide ∷ TooWide ∷ TooMany ∷ WrongLength ∷ WrongCells ∷ WrongReach ∷ WrongBack ∷ TooShort ∷ TooFar ∷ []
+
+at-number : (r : Refusal) → r ≡ getD table (numberOf r) TooWide
+unfolding table
+at-number TooWide = refl
+at-number TooMany = refl
+at-number WrongLength = refl
+at-number WrongCells = refl
+at-number WrongReach = refl
+at-number WrongBack = refl
+at-number TooShort = refl
+at-number TooFar = refl
+
+pub number-same : (r s : Refusal) → numberOf r ≡ numberOf s → r ≡ s
+number-same r s e = at-number r ∙ ap (λ (n : ℕ). getD table n TooWide) e ∙ sym (at-number s)

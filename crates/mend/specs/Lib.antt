@@ -1,0 +1,3 @@
+-- Definitions that the code's promises are stated by.
+pub mod Walk
+pub mod Answer

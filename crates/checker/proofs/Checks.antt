@@ -15,8 +15,8 @@ use Rattle.rules.specs.Field.{Field, spans, cellTo, leaves}
 use Rattle.rules.specs.Refusals.{goodCells, goodCon}
 use Rattle.laws.proofs.Passes.{across-in}
 use Rattle.field.specs.Lent.{Stands, Celled, consAt, lent}
-use Rattle.checker.specs.Links.{names, namesAt, reachAt, halfAt, inCell}
-use Rattle.field.proofs.Loops.{every-go, every-halt, every-end, every-ext, every-join}
+use Rattle.checker.specs.Links.{names, namesAt, reachAt, inCell}
+use Rattle.field.proofs.Loops.{every-halt, every-end, every-ext, every-join}
 use Rattle.field.proofs.Places.{stands-at, con-at, firstOf, first-is, total-is, room-left, room-up}
 
 pub not-not : (b : Bool) → b ≡ not (not b)
@@ -79,21 +79,13 @@ module _ (F : Field) (ok : Celled F) (p : ℕ → Bool) where
 
 -- the loop over the layers of cell c, with the cell's index and count read before it, as i and k
 module _ (F : Field) (p : ℕ → Bool) (c i k j : ℕ) (e : i ≡ getD (F .index) c 0) (f : k ≡ getD (F .count) c 0) where
-  pub layers-halt : (s : ℕ) (r : Bool) → j < k → s ≡ i + j → r ≡ p s → r ≡ false → false ≡ inCell F p c
+  pub layers-halt : (r : Bool) → j < k → r ≡ p (i + j) → r ≡ false → false ≡ inCell F p c
   unfolding inCell
-  layers-halt s r h q t z = rw (← e, ← f) (every-halt (λ j. p (i + j)) k j r h (t ∙ ap p q) z)
+  layers-halt r h t z = rw (← e, ← f) (every-halt (λ j. p (i + j)) k j r h t z)
 
   pub layers-end : every j (λ j. p (i + j)) ≡ true → j ≤ k → k ≤ j → true ≡ inCell F p c
   unfolding inCell
   layers-end a h g = rw (← e, ← f) (every-end (λ j. p (i + j)) k j a h g)
-
-pub half-go : (F : Field) (i j s : ℕ) (r : Bool) → every j (λ l. halfAt F (i + l)) ≡ true → s ≡ i + j → r ≡ halfAt F s → r ≡ true
-    → every (j + 1) (λ l. halfAt F (i + l)) ≡ true
-half-go F i j s r a q e t = every-go (λ l. halfAt F (i + l)) j r a (e ∙ ap (halfAt F) q) t
-
-pub reach-go : (F : Field) (i j s : ℕ) (r : Bool) → every j (λ l. reachAt F (i + l)) ≡ true → s ≡ i + j → r ≡ reachAt F s → r ≡ true
-    → every (j + 1) (λ l. reachAt F (i + l)) ≡ true
-reach-go F i j s r a q e t = every-go (λ l. reachAt F (i + l)) j r a (e ∙ ap (reachAt F) q) t
 
 -- ---------------------------------------------------------------- refusal 5 of a span
 
@@ -130,11 +122,9 @@ room-in-up w h c d r p z = room-up w c d h (sym p ∙ z)
 -- ---------------------------------------------------------------- a layer of cell c, as a loop over the cell's layers has it
 
 module _ (w h : ℕ) (is ks ar cs : List ℕ) (c i k j : ℕ) (e : i ≡ getD is c 0) (f : k ≡ getD ks c 0) (g : j < k) where
-  pub con-room : (s : ℕ) → s ≡ i + j → Celled (lent w h is ks ar cs) → 4 * s + 3 < length cs
-  con-room s v ok = omega (arith, stands-at (lent w h is ks ar cs) ok c i k j e f g .span, ok .linked)
+  pub con-room : Celled (lent w h is ks ar cs) → 4 * (i + j) + 3 < length cs
+  con-room ok = omega (arith, stands-at (lent w h is ks ar cs) ok c i k j e f g .span, ok .linked)
 
-  pub layer-reach : (s : ℕ) (cons : List ℕ) (r : Bool) → s ≡ i + j → Celled (lent w h is ks ar cs) → cons ≡ consAt cs s
-      → r ≡ every 4 (namesAt w h ks c cons) → r ≡ reachAt (lent w h is ks ar cs) s
-  layer-reach s cons r v ok p q =
-      let F = lent w h is ks ar cs in
-      names-at F ok c s cons r (rw v (stands-at F ok c i k j e f g)) p q
+  pub layer-reach : (cons : List ℕ) (r : Bool) → Celled (lent w h is ks ar cs) → cons ≡ consAt cs (i + j)
+      → r ≡ every 4 (namesAt w h ks c cons) → r ≡ reachAt (lent w h is ks ar cs) (i + j)
+  layer-reach cons r ok p q = names-at (lent w h is ks ar cs) ok c (i + j) cons r (stands-at (lent w h is ks ar cs) ok c i k j e f g) p q

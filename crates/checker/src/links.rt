@@ -6,7 +6,6 @@ use field::place::NO_LAYER;
 use field::place::SpanIx;
 use field::place::cell_across;
 use field::place::connections;
-use field::place::in_layer;
 use field::place::span_at;
 use field::read::at8;
 use field::read::at32;
@@ -193,7 +192,6 @@ fn cell_ok(
     let i = at32(index, c);
     let k = at8(count, c);
     for j in 0..k {
-        let layer = Layer(j as u8);
         if span_ok(
             w,
             h,
@@ -202,8 +200,8 @@ fn cell_ok(
             area,
             con,
             c,
-            in_layer(i, layer),
-            layer,
+            SpanIx(i + j),
+            Layer(j as u8),
             x,
             z,
             inner,

@@ -1,9 +1,9 @@
 // Refusal 5: a loop over the directions of a span, over the layers of a cell, and over the cells.
 use field::place::Layer;
 use field::place::NO_LAYER;
+use field::place::SpanIx;
 use field::place::cell_across;
 use field::place::connections;
-use field::place::in_layer;
 use field::read::at8;
 use field::read::at32;
 ghost use mathlib.Core.Path.{_≡_};
@@ -76,7 +76,7 @@ fn cell_ok(
     let i = at32(index, c);
     let k = at8(count, c);
     for j in 0..k {
-        let cons = connections(con, in_layer(i, Layer(j as u8)));
+        let cons = connections(con, SpanIx(i + j));
         if span_ok(w, h, count, c, cons) {} else {
             return false;
         }

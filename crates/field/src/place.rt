@@ -51,20 +51,12 @@ pub fn cell_across(w: usize, c: usize, d: usize) -> usize
     c - w
 }
 
-// The span in a layer of a cell whose spans begin with number `first`: here a layer becomes a span.
-pub fn in_layer(first: usize, l: Layer) -> SpanIx
-    requires { ⌜ first < 4294967296 ⌝ }
-    ensures { λ r. ⌜ r .0 ≡ first + l .0 ⌝ }
-{
-    SpanIx(first + l.0 as usize)
-}
-
-// The same of cell c.
+// The span in a layer of cell c: the one place where a layer becomes a span.
 pub fn span_at(index: &[u32], c: usize, l: Layer) -> SpanIx
     requires { ⌜ c < length (now index) ⌝ }
     ensures { λ r. ⌜ r .0 ≡ getD (now (index .entry)) c 0 + l .0 ⌝ }
 {
-    in_layer(at32(index, c), l)
+    SpanIx(at32(index, c) + l.0 as usize)
 }
 
 // Where the connection in direction d leads, which is not none, of a span in cell c that has the connections cons.

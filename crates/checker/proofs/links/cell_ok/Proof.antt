@@ -1,4 +1,4 @@
--- Invariant: the layers below j pass, each the span in that layer of cell c, i + j.
+-- Invariant: the layers below j pass, each of which is the span i + j of cell c.
 -- Assumes nothing.
 use Prim.Native.Nat.{_≤_, _-_, _+_}
 use mathlib.Core.Path.{_≡_}
@@ -6,7 +6,8 @@ use mathlib.Core.Bool.{true}
 use Rattle.rules.specs.Base.{every}
 use Rattle.field.specs.Lent.{lent}
 use Rattle.checker.specs.Links.{halfAt}
-use Rattle.checker.proofs.Checks.{layers-halt, layers-end, half-go}
+use Rattle.field.proofs.Loops.{every-go}
+use Rattle.checker.proofs.Checks.{layers-halt, layers-end}
 use borrow.Author.Needs.{needs}
 use Rattle.checker.proofs.links.cell_ok.Statement.{statement}
 use Rattle.checker.proofs.links.cell_ok.Tie as tie
@@ -27,11 +28,11 @@ loop-holds : tie.Need-loop-holds Inv-loop μ-loop
 unfolding every
 loop-holds c = search needs
 
-cast-t16 : tie.Need-cast-t16 Inv-loop μ-loop
-cast-t16 c = search needs
+add-t16 : tie.Need-add-t16 Inv-loop μ-loop
+add-t16 c = search needs
 
-in-layer-requires : tie.Need-in-layer-requires Inv-loop μ-loop
-in-layer-requires c κs = search needs
+cast-t18 : tie.Need-cast-t18 Inv-loop μ-loop
+cast-t18 c = search needs
 
 span-ok-requires : tie.Need-span-ok-requires Inv-loop μ-loop
 span-ok-requires c κs = ((search needs, search needs), search needs, search needs, search needs)
@@ -46,10 +47,7 @@ loop-less : tie.Need-loop-less Inv-loop μ-loop
 loop-less c = search needs
 
 loop-again : tie.Need-loop-again Inv-loop μ-loop
-loop-again c =
-    let s = c .before in
-    let l = s .before in
-    (search needs, half-go _ _ _ _ _ (l .before .before .loop .inv .1) (l .in-layer .ensures) (s .span-ok .ensures) (c .if1 .taken))
+loop-again c = (search needs, search (needs, every-go))
 
 returns-2 : tie.Need-returns-2 Inv-loop μ-loop
 returns-2 c = search (needs, layers-end)
@@ -63,8 +61,8 @@ cell-ok-spec =
     at32-requires
     at8-requires
     loop-holds
-    cast-t16
-    in-layer-requires
+    add-t16
+    cast-t18
     span-ok-requires
     returns
     add-j

@@ -1,4 +1,4 @@
--- Invariant: the layers below j pass, each the span in that layer of cell c, i + j. The test of the four connections read is the rule's test of the span.
+-- Invariant: the layers below j pass, each of which is the span i + j of cell c. The test of the four connections read is the rule's test of the span.
 -- Assumes nothing.
 use Prim.Native.Nat.{_≤_, _-_, _+_}
 use mathlib.Core.Path.{_≡_}
@@ -6,7 +6,8 @@ use mathlib.Core.Bool.{true}
 use Rattle.rules.specs.Base.{every}
 use Rattle.field.specs.Lent.{lent}
 use Rattle.checker.specs.Links.{reachAt}
-use Rattle.checker.proofs.Checks.{layers-halt, layers-end, reach-go, layer-reach, con-room}
+use Rattle.field.proofs.Loops.{every-go}
+use Rattle.checker.proofs.Checks.{layers-halt, layers-end, layer-reach, con-room}
 use borrow.Author.Needs.{needs}
 use Rattle.checker.proofs.reach.cell_ok.Statement.{statement}
 use Rattle.checker.proofs.reach.cell_ok.Tie as tie
@@ -27,11 +28,8 @@ loop-holds : tie.Need-loop-holds Inv-loop μ-loop
 unfolding every
 loop-holds c = search needs
 
-cast-t14 : tie.Need-cast-t14 Inv-loop μ-loop
-cast-t14 c = search needs
-
-in-layer-requires : tie.Need-in-layer-requires Inv-loop μ-loop
-in-layer-requires c κs = search needs
+add-t13 : tie.Need-add-t13 Inv-loop μ-loop
+add-t13 c = search needs
 
 connections-requires : tie.Need-connections-requires Inv-loop μ-loop
 connections-requires c κs = search (needs, con-room)
@@ -49,9 +47,7 @@ loop-less : tie.Need-loop-less Inv-loop μ-loop
 loop-less c = search needs
 
 loop-again : tie.Need-loop-again Inv-loop μ-loop
-loop-again c =
-    let l = c .before .before .before in
-    (search needs, reach-go _ _ _ _ _ (l .before .before .loop .inv .1) (l .in-layer .ensures) (search (needs, layer-reach)) (c .if1 .taken))
+loop-again c = (search needs, search (needs, every-go, layer-reach))
 
 returns-2 : tie.Need-returns-2 Inv-loop μ-loop
 returns-2 c = search (needs, layers-end)
@@ -65,8 +61,7 @@ cell-ok-spec =
     at32-requires
     at8-requires
     loop-holds
-    cast-t14
-    in-layer-requires
+    add-t13
     connections-requires
     span-ok-requires
     returns

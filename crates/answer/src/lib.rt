@@ -33,7 +33,9 @@ fn print_regions(
     out: &mut [u8],
 ) -> usize
     requires { ⌜ Fitting (head .w) (head .h) (now area) (now ids) (now out) ⌝ }
-    ensures { λ r. ⌜ Prints (now (out .entry)) (second (lent (head .w) (head .h) (now (index .entry)) (now (count .entry)) (now (area .entry)) (now (con .entry))) (now (dist .entry)) «max_distance» (sizesOf head) (now (workspace .entry)) (now (ids .entry))) r (now (out .exit)) ⌝ }
+    ensures { λ r. ⌜ (let F = lent (head .w) (head .h) (now (index .entry)) (now (count .entry)) (now (area .entry)) (now (con .entry)) in
+        let text = second F (now (dist .entry)) «max_distance» (sizesOf head) (now (workspace .entry)) (now (ids .entry)) in
+        Prints (now (out .entry)) text r (now (out .exit))) ⌝ }
 {
     match build_regions(
         head.w,
@@ -79,7 +81,8 @@ fn print_field(
     out: &mut [u8],
 ) -> usize
     requires { ⌜ Fitting (head .w) (head .h) (now area) (now ids) (now out) × Own (now area) (now raw) (now blurred) (now workspace) ⌝ }
-    ensures { λ r. ⌜ Prints (now (out .entry)) (ran (record { field = lent (head .w) (head .h) (now (index .entry)) (now (count .entry)) (now (area .entry)) (now (con .entry)); sizes = sizesOf head })) r (now (out .exit)) ⌝ }
+    ensures { λ r. ⌜ (let F = lent (head .w) (head .h) (now (index .entry)) (now (count .entry)) (now (area .entry)) (now (con .entry)) in
+        Prints (now (out .entry)) (ran (record { field = F; sizes = sizesOf head })) r (now (out .exit))) ⌝ }
 {
     match build_distance_field(head.w, head.h, index, count, area, con, raw, blurred) {
         DistanceAnswer::Refused(k) => write_refused(out, refusal_number(k)),
@@ -100,6 +103,11 @@ fn print_field(
     }
 }
 
+// What the region entry's workspace holds at least: so many numbers a span, and so many beside.
+const WORKSPACE_A_SPAN: usize = 128;
+
+const WORKSPACE_BESIDE: usize = 4096;
+
 // The field that the lists hold at their beginning: the header's cells, and n spans.
 fn print_first(
     head: Header,
@@ -114,8 +122,11 @@ fn print_first(
     ids: &mut [u16],
     out: &mut [u8],
 ) -> usize
-    requires { ⌜ Lists (now index) (now count) (now area) (now con) × Buffers (now raw) (now blurred) (now workspace) (now ids) (now out) × Few (Described head n) ⌝ }
-    ensures { λ r. ⌜ Prints (now (out .entry)) (ran (record { field = first (head .w) (head .h) (head .w * head .h) n (now (index .entry)) (now (count .entry)) (now (area .entry)) (now (con .entry)); sizes = sizesOf head })) r (now (out .exit)) ⌝ }
+    requires { ⌜ (Lists (now index) (now count) (now area) (now con) × Buffers (now raw) (now blurred) (now workspace) (now ids) (now out)
+        × Few (Described head n)) ⌝ }
+    ensures { λ r. ⌜ (let F = first (head .w) (head .h) (head .w * head .h) n (now (index .entry)) (now (count .entry))
+        (now (area .entry)) (now (con .entry)) in
+        Prints (now (out .entry)) (ran (record { field = F; sizes = sizesOf head })) r (now (out .exit))) ⌝ }
 {
     let cells = head.w as usize * head.h as usize;
     print_field(
@@ -126,7 +137,7 @@ fn print_first(
         &con[..4 * n],
         &mut raw[..n],
         &mut blurred[..n],
-        &mut workspace[..128 * n + 4096],
+        &mut workspace[..WORKSPACE_A_SPAN * n + WORKSPACE_BESIDE],
         &mut ids[..n],
         out,
     )

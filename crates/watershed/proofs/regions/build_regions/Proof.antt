@@ -36,7 +36,13 @@ returns-2 c =
     let t = f .before .before .before in
     let e = f .find-regions .ensures in
     let s = t .before .before .before .before .before .before .before .before .before .before in
-    (search (needs, regions-done), done-gives-rooms _ _ _ (now (s .args .workspace)) (now (s .args .ids)) _ (t .before .before .check-regions .ensures) (t .enum-told .given .1) _ _ _ _ _ (e .0) (e .1 .0) (e .1 .1))
+    let ws = now (s .args .workspace) in
+    let ids = now (s .args .ids) in
+    let said = t .before .before .check-regions .ensures in
+    let sound = t .enum-told .given .1 in (
+      regions-done _ _ _ ws ids _ said sound _ _ _ _ _ (e .0) (e .1 .0),
+      done-gives-rooms _ _ _ ws ids _ said sound _ _ _ _ _ (e .0) (e .1 .0) (e .1 .1),
+    )
 
 pub build-regions-spec : {M : Type 1} → statement M
 build-regions-spec =

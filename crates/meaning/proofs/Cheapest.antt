@@ -19,7 +19,7 @@ data Looked (F : Field) (s n : ℕ) : Type 0 where
   none-below : ((c : ℕ) → Chain F s c → n ≤ c) → Looked F s n
 
 module _ (F : Field) (n : ℕ) (below : (k : ℕ) → k ≤ n → (s : ℕ) → Looked F s k) (s : ℕ) where
-  -- no chain costs less than n: is there one of cost n?
+  -- no chain costs less than n: whether there is one of cost n
   module _ (least : (c : ℕ) → Chain F s c → n ≤ c) where
     -- one whose first move is this
     by-move : (P : Type 0) (t k : ℕ) → 0 < k → Move F s t k → (Looked F s (suc n) → P) → (((c : ℕ) → Chain F t c → suc n ≤ c + k) → P) → P

@@ -18,7 +18,10 @@ same-length-2 : tie.Need-same-length-2
 same-length-2 c = search needs
 
 returns : tie.Need-returns
-returns c = (search gives-regions, search leaves-rooms)
+returns c =
+    let e = c .before .before .before .before .before .build-regions .ensures in
+    let n = c .region-numbers .ensures in
+    (gives-regions _ _ _ _ _ (e .0) (n .0) (n .1) (n .2), leaves-rooms _ _ _ _ _ (e .1) (n .0) (n .1))
 
 pub gussetraft-build-regions-spec : {M : Type 1} → statement M
 gussetraft-build-regions-spec =

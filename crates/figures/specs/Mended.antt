@@ -6,7 +6,7 @@ use lib.ListN.{set}
 use Rattle.rules.specs.Base.{_and_, _or_, if_then_else_, tab, every}
 use Rattle.rules.specs.Field.{cellOf, cellTo, leaves, conOf, near}
 use Rattle.rules.specs.Refusals.{goodCells, goodCon, goodBack, tooWide, tooMany, wrongLength, wrongCells, wrongReach, wrongBack, refusal}
-use Rattle.rules.specs.Mend.{relinked, stays, staysAt, mendedAt, mendedCon, changesTo, changedTo, MendOutcome, mendRefusal, mendOutcome}
+use Rattle.rules.specs.Mend.{relinked, stays, staysAt, mendedAt, mendedCon, changesTo, changedTo, mendRefusal, mendOutcome}
 use Rattle.rules.specs.Open.{flat, openCon, openField}
 use Rattle.figures.specs.Refused.{good}
 

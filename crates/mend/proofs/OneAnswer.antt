@@ -5,7 +5,6 @@ use native.Mathlib.Omega.{arith}
 use mathlib.Core.Path.{_≡_, refl, sym, ap, _∙_}
 use mathlib.Core.List.{List}
 use Rattle.rules.specs.Mend.{MendOutcome}
-use Rattle.checker.specs.Answer.{numberOf}
 use Rattle.checker.proofs.Numbers.{number-pos, number-low, number-same}
 use Rattle.mend.specs.Answer.{mendRefusedBy, changesIn, outcome}
 use Rattle.mend.specs.declared.MendAnswer.{MendAnswer}

@@ -16,7 +16,8 @@ use Rattle.laws.proofs.Passes.{none-near}
 use Rattle.field.specs.Lent.{Reached, Spot, SomeSpot, Leaf, SomeLeaf, consAt, lent}
 use Rattle.field.proofs.Loops.{upto-go}
 use Rattle.field.proofs.Places.{near-stands, near-spot, spot-con, spot-leaf, some-leaf, step-spot, leaf-none, turned, layer-spot}
-use Rattle.distance.specs.Value.{blurTo, Sized}
+use Rattle.rules.specs.Rows.{blurTo}
+use Rattle.distance.specs.Value.{Sized}
 
 -- ---------------------------------------------------------------- the greatest value
 

@@ -13,7 +13,8 @@ use Rattle.laws.proofs.Basics.{getD-any}
 use Rattle.laws.proofs.Passes.{missing-not-same, same-fewer}
 use Rattle.field.specs.Lent.{Reached, Spot, SomeSpot, Leaf, SomeLeaf, consAt, lent}
 use Rattle.field.proofs.Places.{near-stands, spot-leaf, spot-con, some-leaf, leaf-none, layer-spot}
-use Rattle.distance.specs.Value.{startTo, Sized, SizedLeaf}
+use Rattle.rules.specs.Rows.{startTo}
+use Rattle.distance.specs.Value.{Sized, SizedLeaf}
 use Rattle.field.proofs.Loops.{upto-go}
 
 -- ---------------------------------------------------------------- a list with a value for each span

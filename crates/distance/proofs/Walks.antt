@@ -17,8 +17,7 @@ use mir.Syntax.{w64}
 use Rattle.field.specs.Lent.{Celled, Reached, lent}
 use Rattle.field.proofs.Loops.{upto-join, upto-ext, upto-go, upto-end, product-small}
 use Rattle.field.proofs.Places.{firstOf, first-is, total-is}
-use Rattle.distance.specs.Walk.{overCell, downto, column, rowUp, rowDown}
-use Rattle.distance.specs.Value.{startTo, blurTo}
+use Rattle.rules.specs.Rows.{overCell, downto, column, rowUp, rowDown, startTo, blurTo}
 
 -- ---------------------------------------------------------------- rows and columns
 

@@ -2,14 +2,10 @@
 use Prim.Native.Nat.{ℕ, _+_, _*_, _%_, _≤_, _<_, min}
 use mathlib.Core.Path.{_≡_}
 use mathlib.Core.List.{List}
-use lib.ListN.{length, set}
+use lib.ListN.{length}
 use Rattle.rules.specs.Field.{Field, spans, near, cellOf, conOf}
-use Rattle.rules.specs.Distance.{startAt, far, blurAt}
+use Rattle.rules.specs.Distance.{far}
 use Rattle.field.specs.Lent.{Spot, Leaf}
-
--- the list with a span's value at the start
-unfoldable pub startTo : Field → ℕ → List ℕ → List ℕ
-startTo F s l = set l s (startAt F s)
 
 -- neighbour a plus 2 or its neighbour b plus 3, whichever is less
 unfoldable pub side : Field → List ℕ → ℕ → ℕ → ℕ → ℕ
@@ -18,10 +14,6 @@ side F l s a b = min (far l (near F s a) + 2) (far l (near F (near F s a) b) + 3
 -- a span's value after a pass that looks at two sides
 unfoldable pub least : Field → ℕ → ℕ → ℕ → ℕ → ℕ → List ℕ → ℕ
 least F a b c e s l = min (far l s) (min (side F l s a b) (side F l s c e))
-
--- the blurred list with the blurred value of span s of the raw list l
-unfoldable pub blurTo : Field → List ℕ → ℕ → List ℕ → List ℕ
-blurTo F l s m = set m s (blurAt F l s)
 
 -- pass 1 has gone through the cells before c: their spans hold at most twice their column, and a span with no neighbour 0 holds 0
 pub record Passing (F : Field) (c : ℕ) (l : List ℕ) : Type 0 where

@@ -13,8 +13,8 @@ ghost use lib.ListN.{length};
 ghost use Rattle.rules.specs.Field.{Field};
 ghost use Rattle.rules.specs.Distance as rules;
 ghost use Rattle.field.specs.Lent.{lent, Reached, Spot, consAt};
-ghost use Rattle.distance.specs.Walk.{overCell, rowUp};
-ghost use Rattle.distance.specs.Value.{blurTo, Sized};
+ghost use Rattle.rules.specs.Rows.{overCell, rowUp, blurTo};
+ghost use Rattle.distance.specs.Value.{Sized};
 
 // A raw value of at most this stays.
 pub const THRESHOLD: usize = 2;

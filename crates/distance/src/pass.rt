@@ -12,7 +12,7 @@ ghost use lib.ListN.{length, getD};
 ghost use Rattle.rules.specs.Field.{Field};
 ghost use Rattle.rules.specs.Distance as rules;
 ghost use Rattle.field.specs.Lent.{lent, Reached, Spot, consAt};
-ghost use Rattle.distance.specs.Walk.{overCell, rowUp, rowDown};
+ghost use Rattle.rules.specs.Rows.{overCell, rowUp, rowDown};
 ghost use Rattle.distance.specs.Value.{least, Passing, Low, Room};
 ghost use Rattle.distance.specs.Value as value;
 

@@ -12,8 +12,8 @@ ghost use lib.ListN.{length};
 ghost use Rattle.rules.specs.Field.{Field};
 ghost use Rattle.rules.specs.Distance as rules;
 ghost use Rattle.field.specs.Lent.{lent, Reached, Spot, Leaf};
-ghost use Rattle.distance.specs.Walk.{overCell, rowUp};
-ghost use Rattle.distance.specs.Value.{startTo, Sized, SizedLeaf};
+ghost use Rattle.rules.specs.Rows.{overCell, rowUp, startTo};
+ghost use Rattle.distance.specs.Value.{Sized, SizedLeaf};
 
 // Where a span starts that has four neighbours of its own area.
 const FARTHEST: u16 = 65535;

@@ -5,6 +5,7 @@ pub mod Field
 pub mod Net
 pub mod Refusals
 pub mod Distance
+pub mod Rows
 pub mod Growth
 pub mod Contour
 pub mod Records

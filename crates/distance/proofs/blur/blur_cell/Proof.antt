@@ -5,7 +5,7 @@ use mathlib.Core.Path.{_≡_}
 use lib.ListN.{length}
 use Rattle.rules.specs.Base.{upto}
 use Rattle.field.specs.Lent.{lent}
-use Rattle.distance.specs.Value.{blurTo}
+use Rattle.rules.specs.Rows.{blurTo}
 use Rattle.distance.proofs.Walks.{cell-end}
 use Rattle.distance.proofs.Values.{layer-sized, layer-in}
 use Rattle.distance.proofs.Blurs.{blur-go}

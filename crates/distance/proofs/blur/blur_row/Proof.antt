@@ -5,8 +5,7 @@ use mathlib.Core.Path.{_≡_}
 use lib.ListN.{length}
 use Rattle.rules.specs.Base.{upto}
 use Rattle.field.specs.Lent.{lent}
-use Rattle.distance.specs.Walk.{column}
-use Rattle.distance.specs.Value.{blurTo}
+use Rattle.rules.specs.Rows.{column, blurTo}
 use Rattle.distance.proofs.Walks.{row-go, row-end, row-fits, column-fits, column-in}
 use borrow.Author.Needs.{needs}
 use Rattle.distance.proofs.blur.blur_row.Statement.{statement}

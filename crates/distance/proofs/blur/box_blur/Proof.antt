@@ -6,8 +6,7 @@ use lib.ListN.{length}
 use Rattle.rules.specs.Base.{upto}
 use Rattle.field.specs.Lent.{lent}
 use Rattle.field.proofs.Loops.{upto-go}
-use Rattle.distance.specs.Walk.{rowUp}
-use Rattle.distance.specs.Value.{blurTo}
+use Rattle.rules.specs.Rows.{rowUp, blurTo}
 use Rattle.distance.proofs.Walks.{blur-end}
 use borrow.Author.Needs.{needs}
 use Rattle.distance.proofs.blur.box_blur.Statement.{statement}

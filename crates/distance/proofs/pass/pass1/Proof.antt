@@ -6,7 +6,7 @@ use Rattle.rules.specs.Base.{upto}
 use Rattle.rules.specs.Distance.{lower}
 use Rattle.field.specs.Lent.{lent}
 use Rattle.field.proofs.Loops.{upto-go}
-use Rattle.distance.specs.Walk.{rowUp}
+use Rattle.rules.specs.Rows.{rowUp}
 use Rattle.distance.specs.Value.{Passing}
 use Rattle.distance.proofs.Walks.{pass1-end}
 use Rattle.distance.proofs.Bounds.{row-first, row-last}

@@ -5,7 +5,7 @@ use mathlib.Core.Path.{_≡_}
 use Rattle.rules.specs.Base.{upto}
 use Rattle.rules.specs.Distance.{lower}
 use Rattle.field.specs.Lent.{lent}
-use Rattle.distance.specs.Walk.{column}
+use Rattle.rules.specs.Rows.{column}
 use Rattle.distance.specs.Value.{Passing}
 use Rattle.distance.proofs.Walks.{row-go, row-end, row-fits, column-fits, column-in}
 use Rattle.distance.proofs.Bounds.{column-first, column-next, column-last}

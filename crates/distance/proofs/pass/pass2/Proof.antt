@@ -4,7 +4,7 @@ use Prim.Native.Nat.{_≤_}
 use mathlib.Core.Path.{_≡_}
 use Rattle.rules.specs.Distance.{lower}
 use Rattle.field.specs.Lent.{lent}
-use Rattle.distance.specs.Walk.{rowDown, downto}
+use Rattle.rules.specs.Rows.{rowDown, downto}
 use Rattle.distance.specs.Value.{Low}
 use Rattle.distance.proofs.Walks.{down-go, pass2-end}
 use borrow.Author.Needs.{needs}

@@ -4,7 +4,7 @@ use Prim.Native.Nat.{_≤_, _*_}
 use mathlib.Core.Path.{_≡_}
 use Rattle.rules.specs.Distance.{lower}
 use Rattle.field.specs.Lent.{lent}
-use Rattle.distance.specs.Walk.{column, downto}
+use Rattle.rules.specs.Rows.{column, downto}
 use Rattle.distance.specs.Value.{Low}
 use Rattle.distance.proofs.Walks.{row-down, row-bottom, row-fits, last-fits, last-in}
 use borrow.Author.Needs.{needs}

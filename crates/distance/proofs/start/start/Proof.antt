@@ -6,8 +6,7 @@ use lib.ListN.{length}
 use Rattle.rules.specs.Base.{upto}
 use Rattle.field.specs.Lent.{lent}
 use Rattle.field.proofs.Loops.{upto-go}
-use Rattle.distance.specs.Walk.{rowUp}
-use Rattle.distance.specs.Value.{startTo}
+use Rattle.rules.specs.Rows.{rowUp, startTo}
 use Rattle.distance.proofs.Walks.{start-end}
 use borrow.Author.Needs.{needs}
 use Rattle.distance.proofs.start.start.Statement.{statement}

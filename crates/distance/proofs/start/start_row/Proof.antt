@@ -6,8 +6,7 @@ use mathlib.Core.Path.{_≡_}
 use lib.ListN.{length}
 use Rattle.rules.specs.Base.{upto}
 use Rattle.field.specs.Lent.{lent}
-use Rattle.distance.specs.Walk.{column}
-use Rattle.distance.specs.Value.{startTo}
+use Rattle.rules.specs.Rows.{column, startTo}
 use Rattle.distance.proofs.Walks.{row-go, row-end}
 use borrow.Author.Needs.{needs}
 use Rattle.distance.proofs.start.start_row.Statement.{statement}

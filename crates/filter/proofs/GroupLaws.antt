@@ -136,7 +136,7 @@ module _ (ws : List ℕ) (m r top : ℕ) (W : Waiting m top ws) (h : r < 32768) 
   abbrev ws′ : List ℕ
   ws′ = set (set ws (5 * m + top) (getD ws r 0)) (4 * m + r) 1
 
-  len : 15 * m ≤ length ws
+  len : 16 * m ≤ length ws
   len = omega (arith, W .held .floors .room)
 
   pub push-room : top < m
@@ -239,7 +239,7 @@ module _ (ws : List ℕ) (m i : ℕ) (C : Calm m ws) (h : i < m) (v : getD ws (4
   abbrev es′ : List ℕ
   es′ = set (set ws (5 * m) i) (4 * m + i) 1
 
-  e-len : 15 * m ≤ length ws
+  e-len : 16 * m ≤ length ws
   e-len = omega (arith, C .held .floors .room)
 
   pub enter-in : 4 * m + i < length (set ws (5 * m) i)
@@ -313,7 +313,7 @@ module _ (ws : List ℕ) (m top f : ℕ) (W : Waiting m top ws) (D : Found m f w
   abbrev ps′ : List ℕ
   ps′ = set ps (6 * m + f) r
 
-  p-len : 15 * m ≤ length ws
+  p-len : 16 * m ≤ length ws
   p-len = omega (arith, W .held .floors .room)
 
   pub pop-in : 5 * m + (top - 1) < length ws

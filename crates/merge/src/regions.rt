@@ -25,7 +25,7 @@ pub fn merge_and_filter_regions(
         ≡ numbered (merged «merge_region_size» (suc m) (filtered «min_region_area» (recsOf (now (ws .entry)) m))) (now (ids .entry))) ⌝ }
 {
     filter(ws, m, min_region_area);
-    let h = 15 * m;
+    let h = 16 * m;
     let p = 4 * n;
     merge_all(ws, m, p, merge_region_size, h, h + p);
     number(ids, ws, m)

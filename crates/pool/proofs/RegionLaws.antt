@@ -136,7 +136,7 @@ module _ (m p h o b c n k i j : ℕ) (ws ws₁ ws₃ : List ℕ) (P : Pool m p h
   lists-at : (x : ℕ) → x < m → listAt ws₃ m (7 * m) x ≡ listAt ws₁ m (7 * m) x
   lists-at x g = list-past m (7 * m) (R .parts) (A .frame) (omega arith) l₃ x g
 
-  high : (y : ℕ) → 11 * m ≤ y → y < 15 * m → getD ws₃ y 0 ≡ getD ws y 0
+  high : (y : ℕ) → 11 * m ≤ y → y < 16 * m → getD ws₃ y 0 ≡ getD ws y 0
   high y a b = kept y (omega arith) (inr a, inl (omega (arith, H .past))) (inl (omega (arith, H .past′)))
 
   start-f : (x : ℕ) → x < m → startOf ws₃ m (11 * m) x ≡ startOf ws m (11 * m) x

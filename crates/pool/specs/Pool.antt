@@ -36,8 +36,8 @@ newList old new id l = if eqb id 0 then l else renamedList old new l
 
 -- the two halves lie apart, past the tables
 pub record Halves (m p h o : ℕ) (ws : List ℕ) : Type 0 where
-  pub past : 15 * m ≤ h
-  pub past′ : 15 * m ≤ o
+  pub past : 16 * m ≤ h
+  pub past′ : 16 * m ≤ o
   pub apart : (h + p ≤ o) ⊎ (o + p ≤ h)
   pub into : h + p ≤ length ws
   pub into′ : o + p ≤ length ws

@@ -67,8 +67,8 @@ counted-is F ids s n t x pl en et =
 -- ---------------------------------------------------------------- a span
 
 -- where the part past the records stays, so does the net
-net-past : (plan : Plan) (ar ids : List ℕ) (ws ws′ : List ℕ) → 15 * plan .records + 70 * length ids ≤ plan .table → plan .table + 4 * length ar ≤ length ws → length ws′ ≡ length ws
-    → ((j : ℕ) → 15 * plan .records + 70 * length ids ≤ j → getD ws′ j 0 ≡ getD ws j 0) → netAt (plan .table) ar ws′ ≡ netAt (plan .table) ar ws
+net-past : (plan : Plan) (ar ids : List ℕ) (ws ws′ : List ℕ) → 16 * plan .records + 70 * length ids ≤ plan .table → plan .table + 4 * length ar ≤ length ws → length ws′ ≡ length ws
+    → ((j : ℕ) → 16 * plan .records + 70 * length ids ≤ j → getD ws′ j 0 ≡ getD ws j 0) → netAt (plan .table) ar ws′ ≡ netAt (plan .table) ar ws
 net-past plan ar ids ws ws′ p r e f = net-same (plan .table) ar ws ws′ r e (λ i h. f i (omega arith))
 
 -- the rule's span, with its cell at hand
@@ -217,7 +217,7 @@ pub record Running (F : Field) (ids : List ℕ) (m top c : ℕ) (ws₀ ws : List
   pub keeping : Keeping ids m top (firstOf (F .count) c) ws
   pub same : recsOf ws m ≡ upto (firstOf (F .count) c) (addSpan F ids) (tab m 0 fresh)
   pub size : length ws ≡ length ws₀
-  pub after : (j : ℕ) → 15 * m + 70 * length ids ≤ j → getD ws j 0 ≡ getD ws₀ j 0
+  pub after : (j : ℕ) → 16 * m + 70 * length ids ≤ j → getD ws j 0 ≡ getD ws₀ j 0
 
 module _ (F : Field) (ids : List ℕ) (m : ℕ) (ws₀ : List ℕ) (B : Blank ids m ws₀) (ws : List ℕ) (N : Renewed ids m m ws₀ ws) where
   new-row : (i : ℕ) → i < m → Row ids m 0 0 i ws
@@ -288,7 +288,7 @@ unfolding upto
 upto-same f g zero x h = refl
 upto-same f g (suc k) x h = rw (upto-same f g k x (λ i y l. h i y (omega arith))) (h k (upto k g x) (omega arith))
 
-module _ (F : Field) (ids : List ℕ) (plan : Plan) (ws₀ p : List ℕ) (g : Given F ids (plan .table) ws₀) (past : 15 * plan .records + 70 * length ids ≤ plan .table)
+module _ (F : Field) (ids : List ℕ) (plan : Plan) (ws₀ p : List ℕ) (g : Given F ids (plan .table) ws₀) (past : 16 * plan .records + 70 * length ids ≤ plan .table)
     (N : Renewed ids (plan .records) (plan .records) ws₀ p) where
   ok : Celled F
   ok = sound-reached F (g .sound) .celled
@@ -297,7 +297,7 @@ module _ (F : Field) (ids : List ℕ) (plan : Plan) (ws₀ p : List ℕ) (g : Gi
     same-size : length ws ≡ length ws₀
     same-size = R .size ∙ N .size
 
-    same-past : (j : ℕ) → 15 * plan .records + 70 * length ids ≤ j → getD ws j 0 ≡ getD ws₀ j 0
+    same-past : (j : ℕ) → 16 * plan .records + 70 * length ids ≤ j → getD ws j 0 ≡ getD ws₀ j 0
     same-past j h = R .after j h ∙ N .after j h
 
     net-here : netAt (plan .table) (F .area) ws ≡ netOf F

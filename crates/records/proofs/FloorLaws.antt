@@ -30,10 +30,10 @@ module _ (ids : List ℕ) (m top k : ℕ) (ws : List ℕ) (K : Keeping ids m top
   pub room-long : e ≤ z
   room-long = omega (arith, K .rows r h .till′)
 
-  pub room-past : 15 * m + 8 * length ids ≤ a
+  pub room-past : 16 * m + 8 * length ids ≤ a
   room-past = omega (arith, floors-past ids m top k ws K r h)
 
-  pub room-inside : z ≤ 15 * m + 70 * length ids
+  pub room-inside : z ≤ 16 * m + 70 * length ids
   room-inside = omega (arith, floors-inside ids m top k ws K r h)
 
   mid-length : length (midOf a (z - a) ws) ≡ z - a
@@ -87,7 +87,7 @@ module _ (ids : List ℕ) (m top k : ℕ) (ws : List ℕ) (K : Keeping ids m top
       kept : (j : ℕ) → (j < 11 * m) → getD ws₂ j 0 ≡ getD ws j 0
       kept j g = getD-before j (P .kept) g ∙ getD-before j frame₁ (omega (arith, room-past))
 
-      kept-pool : (j : ℕ) → 15 * m ≤ j → j < a → getD ws₂ j 0 ≡ getD ws j 0
+      kept-pool : (j : ℕ) → 16 * m ≤ j → j < a → getD ws₂ j 0 ≡ getD ws j 0
       kept-pool j g l = getD-after j (P .kept) (omega arith) ∙ getD-before j frame₁ l
 
       kept-past : (j : ℕ) → z ≤ j → getD ws₂ j 0 ≡ getD ws j 0

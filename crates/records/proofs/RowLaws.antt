@@ -28,11 +28,11 @@ module _ (ids : List ℕ) (m top k : ℕ) (ws : List ℕ) (K : Keeping ids m top
   count-room i h = omega (arith, K .rows i h .tally, many-take-le (mine i) ids k, mine-le i ids)
 
   -- record i's floors lie in the workspace, past the pool
-  pub floors-past : (i : ℕ) → i < m → 15 * m + 8 * length ids ≤ startOf ws m (11 * m) i
+  pub floors-past : (i : ℕ) → i < m → 16 * m + 8 * length ids ≤ startOf ws m (11 * m) i
   unfolding floorsAt
   floors-past i h = omega (arith, K .rows i h .floors)
 
-  pub floors-inside : (i : ℕ) → i < m → startOf ws m (11 * m) i + 62 * getD ws (m + i) 0 ≤ 15 * m + 70 * length ids
+  pub floors-inside : (i : ℕ) → i < m → startOf ws m (11 * m) i + 62 * getD ws (m + i) 0 ≤ 16 * m + 70 * length ids
   unfolding floorsAt
   floors-inside i h = omega (arith, K .rows i h .floors, count-room i h, slot-room ids i)
 
@@ -94,7 +94,7 @@ module _ (m r : ℕ) (ws ws′ : List ℕ) (C : Change m r ws ws′) where
         }
 
     pub change-keeping : Row ids m top′ k′ r ws′ → top′ ≤ 4 * many (walked m ws′) ids
-        → ((j : ℕ) → 15 * m + top′ ≤ j → j < 15 * m + 8 * length ids → getD ws′ j 0 ≡ 0) → Keeping ids m top′ k′ ws′
+        → ((j : ℕ) → 16 * m + top′ ≤ j → j < 16 * m + 8 * length ids → getD ws′ j 0 ≡ 0) → Keeping ids m top′ k′ ws′
     change-keeping row us bl = record {
       few = K .few;
       spans = K .spans;
@@ -159,8 +159,8 @@ module _ (ids : List ℕ) (m top k : ℕ) (ws : List ℕ) (K : Keeping ids m top
   unfolding walked
   store-walked x = rw (store-start (7 * m) x (omega arith), store-end (7 * m) x (omega arith))
 
-  pub store-blank : (j : ℕ) → 15 * m + top ≤ j → j < 15 * m + 8 * length ids → getD (set ws q v) j 0 ≡ 0
+  pub store-blank : (j : ℕ) → 16 * m + top ≤ j → j < 16 * m + 8 * length ids → getD (set ws q v) j 0 ≡ 0
   store-blank j a b = past-set j (omega arith) ∙ K .blank j a b
 
-  pub store-after : (j : ℕ) → 15 * m + 70 * length ids ≤ j → getD (set ws q v) j 0 ≡ getD ws j 0
+  pub store-after : (j : ℕ) → 16 * m + 70 * length ids ≤ j → getD (set ws q v) j 0 ≡ getD ws j 0
   store-after j a = past-set j (omega arith)

@@ -89,12 +89,12 @@ module _ (ids : List ℕ) (m top k : ℕ) (ws : List ℕ) (K : Keeping ids m top
   pub list-room : top + 4 * many (eqb r) ids ≤ 4 * length ids
   list-room = omega (arith, K .used, many-apart (walked m ws) r unwalked ids)
 
-  pub traced-size : (l ws₁ : List ℕ) (t : ℕ) → Traced l ids (15 * m) top ws ws₁ t → length l ≤ 4 * many (eqb r) ids → length ws₁ ≡ length ws
-  traced-size l ws₁ t T few = rw (T .pool) (pooled-length ws (15 * m) (4 * length ids) top l (omega (arith, K .room)) (omega (arith, list-room)))
+  pub traced-size : (l ws₁ : List ℕ) (t : ℕ) → Traced l ids (16 * m) top ws ws₁ t → length l ≤ 4 * many (eqb r) ids → length ws₁ ≡ length ws
+  traced-size l ws₁ t T few = rw (T .pool) (pooled-length ws (16 * m) (4 * length ids) top l (omega (arith, K .room)) (omega (arith, list-room)))
 
-  module _ (l ws₁ ws₂ : List ℕ) (t : ℕ) (T : Traced l ids (15 * m) top ws ws₁ t) (few : length l ≤ 4 * many (eqb r) ids)
-      (P : Placed m (7 * m) r (15 * m + top) (15 * m + t) ws₁ ws₂) (l₂ : length ws₂ ≡ length ws₁) where
-    size-in : 15 * m + 4 * length ids ≤ length ws
+  module _ (l ws₁ ws₂ : List ℕ) (t : ℕ) (T : Traced l ids (16 * m) top ws ws₁ t) (few : length l ≤ 4 * many (eqb r) ids)
+      (P : Placed m (7 * m) r (16 * m + top) (16 * m + t) ws₁ ws₂) (l₂ : length ws₂ ≡ length ws₁) where
+    size-in : 16 * m + 4 * length ids ≤ length ws
     size-in = omega (arith, K .room)
 
     fits : top + length l ≤ 4 * length ids
@@ -103,21 +103,21 @@ module _ (ids : List ℕ) (m top k : ℕ) (ws : List ℕ) (K : Keeping ids m top
     len₁ : length ws₁ ≡ length ws
     len₁ = traced-size l ws₁ t T few
 
-    frame₁ : Frame (15 * m) (15 * m + 4 * length ids) ws ws₁
-    frame₁ = rw (T .pool) (pooled-frame ws (15 * m) (4 * length ids) top l size-in fits)
+    frame₁ : Frame (16 * m) (16 * m + 4 * length ids) ws ws₁
+    frame₁ = rw (T .pool) (pooled-frame ws (16 * m) (4 * length ids) top l size-in fits)
 
     kept : (j : ℕ) → j < 7 * m → getD ws₂ j 0 ≡ getD ws j 0
     kept j g = getD-before j (P .kept) g ∙ getD-before j frame₁ (omega arith)
 
-    kept-table : (j : ℕ) → 11 * m ≤ j → j < 15 * m → getD ws₂ j 0 ≡ getD ws j 0
+    kept-table : (j : ℕ) → 11 * m ≤ j → j < 16 * m → getD ws₂ j 0 ≡ getD ws j 0
     kept-table j g d = getD-after j (P .kept) (omega arith) ∙ getD-before j frame₁ d
 
-    kept-pool : (j : ℕ) → 15 * m ≤ j → j < 15 * m + top → getD ws₂ j 0 ≡ getD ws j 0
+    kept-pool : (j : ℕ) → 16 * m ≤ j → j < 16 * m + top → getD ws₂ j 0 ≡ getD ws j 0
     kept-pool j g d =
-        let e : j ≡ 15 * m + (j - 15 * m) = omega arith in
-        getD-after j (P .kept) (omega arith) ∙ rw e (ap (λ (x : List ℕ). getD x (15 * m + (j - 15 * m)) 0) (T .pool) ∙ pooled-at ws (15 * m) (4 * length ids) top l size-in fits (j - 15 * m) (omega arith))
+        let e : j ≡ 16 * m + (j - 16 * m) = omega arith in
+        getD-after j (P .kept) (omega arith) ∙ rw e (ap (λ (x : List ℕ). getD x (16 * m + (j - 16 * m)) 0) (T .pool) ∙ pooled-at ws (16 * m) (4 * length ids) top l size-in fits (j - 16 * m) (omega arith))
 
-    kept-past : (j : ℕ) → 15 * m + 4 * length ids ≤ j → getD ws₂ j 0 ≡ getD ws j 0
+    kept-past : (j : ℕ) → 16 * m + 4 * length ids ≤ j → getD ws₂ j 0 ≡ getD ws j 0
     kept-past j g = getD-after j (P .kept) (omega arith) ∙ getD-after j frame₁ g
 
     start-other : (x : ℕ) → x < m → (x ≡ r → ⊥) → startOf ws₂ m (7 * m) x ≡ startOf ws m (7 * m) x
@@ -163,8 +163,8 @@ module _ (ids : List ℕ) (m top k : ℕ) (ws : List ℕ) (K : Keeping ids m top
     new : listAt ws₂ m (7 * m) r ≡ l
     unfolding listAt part
     new =
-        let q : 15 * m + t - (15 * m + top) ≡ length l = omega (arith, T .end) in
-        rw (P .start, P .stop, q) (sec-after (15 * m + top) (length l) (P .kept) (omega arith) ∙ ap (sec (15 * m + top) (length l)) (T .pool) ∙ pooled-list ws (15 * m) (4 * length ids) top l size-in fits)
+        let q : 16 * m + t - (16 * m + top) ≡ length l = omega (arith, T .end) in
+        rw (P .start, P .stop, q) (sec-after (16 * m + top) (length l) (P .kept) (omega arith) ∙ ap (sec (16 * m + top) (length l)) (T .pool) ∙ pooled-list ws (16 * m) (4 * length ids) top l size-in fits)
 
     row : Row ids m t k r ws₂
     row =
@@ -182,7 +182,7 @@ module _ (ids : List ℕ) (m top k : ℕ) (ws : List ℕ) (K : Keeping ids m top
           tally = y ∙ R .tally;
         }
 
-    walked-own : walked m ws₂ r ≡ ltb (15 * m + top) (15 * m + t)
+    walked-own : walked m ws₂ r ≡ ltb (16 * m + top) (16 * m + t)
     unfolding walked _and_
     walked-own = rw (lt-ltb r m h, P .start, P .stop)
 
@@ -193,20 +193,20 @@ module _ (ids : List ℕ) (m top k : ℕ) (ws : List ℕ) (K : Keeping ids m top
           | yes z ↦
               let e : many (walked m ws₂) ids ≡ many (walked m ws) ids =
               many-same (walked m ws) (walked m ws₂) ids (λ x. elim (ℕ-discrete x r) [
-                | yes y ↦ rw y (walked-own ∙ le-ltb (15 * m + top) (15 * m + t) (omega (arith, T .end)) ∙ sym unwalked)
+                | yes y ↦ rw y (walked-own ∙ le-ltb (16 * m + top) (16 * m + t) (omega (arith, T .end)) ∙ sym unwalked)
                 | no y ↦ n x y
               ]) in
               omega (arith, T .end, K .used)
           | no z ↦
-              let e = many-more (walked m ws) r unwalked (walked m ws₂) (walked-own ∙ lt-ltb (15 * m + top) (15 * m + t) (omega (arith, T .end, z))) n ids in
+              let e = many-more (walked m ws) r unwalked (walked m ws₂) (walked-own ∙ lt-ltb (16 * m + top) (16 * m + t) (omega (arith, T .end, z))) n ids in
               omega (arith, T .end, K .used)
         ]
 
-    blank : (j : ℕ) → 15 * m + t ≤ j → j < 15 * m + 8 * length ids → getD ws₂ j 0 ≡ 0
+    blank : (j : ℕ) → 16 * m + t ≤ j → j < 16 * m + 8 * length ids → getD ws₂ j 0 ≡ 0
     blank j g d =
-        elim (decLt j (15 * m + 4 * length ids)) [
-          | yes y ↦ (let e : j ≡ 15 * m + (j - 15 * m) = omega arith in
-              getD-after j (P .kept) (omega arith) ∙ rw e (ap (λ (x : List ℕ). getD x (15 * m + (j - 15 * m)) 0) (T .pool) ∙ pooled-blank ws (15 * m) (4 * length ids) top l size-in fits (j - 15 * m) (omega (arith, T .end)) (omega arith)))
+        elim (decLt j (16 * m + 4 * length ids)) [
+          | yes y ↦ (let e : j ≡ 16 * m + (j - 16 * m) = omega arith in
+              getD-after j (P .kept) (omega arith) ∙ rw e (ap (λ (x : List ℕ). getD x (16 * m + (j - 16 * m)) 0) (T .pool) ∙ pooled-blank ws (16 * m) (4 * length ids) top l size-in fits (j - 16 * m) (omega (arith, T .end)) (omega arith)))
           | no y ↦ kept-past j (omega arith) ∙ K .blank j (omega (arith, pool-fits ids m top k ws K)) d
         ]
 
@@ -235,21 +235,21 @@ module _ (plan : Plan) (cs ids : List ℕ) (s top k : ℕ) (ws : List ℕ) (K : 
   abbrev m : ℕ
   m = plan .records
 
-  pub list-tracing : (r ≡ 0 → ⊥) → Ways (plan .table) cs ids ws → s < length ids → 15 * m + 70 * length ids ≤ plan .table → Start (poolIn plan) cs ids s top ws
+  pub list-tracing : (r ≡ 0 → ⊥) → Ways (plan .table) cs ids ws → s < length ids → 16 * m + 70 * length ids ≤ plan .table → Start (poolIn plan) cs ids s top ws
   list-tracing own l g p = record {
     ways = l;
     apart = omega arith;
     span = g;
     own = λ z. own (er ∙ z);
     room = rw (← er) (list-room ids m top k ws K r h none);
-    blank = λ i a b. K .blank (15 * m + i) (omega arith) (omega arith);
+    blank = λ i a b. K .blank (16 * m + i) (omega arith) (omega arith);
   }
 
-  module _ (T : Start (poolIn plan) cs ids s top ws) (ws₁ : List ℕ) (t : ℕ) (D : Traced (traced (netAt (plan .table) ids ws) ids s) ids (15 * m) top ws ws₁ t) where
+  module _ (T : Start (poolIn plan) cs ids s top ws) (ws₁ : List ℕ) (t : ℕ) (D : Traced (traced (netAt (plan .table) ids ws) ids s) ids (16 * m) top ws ws₁ t) where
     short : length (traced (netAt (plan .table) ids ws) ids s) ≤ 4 * many (eqb r) ids
     short = rw er (traced-room (plan .table) cs ids ws s (T .ways) (T .span) (T .own))
 
-    pub list-fits : (15 * m + top < 4294967296) × (15 * m + t < 4294967296)
+    pub list-fits : (16 * m + top < 4294967296) × (16 * m + t < 4294967296)
     list-fits =
         let j = list-room ids m top k ws K r h none in
         (omega (arith, K .few, K .spans), omega (arith, K .few, K .spans, D .end, short))
@@ -257,6 +257,6 @@ module _ (plan : Plan) (cs ids : List ℕ) (s top k : ℕ) (ws : List ℕ) (K : 
     pub list-size : 11 * m ≤ length ws₁
     list-size = omega (arith, K .room, traced-size ids m top k ws K r h none (traced (netAt (plan .table) ids ws) ids s) ws₁ t D short)
 
-    pub list-step : (ws₂ : List ℕ) → Placed m (7 * m) r (15 * m + top) (15 * m + t) ws₁ ws₂ → length ws₂ ≡ length ws₁
+    pub list-step : (ws₂ : List ℕ) → Placed m (7 * m) r (16 * m + top) (16 * m + t) ws₁ ws₂ → length ws₂ ≡ length ws₁
         → Step (withList (traced (netAt (plan .table) ids ws) ids s)) ids m r t k ws ws₂
     list-step ws₂ P l₂ = step-list ids m top k ws K r h none (traced (netAt (plan .table) ids ws) ids s) ws₁ ws₂ t D short P l₂

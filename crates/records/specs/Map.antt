@@ -17,7 +17,7 @@ abbrev pub floorPartsAt : ℕ → ℕ
 floorPartsAt m = 11 * m
 
 abbrev pub poolAt : ℕ → ℕ
-poolAt m = 15 * m
+poolAt m = 16 * m
 
 -- where the floors begin
 abbrev pub floorsFrom : ℕ → ℕ → ℕ
@@ -28,7 +28,7 @@ abbrev pub floorRoom : ℕ
 floorRoom = 62
 
 abbrev pub recordsEnd : ℕ → ℕ → ℕ
-recordsEnd m n = 15 * m + 70 * n
+recordsEnd m n = 16 * m + 70 * n
 
 -- the pool, and the table of neighbours
 abbrev pub poolIn : Plan → Pool

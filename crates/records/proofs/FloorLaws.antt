@@ -87,7 +87,7 @@ module _ (ids : List ℕ) (m top k : ℕ) (ws : List ℕ) (K : Keeping ids m top
       kept : (j : ℕ) → (j < 11 * m) → getD ws₂ j 0 ≡ getD ws j 0
       kept j g = getD-before j (P .kept) g ∙ getD-before j frame₁ (omega (arith, room-past))
 
-      kept-pool : (j : ℕ) → 16 * m ≤ j → j < a → getD ws₂ j 0 ≡ getD ws j 0
+      kept-pool : (j : ℕ) → 15 * m ≤ j → j < a → getD ws₂ j 0 ≡ getD ws j 0
       kept-pool j g l = getD-after j (P .kept) (omega arith) ∙ getD-before j frame₁ l
 
       kept-past : (j : ℕ) → z ≤ j → getD ws₂ j 0 ≡ getD ws j 0
@@ -136,6 +136,7 @@ module _ (ids : List ℕ) (m top k : ℕ) (ws : List ℕ) (K : Keeping ids m top
         stops′ = stop-other;
         lists = λ x g n. list-kept x g;
         floors = floor-other;
+        cuts = λ x g n. kept-pool (15 * m + x) (omega arith) (omega (arith, room-past));
         spare = λ x g. kept (5 * m + x) (omega arith);
       }
 
@@ -180,14 +181,15 @@ module _ (ids : List ℕ) (m top k : ℕ) (ws : List ℕ) (K : Keeping ids m top
             (rw (many-same (walked m ws) (walked m ws₂) ids walked-kept) (K .used))
             (λ j g l. kept-pool j (omega arith) (omega (arith, room-past)) ∙ K .blank j g l);
         same = change-recs m r ws ws₂ change _ h (
-            rec-eq _ _ _ _ _ _ _ _ _ _ _ _ _ _
+            rec-eq _ _ _ _ _ _ _ _ _ _ _ _ _ _ _ _
             (kept r (omega arith))
             (kept (m + r) (omega arith))
             (kept (2 * m + r) (omega arith))
             (ap (λ (x : ℕ). not (eqb x 0)) (kept (4 * m + r) (omega arith)))
             (ap (λ (x : ℕ). not (eqb x 0)) (kept (3 * m + r) (omega arith)))
             (list-kept r h)
-            new)
+            new
+            (ap (λ (x : ℕ). not (eqb x 0)) (kept-pool (15 * m + r) (omega arith) (omega (arith, room-past)))))
             ∙ ap (λ (x : Rec). set (recsOf ws m) r (floored o x)) (sym (recs-at ws m r h));
         size = l₂ ∙ len₁;
         after = λ j g. kept-past j (omega (arith, room-inside));

@@ -109,7 +109,7 @@ module _ (ids : List ℕ) (m i : ℕ) (ws : List ℕ) (R : Renewed ids m i ws ws
     low : (j : ℕ) → j < 7 * m → getD ws₃ j 0 ≡ getD ws₁ j 0
     low j g = getD-before j (Q .kept) (omega arith) ∙ getD-before j (P .kept) g
 
-    past : (j : ℕ) → 16 * m ≤ j → getD ws₃ j 0 ≡ getD ws j 0
+    past : (j : ℕ) → 15 * m ≤ j → getD ws₃ j 0 ≡ getD ws j 0
     past j g = getD-after j (Q .kept) (omega arith) ∙ getD-after j (P .kept) (omega arith) ∙ store-other j (λ z. omega arith) (λ z. omega arith)
 
     start₇ : (x : ℕ) → x < m → startOf ws₃ m (7 * m) x ≡ startOf ws₂ m (7 * m) x

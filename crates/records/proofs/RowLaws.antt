@@ -65,6 +65,7 @@ module _ (m r : ℕ) (ws ws′ : List ℕ) (C : Change m r ws ws′) where
   rec-other : (x : ℕ) → x < m → (x ≡ r → ⊥) → recAt ws′ m (7 * m) (11 * m) x ≡ recAt ws m (7 * m) (11 * m) x
   rec-other x h n =
       rec-same ws ws′ m (7 * m) (11 * m) x (C .names x h n) (C .counts x h n) (C .areas x h n) (C .overlaps x h n) (C .visits x h n) (C .lists x h n) (C .floors x h n)
+      (C .cuts x h n)
 
   pub change-recs : (y : Rec) → r < m → recAt ws′ m (7 * m) (11 * m) r ≡ y → recsOf ws′ m ≡ set (recsOf ws m) r y
   unfolding recsOf
@@ -152,6 +153,7 @@ module _ (ids : List ℕ) (m top k : ℕ) (ws : List ℕ) (K : Keeping ids m top
     stops′ = λ x h n. store-end (11 * m) x (omega arith);
     lists = λ x h n. store-list (7 * m) x h (list-parts ids m top k ws K);
     floors = λ x h n. store-list (11 * m) x h (floor-parts ids m top k ws K);
+    cuts = λ x h n. past-set (15 * m + x) (omega arith);
     spare = λ x h. past-set (5 * m + x) (omega arith);
   }
 

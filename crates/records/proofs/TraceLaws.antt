@@ -4,14 +4,14 @@ use Prim.Native.Nat.{ℕ, _+_, _*_, _-_, _≤_, _<_}
 use native.Mathlib.Omega.{arith}
 use native.Mathlib.Decide.{ℕ-discrete, decLt}
 use mathlib.Core.Path.{_≡_, refl, sym, ap, _∙_}
-use mathlib.Core.Bool.{false, not}
+use mathlib.Core.Bool.{Bool, false, not}
 use mathlib.Core.List.{List, []}
 use lib.ListN.{length, getD, set}
 use lib.Dec.{eqb, ltb}
 use borrow.Author.Tests.{lt-ltb, le-ltb, ltb-true}
 use Rattle.rules.specs.Base.{_and_, if_then_else_, many}
 use Rattle.rules.specs.Net.{Net}
-use Rattle.rules.specs.Contour.{firstSolid, contour}
+use Rattle.rules.specs.Contour.{firstSolid, contour, cutShort}
 use Rattle.rules.specs.Records.{Rec, at}
 use Rattle.laws.proofs.Basics.{if-ind}
 use Rattle.space.specs.Space.{sec, Frame}
@@ -30,10 +30,11 @@ use Rattle.contour.proofs.Room.{contour-room}
 use Rattle.table.specs.View.{part, startOf, endOf, listAt, recAt, recsOf, Placed}
 use Rattle.table.proofs.ViewLaws.{rec-eq, list-same, wide-same, recs-at}
 use Rattle.records.specs.Map.{poolIn}
-use Rattle.records.specs.Rows.{walked, Row, Keeping, Change, Step, Traced, traced, withList}
+use Rattle.records.specs.Rows.{walked, Row, Keeping, Change, Step, Traced, traced, tracedCut, withList, cutMarked, withContour}
 use Rattle.records.specs.declared.grow.Plan.{Plan}
 use Rattle.records.proofs.CountLaws.{many-same, many-apart, many-more}
-use Rattle.records.proofs.RowLaws.{pool-fits, floors-past, list-parts, floor-parts, change-recs, change-keeping, walked-other}
+use Rattle.records.proofs.RowLaws.{pool-fits, floors-past, list-parts, floor-parts, change-recs, change-keeping, walked-other, step-then}
+use Rattle.records.proofs.MarkLaws.{step-cut}
 
 -- ---------------------------------------------------------------- the trace
 
@@ -57,6 +58,10 @@ module _ (pool : Pool) (cs ids : List ℕ) (s top : ℕ) (ws : List ℕ) (T : St
           → Traced (traced N ids s) ids (pool .at) top ws ws′ t
       trace-at ws′ t a b = record { end = rw traced-at b; pool = rw traced-at a }
 
+      pub trace-cut-at : (c : Bool) → c ≡ cutShort N ids s d → c ≡ tracedCut N ids s
+      unfolding tracedCut _and_
+      trace-cut-at c q = rw (found .0, lt-ltb d 4 (found .1)) q
+
     pub trace-none : r ≡ Nowhere → Traced (traced N ids s) ids (pool .at) top ws ws top
     unfolding traced if_then_else_
     trace-none q =
@@ -66,6 +71,10 @@ module _ (pool : Pool) (cs ids : List ℕ) (s top : ℕ) (ws : List ℕ) (T : St
           end = rw g (omega arith);
           pool = rw g (laid-whole ws ws (pool .at) (4 * length ids) top top (start-laid pool cs ids ws s top T) ∙ ap (pooled ws (pool .at) (4 * length ids) top) z);
         }
+
+    pub trace-cut-none : r ≡ Nowhere → false ≡ tracedCut N ids s
+    unfolding tracedCut _and_
+    trace-cut-none q = rw (edge-none r (firstSolid N ids s) e q)
 
 -- a traced list has at most four ids for each span of the region
 pub traced-room : (table : ℕ) (cs ids ws : List ℕ) (s : ℕ) → Ways table cs ids ws → s < length ids → (getD ids s 0 ≡ 0 → ⊥)
@@ -157,6 +166,7 @@ module _ (ids : List ℕ) (m top k : ℕ) (ws : List ℕ) (K : Keeping ids m top
       stops′ = λ x g n. stop-floor x g;
       lists = list-other;
       floors = λ x g n. floor-kept x g;
+      cuts = λ x g n. kept-table (15 * m + x) (omega arith) (omega arith);
       spare = λ x g. kept (5 * m + x) (omega arith);
     }
 
@@ -215,14 +225,15 @@ module _ (ids : List ℕ) (m top k : ℕ) (ws : List ℕ) (K : Keeping ids m top
     step-list = record {
       keeping = change-keeping m r ws ws₂ change ids top t k k K (omega (arith, T .end)) (λ x n. refl) row used blank;
       same = change-recs m r ws ws₂ change _ h (
-          rec-eq _ _ _ _ _ _ _ _ _ _ _ _ _ _
+          rec-eq _ _ _ _ _ _ _ _ _ _ _ _ _ _ _ _
           (kept r (omega arith))
           (kept (m + r) (omega arith))
           (kept (2 * m + r) (omega arith))
           (ap (λ (x : ℕ). not (eqb x 0)) (kept (4 * m + r) (omega arith)))
           (ap (λ (x : ℕ). not (eqb x 0)) (kept (3 * m + r) (omega arith)))
           new
-          (floor-kept r h))
+          (floor-kept r h)
+          (ap (λ (x : ℕ). not (eqb x 0)) (kept-table (15 * m + r) (omega arith) (omega arith))))
           ∙ ap (λ (x : Rec). set (recsOf ws m) r (withList l x)) (sym (recs-at ws m r h));
       size = l₂ ∙ len₁;
       after = λ j g. kept-past j (omega arith);
@@ -254,9 +265,14 @@ module _ (plan : Plan) (cs ids : List ℕ) (s top k : ℕ) (ws : List ℕ) (K : 
         let j = list-room ids m top k ws K r h none in
         (omega (arith, K .few, K .spans), omega (arith, K .few, K .spans, D .end, short))
 
-    pub list-size : 11 * m ≤ length ws₁
+    pub list-size : 16 * m ≤ length ws₁
     list-size = omega (arith, K .room, traced-size ids m top k ws K r h none (traced (netAt (plan .table) ids ws) ids s) ws₁ t D short)
 
+    -- the list, and then its mark
     pub list-step : (ws₂ : List ℕ) → Placed m (7 * m) r (16 * m + top) (16 * m + t) ws₁ ws₂ → length ws₂ ≡ length ws₁
-        → Step (withList (traced (netAt (plan .table) ids ws) ids s)) ids m r t k ws ws₂
-    list-step ws₂ P l₂ = step-list ids m top k ws K r h none (traced (netAt (plan .table) ids ws) ids s) ws₁ ws₂ t D short P l₂
+        → (b : Bool) → b ≡ tracedCut (netAt (plan .table) ids ws) ids s → (ws₃ : List ℕ) → ws₃ ≡ cutMarked m r b ws₂
+        → Step (withContour (traced (netAt (plan .table) ids ws) ids s) (tracedCut (netAt (plan .table) ids ws) ids s)) ids m r t k ws ws₃
+    unfolding withContour
+    list-step ws₂ P l₂ b eb ws₃ e₃ =
+        let one = step-list ids m top k ws K r h none (traced (netAt (plan .table) ids ws) ids s) ws₁ ws₂ t D short P l₂ in
+        rw (← eb, e₃) (step-then _ _ ids m r t t k k ws ws₂ (cutMarked m r b ws₂) h one (step-cut b ids m t k ws₂ (one .keeping) r h))

@@ -1,5 +1,6 @@
 -- Where the records lie in the workspace, m of them, of n spans, on the map of crate `table`: seven columns, the tables of the lists' and of the
--- floors' parts, the pool's two halves, 4n each, and then the floors, 62 numbers for each span. Past them stands the table of neighbours.
+-- floors' parts, the column of the marks, the pool's two halves, 4n each, and then the floors, 62 numbers for each span. Past them stands the
+-- table of neighbours.
 use Prim.Native.Nat.{ℕ, _+_, _*_}
 use Rattle.contour.specs.declared.walk.Pool.{Pool}
 use Rattle.records.specs.declared.grow.Plan.{Plan}

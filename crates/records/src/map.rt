@@ -4,12 +4,10 @@ ghost use Prim.Native.Nat.{_≤_};
 ghost use Rattle.net.specs.Table.{mostSpans};
 ghost use Rattle.records.specs.Map.{recordsEnd};
 
-// Where the table of the lists' parts begins, the table of the floors' parts, the column of the marks, and the pool: numbers a record.
+// Where the table of the lists' parts begins, the table of the floors' parts, and the pool: numbers a record.
 pub(crate) const LISTS: usize = 7;
 
 pub(crate) const FLOORS: usize = 11;
-
-pub(crate) const MARKS: usize = 15;
 
 pub(crate) const POOL: usize = 16;
 

@@ -130,10 +130,10 @@ module _ (m n : ℕ) (ws ids : List ℕ) (R : Ready m n ws ids) where
     pub filtered-joined : Joined (recsOf ws₁ m)
     filtered-joined = record { rs = recsOf ws₁ m; alike = alike-start (recsOf ws₁ m) (rw e (filter-fresh least (recsOf ws m) ready-fresh)) }
 
-    pub numbered-top : (area : ℕ) (ws₂ ids′ : List ℕ) (k o : ℕ) → recsOf ws₂ m ≡ mergedF area (suc m) (recsOf ws₁ m)
-        → _≡_ {A = Regions} (record { ids = ids′; most = k; over = o }) (numbered (recsOf ws₂ m) ids)
-        → _≡_ {A = Regions} (record { ids = ids′; most = k; over = o }) (numbered (merged area (suc m) (filtered least (recsOf ws m))) ids)
-    numbered-top area ws₂ ids′ k o q d =
+    pub numbered-top : (area : ℕ) (ws₂ ids′ : List ℕ) (k o u : ℕ) → recsOf ws₂ m ≡ mergedF area (suc m) (recsOf ws₁ m)
+        → _≡_ {A = Regions} (record { ids = ids′; most = k; over = o; cut = u }) (numbered (recsOf ws₂ m) ids)
+        → _≡_ {A = Regions} (record { ids = ids′; most = k; over = o; cut = u }) (numbered (merged area (suc m) (filtered least (recsOf ws m))) ids)
+    numbered-top area ws₂ ids′ k o u q d =
         d ∙ ap (λ (rs : List Rec). numbered rs ids) (q ∙ ap (mergedF area (suc m)) e)
         ∙ sym (merge-is area (suc m) (filtered least (recsOf ws m)) (filter-fresh least (recsOf ws m) ready-fresh) ids)
 

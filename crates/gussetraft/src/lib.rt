@@ -174,7 +174,7 @@ pub extern "C" fn gussetraft_build_regions_compared(
     ensures rooms { λ r. ⌜ (let F = lent w h (now (index .entry)) (now (count .entry)) (now (area .entry)) (now (con .entry)) in
         LeavesRooms compared F «border_size» r (now (ids .exit))) ⌝ }
 {
-    let answer = build_regions_compared(
+    let compared = build_regions_compared(
         w,
         h,
         index,
@@ -189,7 +189,7 @@ pub extern "C" fn gussetraft_build_regions_compared(
         workspace,
         ids,
     );
-    region_numbers(answer)
+    region_numbers(compared)
 }
 
 #[no_mangle]

@@ -33,7 +33,7 @@ extern "C" {
 /* The least number of elements of the workspace, for n spans. */
 #define GUSSETRAFT_WORKSPACE_LEN(n) ((size_t)128 * (size_t)(n) + (size_t)4096)
 
-/* Refusals, looked for in this order; the first that applies is given. 7 and 8 are given by gussetraft_build_regions alone, 27 by
+/* Refusals, looked for in this order; the first that applies is given. 7 and 8 are given by the two region functions alone, 27 by
  * gussetraft_mend alone, which gives 1 to 4 beside it. */
 enum {
     GUSSETRAFT_TOO_WIDE = 1,     /* w or h above 256 */
@@ -84,8 +84,8 @@ gussetraft_distance_answer gussetraft_build_distance_field(
     uint16_t *raw, size_t raw_len,
     uint16_t *blurred, size_t blurred_len);
 
-/* refusal: 0, or the number of the refusal; max_region, the last number given: the ids in use are exactly 1 (5 with a border) to
- * max_region - 1, and those of the border; overlaps: how many regions, before the merge, lie over themselves; cut: how many regions,
+/* refusal: 0, or the number of the refusal; max_region, the greatest id in use: the ids in use are exactly 1 to max_region, and those of
+ * the border, and it is 0 where none is in use; overlaps: how many regions, before the merge, lie over themselves; cut: how many regions,
  * removed ones too and absorbed ones counted in their absorber, have a contour that was cut short, because the walk round it was not
  * back after 40,000 steps, so that the list of neighbours is partial (never one of at most 10,000 spans). All three are 0 where refused. */
 typedef struct {
@@ -99,6 +99,20 @@ typedef struct {
  * gussetraft_build_distance_field gives, or any others up to 510. What the workspace holds before does not matter; where the call is
  * not refused it holds zeros after, all of it. The two areas are numbers of spans. */
 gussetraft_region_answer gussetraft_build_regions(
+    uint16_t w, uint16_t h,
+    const uint32_t *index, size_t index_len,
+    const uint8_t *count, size_t count_len,
+    const uint8_t *area, size_t area_len,
+    const uint8_t *con, size_t con_len,
+    const uint16_t *dist, size_t dist_len,
+    uint16_t max_distance,
+    uint16_t border_size, uint16_t min_region_area, uint16_t merge_region_area,
+    uint16_t *workspace, size_t workspace_len,
+    uint16_t *ids, size_t ids_len);
+
+/* The same in the compared form: the numbers of the Rust, for differential runs and for tables that were made with them. There records
+ * without spans are numbered, too: the ids in use are exactly 1 (5 with a border) to max_region - 1, and those of the border. */
+gussetraft_region_answer gussetraft_build_regions_compared(
     uint16_t w, uint16_t h,
     const uint32_t *index, size_t index_len,
     const uint8_t *count, size_t count_len,

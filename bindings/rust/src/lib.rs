@@ -37,7 +37,7 @@
 //! let mut ids = [0; 9];
 //! let regions = build_regions(&field, &blurred, max_distance, &sizes, &mut workspace, &mut ids)?;
 //! assert_eq!(ids, [1; 9]);
-//! assert_eq!((regions.max_region, regions.overlaps, regions.cut), (2, 0, 0));
+//! assert_eq!((regions.max_region, regions.overlaps, regions.cut), (1, 0, 0));
 //!
 //! // Bad input is refused, and every list holds what it held before.
 //! let damaged = Field { area: &[1; 8], ..field };
@@ -97,7 +97,8 @@ pub struct Sizes {
 /// What the region entry gives beside the ids.
 #[derive(Debug, Clone, Copy, PartialEq, Eq)]
 pub struct Regions {
-    /// The last number given. The ids in use are exactly 1 (5 with a border) to `max_region` - 1, and those of the border.
+    /// The greatest id in use: the ids in use are exactly 1 to `max_region`, and those of the border; 0 where none is in use. Of
+    /// [`build_regions_compared`] the last number given: there they are 1 (5 with a border) to `max_region` - 1.
     pub max_region: u16,
     /// How many regions, before the merge, lie over themselves.
     pub overlaps: u16,
@@ -230,6 +231,28 @@ pub fn build_regions(
     ids: &mut [u16],
 ) -> Result<Regions, Refusal> {
     let answer = sys::regions(field, distances, max_distance, sizes, workspace, ids);
+    numbers(&answer)
+}
+
+/// The same in the compared form: the numbers of the Rust, for differential runs and for tables that were made with them. Records
+/// without spans are numbered there, too.
+///
+/// # Errors
+///
+/// As [`build_regions`].
+pub fn build_regions_compared(
+    field: &Field<'_>,
+    distances: &[u16],
+    max_distance: u16,
+    sizes: &Sizes,
+    workspace: &mut [u16],
+    ids: &mut [u16],
+) -> Result<Regions, Refusal> {
+    let answer = sys::regions_compared(field, distances, max_distance, sizes, workspace, ids);
+    numbers(&answer)
+}
+
+fn numbers(answer: &sys::RegionAnswer) -> Result<Regions, Refusal> {
     accepted(answer.refusal)?;
     Ok(Regions {
         max_region: answer.max_region,

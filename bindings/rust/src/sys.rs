@@ -63,6 +63,29 @@ extern "C" {
         ids_len: usize,
     ) -> RegionAnswer;
 
+    fn gussetraft_build_regions_compared(
+        w: u16,
+        h: u16,
+        index: *const u32,
+        index_len: usize,
+        count: *const u8,
+        count_len: usize,
+        area: *const u8,
+        area_len: usize,
+        con: *const u8,
+        con_len: usize,
+        distances: *const u16,
+        distances_len: usize,
+        max_distance: u16,
+        border_size: u16,
+        min_region_area: u16,
+        merge_region_area: u16,
+        workspace: *mut u16,
+        workspace_len: usize,
+        ids: *mut u16,
+        ids_len: usize,
+    ) -> RegionAnswer;
+
     fn gussetraft_mend(
         w: u16,
         h: u16,
@@ -113,6 +136,41 @@ pub fn regions(
     // SAFETY: as above.
     unsafe {
         gussetraft_build_regions(
+            field.w,
+            field.h,
+            field.index.as_ptr(),
+            field.index.len(),
+            field.count.as_ptr(),
+            field.count.len(),
+            field.area.as_ptr(),
+            field.area.len(),
+            field.con.as_ptr(),
+            field.con.len(),
+            distances.as_ptr(),
+            distances.len(),
+            max_distance,
+            sizes.border_size,
+            sizes.min_region_area,
+            sizes.merge_region_area,
+            workspace.as_mut_ptr(),
+            workspace.len(),
+            ids.as_mut_ptr(),
+            ids.len(),
+        )
+    }
+}
+
+pub fn regions_compared(
+    field: &Field<'_>,
+    distances: &[u16],
+    max_distance: u16,
+    sizes: &Sizes,
+    workspace: &mut [u16],
+    ids: &mut [u16],
+) -> RegionAnswer {
+    // SAFETY: as above.
+    unsafe {
+        gussetraft_build_regions_compared(
             field.w,
             field.h,
             field.index.as_ptr(),

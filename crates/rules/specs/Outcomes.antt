@@ -8,7 +8,7 @@ use Rattle.rules.specs.Field.{Field}
 use Rattle.rules.specs.Refusals.{refusal, regionRefusal}
 use Rattle.rules.specs.Distance.{raw, greatest, blur}
 use Rattle.rules.specs.Growth.{grown}
-use Rattle.rules.specs.Numbering.{regions}
+use Rattle.rules.specs.Numbering.{Form, regions, formed}
 
 -- "The distance entry writes raw and blurred distances (u16 each) and gives max_distance.": most is max_distance
 pub record DistanceOutcome : Type 0 where
@@ -42,12 +42,12 @@ pub record RegionOutcome : Type 0 where
   pub ids : List ℕ
 
 -- "A refusal returns its number with zero for each other number, and all lent lists unchanged, workspace too. Success returns 0 with
--- the numbers; the workspace, any extra part too, then holds zeros."
-unfoldable pub regionOutcome : Field → List ℕ → ℕ → Sizes → List ℕ → List ℕ → RegionOutcome
-regionOutcome F dist most z work₀ ids₀ =
+-- the numbers; the workspace, any extra part too, then holds zeros." In either form of the numbers.
+unfoldable pub regionOutcome : Form → Field → List ℕ → ℕ → Sizes → List ℕ → List ℕ → RegionOutcome
+regionOutcome form F dist most z work₀ ids₀ =
     let r = regionRefusal F (length dist ∷ length ids₀ ∷ []) (length work₀) dist most in
     let g = grown F dist most (z .border) in
-    let v = regions F (z .least) (z .merge) (g .ids) (g .next) in
+    let v = formed form (regions F (z .least) (z .merge) (g .ids) (g .next)) in
     if eqb r 0
     then record { refused = 0; most = v .most; over = v .over; cut = v .cut; workspace = replicate (length work₀) 0; ids = v .ids }
     else record { refused = r; most = 0; over = 0; cut = 0; workspace = work₀; ids = ids₀ }

@@ -8,12 +8,15 @@ use mathlib.Core.List.{List, [], _∷_}
 use lib.ListN.{length, replicate}
 use borrow.Author.Tests.{eq-eqb, ne-eqb}
 use Rattle.rules.specs.Base.{if_then_else_}
-use Rattle.rules.specs.Field.{Field, spans}
+use Rattle.rules.specs.Field.{Field, Bytes, spans}
 use Rattle.rules.specs.Refusals.{regionRefusal}
-use Rattle.rules.specs.Growth.{grown}
-use Rattle.rules.specs.Numbering.{Regions, regions}
+use Rattle.rules.specs.Growth.{firstId, grown}
+use Rattle.rules.specs.Numbering.{Form, Regions, regions, formed}
 use Rattle.rules.specs.Outcomes.{Sizes, RegionOutcome, regionOutcome}
-use Rattle.rooms.proofs.Rooms.{accepted}
+use Rattle.rooms.specs.Dense.{shifted}
+use Rattle.rooms.proofs.Rooms.{accepted, entry-rooms}
+use Rattle.rooms.proofs.Dense.{formed-is}
+use Rattle.rooms.proofs.Entry.{first-some}
 use Rattle.checker.specs.Answer.{numberOf, verdictNumber}
 use Rattle.checker.specs.declared.Refusal.{Refusal}
 use Rattle.checker.specs.declared.Verdict.{Verdict}
@@ -37,9 +40,9 @@ roomy F lens work dist most e = elim (decLt work (128 * spans F + 4096)) [
 
 module _ (F : Field) (dist : List ℕ) (most : ℕ) (ws ids : List ℕ) (v : Verdict)
     (e : verdictNumber v ≡ regionRefusal F (length dist ∷ length ids ∷ []) (length ws) dist most) where
-  pub regions-refused : (z : Sizes) (r : Refusal) → v ≡ verdict.Refused r → AnswersRegions (regionOutcome F dist most z ws ids) (Refused r) ws ids
+  pub regions-refused : (form : Form) (z : Sizes) (r : Refusal) → v ≡ verdict.Refused r → AnswersRegions (regionOutcome form F dist most z ws ids) (Refused r) ws ids
   unfolding regionOutcome if_then_else_
-  regions-refused z r y =
+  regions-refused form z r y =
       let n : numberOf r ≡ regionRefusal F (length dist ∷ length ids ∷ []) (length ws) dist most = ap verdictNumber (sym y) ∙ e in
       let f = ne-eqb (regionRefusal F (length dist ∷ length ids ∷ []) (length ws) dist most) 0 (λ k. omega (arith, number-pos r)) in
       record { refused = rw f n; most = rw f; over = rw f; cut = rw f; workspace = rw f; ids = rw f }
@@ -59,11 +62,16 @@ module _ (F : Field) (dist : List ℕ) (most : ℕ) (ws ids : List ℕ) (v : Ver
           room = roomy F (length dist ∷ length ids ∷ []) (length ws) dist most none;
         }
 
-    pub regions-done : (z : Sizes) (k o u : ℕ) (ws′ ids′ : List ℕ)
-        → record { ids = ids′; most = k; over = o; cut = u } ≡ regions F (z .least) (z .merge) (grown F dist most (z .border) .ids) (grown F dist most (z .border) .next)
-        → ws′ ≡ replicate (length ws) 0 → AnswersRegions (regionOutcome F dist most z ws ids) (Done k o u) ws′ ids′
+    -- what the numbering gives, p, and what the form makes of it, f
+    pub regions-done : (form : Form) (z : Sizes) (v₁ : Regions) (k o u : ℕ) (ws′ ids′ : List ℕ)
+        → v₁ ≡ regions F (z .least) (z .merge) (grown F dist most (z .border) .ids) (grown F dist most (z .border) .next)
+        → ws′ ≡ replicate (length ws) 0 → Bytes F → record { ids = ids′; most = k; over = o; cut = u } ≡ shifted form (firstId (z .border)) v₁
+        → AnswersRegions (regionOutcome form F dist most z ws ids) (Done k o u) ws′ ids′
     unfolding regionOutcome if_then_else_
-    regions-done z k o u ws′ ids′ p q =
+    regions-done form z v₁ k o u ws′ ids′ e₁ q bytes s =
+        let rooms = entry-rooms F (length dist ∷ length ids ∷ []) (length ws) dist most none bytes (z .border) (z .least) (z .merge) in
+        let p : record { ids = ids′; most = k; over = o; cut = u } ≡ formed form (regions F (z .least) (z .merge) (grown F dist most (z .border) .ids) (grown F dist most (z .border) .next)) =
+        s ∙ ap (shifted form (firstId (z .border))) e₁ ∙ sym (formed-is form F (firstId (z .border)) _ rooms (first-some (z .border))) in
         let f = eq-eqb (regionRefusal F (length dist ∷ length ids ∷ []) (length ws) dist most) 0 none in
         record {
           refused = rw f;

@@ -3,9 +3,10 @@ use Prim.Native.Nat.{ℕ}
 use mathlib.Core.Path.{_≡_}
 use mathlib.Core.List.{List}
 use Rattle.rules.specs.Field.{Field}
-use Rattle.rules.specs.Growth.{firstId}
+use Rattle.rules.specs.Numbering.{Form}
 use Rattle.rules.specs.Outcomes.{DistanceOutcome, RegionOutcome}
 use Rattle.rooms.specs.Rooms.{Rooms}
+use Rattle.rooms.specs.Dense.{firstIn, pastIn}
 use Rattle.checker.specs.Answer.{numberOf}
 use Rattle.watershed.specs.declared.DistanceAnswer.{DistanceAnswer}
 use Rattle.watershed.specs.declared.DistanceAnswer.the-variants.{Refused, Done}
@@ -55,6 +56,7 @@ pub record AnswersRegions (o : RegionOutcome) (r : RegionAnswer) (ws l : List �
   pub workspace : ws ≡ o .workspace
   pub ids : l ≡ o .ids
 
--- demand 3 of an answer that refuses nothing, with l the ids at exit: they are rooms, of which the first has id 1, or 5 with a border
-pub record GivesRooms (F : Field) (border : ℕ) (r : RegionAnswer) (l : List ℕ) : Type 0 where
-  pub rooms : regionsRefusedBy r ≡ 0 → Rooms F (firstId border) l (maxRegionIn r)
+-- demand 3 of an answer that refuses nothing, with l the ids at exit: they are rooms. In the dense form the first has id 1 and the last
+-- max_region; in the compared form the first has id 1, or 5 with a border, and the last max_region - 1
+pub record GivesRooms (form : Form) (F : Field) (border : ℕ) (r : RegionAnswer) (l : List ℕ) : Type 0 where
+  pub rooms : regionsRefusedBy r ≡ 0 → Rooms F (firstIn form border) l (pastIn form (maxRegionIn r))

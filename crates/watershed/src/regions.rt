@@ -1,4 +1,6 @@
-// The region entry.
+// The region entry, in its two forms.
+use crate::form::Form;
+use crate::form::give_form;
 use checker::Refusal;
 use checker::Verdict;
 use checker::check;
@@ -18,11 +20,12 @@ ghost use Rattle.rules.specs.Base.{any};
 ghost use Rattle.rules.specs.Field.{Bytes};
 ghost use Rattle.rules.specs.Refusals.{tooFar, regionRefusal};
 ghost use Rattle.rules.specs.Growth.{grown};
-ghost use Rattle.rules.specs.Numbering.{regions};
+ghost use Rattle.rules.specs.Numbering.{dense, compared, regions};
 ghost use Rattle.rules.specs.Outcomes.{Sizes, regionOutcome};
 ghost use Rattle.field.specs.Lent.{lent};
 ghost use Rattle.checker.specs.Answer.{verdictNumber};
 ghost use Rattle.watershed.specs.Answer.{AnswersRegions, GivesRooms};
+ghost use Rattle.watershed.specs.Form.{formOf};
 ghost use Rattle.watershed.specs.Stages.{Admitted, ownRefusal};
 
 // What the region entry gives: the refusal, or max_region, the overlap count, and the number of records cut short.
@@ -132,8 +135,9 @@ fn find_regions(
     r
 }
 
-// Ids of the regions of any lists: a field that is refused leaves ids and workspace as they were.
-pub fn build_regions(
+// Ids of the regions of any lists, in either form: a field that is refused leaves ids and workspace as they were.
+fn build_form(
+    form: Form,
     w: u16,
     h: u16,
     index: &[u32],
@@ -150,10 +154,10 @@ pub fn build_regions(
 ) -> RegionAnswer
     ensures { λ r. ⌜ (let F = lent w h (now (index .entry)) (now (count .entry)) (now (area .entry)) (now (con .entry)) in
         let z : Sizes = record { border = «border_size»; least = «min_region_area»; merge = «merge_region_area» } in
-        let o = regionOutcome F (now (dist .entry)) «max_distance» z (now (workspace .entry)) (now (ids .entry)) in
+        let o = regionOutcome (formOf form) F (now (dist .entry)) «max_distance» z (now (workspace .entry)) (now (ids .entry)) in
         AnswersRegions o r (now (workspace .exit)) (now (ids .exit))) ⌝ }
     ensures rooms { λ r. ⌜ (let F = lent w h (now (index .entry)) (now (count .entry)) (now (area .entry)) (now (con .entry)) in
-        GivesRooms F «border_size» r (now (ids .exit))) ⌝ }
+        GivesRooms (formOf form) F «border_size» r (now (ids .exit))) ⌝ }
 {
     let width = w as usize;
     let height = h as usize;
@@ -186,7 +190,90 @@ pub fn build_regions(
                 workspace,
                 ids,
             );
-            RegionAnswer::Done(r.max_region, r.overlaps, r.cut)
+            let x = give_form(form, border_size, ids, r);
+            RegionAnswer::Done(x.max_region, x.overlaps, x.cut)
         }
     }
+}
+
+// The dense form: the ids in use are 1 to max_region.
+pub fn build_regions(
+    w: u16,
+    h: u16,
+    index: &[u32],
+    count: &[u8],
+    area: &[u8],
+    con: &[u8],
+    dist: &[u16],
+    max_distance: u16,
+    border_size: u16,
+    min_region_area: u16,
+    merge_region_area: u16,
+    workspace: &mut [u16],
+    ids: &mut [u16],
+) -> RegionAnswer
+    ensures { λ r. ⌜ (let F = lent w h (now (index .entry)) (now (count .entry)) (now (area .entry)) (now (con .entry)) in
+        let z : Sizes = record { border = «border_size»; least = «min_region_area»; merge = «merge_region_area» } in
+        let o = regionOutcome dense F (now (dist .entry)) «max_distance» z (now (workspace .entry)) (now (ids .entry)) in
+        AnswersRegions o r (now (workspace .exit)) (now (ids .exit))) ⌝ }
+    ensures rooms { λ r. ⌜ (let F = lent w h (now (index .entry)) (now (count .entry)) (now (area .entry)) (now (con .entry)) in
+        GivesRooms dense F «border_size» r (now (ids .exit))) ⌝ }
+{
+    build_form(
+        Form::Dense,
+        w,
+        h,
+        index,
+        count,
+        area,
+        con,
+        dist,
+        max_distance,
+        border_size,
+        min_region_area,
+        merge_region_area,
+        workspace,
+        ids,
+    )
+}
+
+// The compared form: the numbers of the Rust.
+pub fn build_regions_compared(
+    w: u16,
+    h: u16,
+    index: &[u32],
+    count: &[u8],
+    area: &[u8],
+    con: &[u8],
+    dist: &[u16],
+    max_distance: u16,
+    border_size: u16,
+    min_region_area: u16,
+    merge_region_area: u16,
+    workspace: &mut [u16],
+    ids: &mut [u16],
+) -> RegionAnswer
+    ensures { λ r. ⌜ (let F = lent w h (now (index .entry)) (now (count .entry)) (now (area .entry)) (now (con .entry)) in
+        let z : Sizes = record { border = «border_size»; least = «min_region_area»; merge = «merge_region_area» } in
+        let o = regionOutcome compared F (now (dist .entry)) «max_distance» z (now (workspace .entry)) (now (ids .entry)) in
+        AnswersRegions o r (now (workspace .exit)) (now (ids .exit))) ⌝ }
+    ensures rooms { λ r. ⌜ (let F = lent w h (now (index .entry)) (now (count .entry)) (now (area .entry)) (now (con .entry)) in
+        GivesRooms compared F «border_size» r (now (ids .exit))) ⌝ }
+{
+    build_form(
+        Form::Compared,
+        w,
+        h,
+        index,
+        count,
+        area,
+        con,
+        dist,
+        max_distance,
+        border_size,
+        min_region_area,
+        merge_region_area,
+        workspace,
+        ids,
+    )
 }

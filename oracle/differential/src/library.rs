@@ -55,6 +55,19 @@ unsafe extern "C" {
         ids: *mut u16, ids_len: usize,
     ) -> RegionAnswer;
 
+    fn gussetraft_build_regions_compared(
+        w: u16, h: u16,
+        index: *const u32, index_len: usize,
+        count: *const u8, count_len: usize,
+        area: *const u8, area_len: usize,
+        con: *const u8, con_len: usize,
+        dist: *const u16, dist_len: usize,
+        max_distance: u16,
+        border_size: u16, min_region_area: u16, merge_region_area: u16,
+        workspace: *mut u16, workspace_len: usize,
+        ids: *mut u16, ids_len: usize,
+    ) -> RegionAnswer;
+
     fn gussetraft_mend(
         w: u16, h: u16,
         index: *const u32, index_len: usize,
@@ -82,7 +95,7 @@ pub fn distances(field: &Field, raw: &mut [u16], blurred: &mut [u16]) -> Distanc
     }
 }
 
-/// The region entry.
+/// The region entry, in the dense form.
 #[rustfmt::skip]
 pub fn regions(
     field: &Field,
@@ -95,6 +108,33 @@ pub fn regions(
     // SAFETY: as above.
     unsafe {
         gussetraft_build_regions(
+            field.w, field.h,
+            field.index.as_ptr(), field.index.len(),
+            field.count.as_ptr(), field.count.len(),
+            field.area.as_ptr(), field.area.len(),
+            field.con.as_ptr(), field.con.len(),
+            distances.as_ptr(), distances.len(),
+            max_distance,
+            settings.border_size, settings.least_area, settings.merge_area,
+            workspace.as_mut_ptr(), workspace.len(),
+            ids.as_mut_ptr(), ids.len(),
+        )
+    }
+}
+
+/// The region entry in the compared form.
+#[rustfmt::skip]
+pub fn regions_compared(
+    field: &Field,
+    distances: &[u16],
+    max_distance: u16,
+    settings: Settings,
+    workspace: &mut [u16],
+    ids: &mut [u16],
+) -> RegionAnswer {
+    // SAFETY: as above.
+    unsafe {
+        gussetraft_build_regions_compared(
             field.w, field.h,
             field.index.as_ptr(), field.index.len(),
             field.count.as_ptr(), field.count.len(),

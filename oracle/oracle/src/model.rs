@@ -78,7 +78,7 @@ impl Model {
         distance::distances(self, &Spans::new(self, field))
     }
 
-    /// The region entry on a field, distances and a greatest distance that are not refused.
+    /// The region entry, in the compared form, on a field, distances and a greatest distance that are not refused.
     pub fn regions(
         self,
         field: &Field,
@@ -94,11 +94,17 @@ impl Model {
 
     /// What the program prints for a file.
     pub fn answer(self, file: &[u8]) -> String {
-        self.listing(file)
+        self.listing(file, merge::dense)
             .unwrap_or_else(|number| format!("refused {number}\n"))
     }
 
-    fn listing(self, file: &[u8]) -> Result<String, u8> {
+    /// The same in the compared form, in which every mistake is judged: the dense form hides some.
+    pub fn compared(self, file: &[u8]) -> String {
+        self.listing(file, |regions| regions)
+            .unwrap_or_else(|number| format!("refused {number}\n"))
+    }
+
+    fn listing(self, file: &[u8], form: fn(Regions) -> Regions) -> Result<String, u8> {
         let (field, settings) = file::read(self, file)?;
         refusals::field(self, &field)?;
         let Distances {
@@ -108,6 +114,7 @@ impl Model {
         } = self.distances(&field);
         refusals::distances(&blurred, max_distance)?;
         let regions = self.regions(&field, &blurred, max_distance, settings);
+        let regions = form(regions);
         Ok(file::listing(self, &field, max_distance, &regions))
     }
 }

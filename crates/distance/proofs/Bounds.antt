@@ -7,6 +7,7 @@ use native.Mathlib.Nat.{mod-lt, mul-suc, mul-zero, mul-comm}
 use native.Mathlib.Numerals.{add-one}
 use native.Mathlib.Decide.{decLt, ℕ-discrete}
 use mathlib.Core.Path.{_≡_, refl, sym, ap, _∙_}
+use mathlib.Core.Bool.{Bool, true}
 use mathlib.Core.List.{List}
 use lib.ListN.{length, getD, set, length-set}
 use lib.Arith.{digits-mod}
@@ -20,6 +21,8 @@ use Rattle.laws.proofs.Cells.{near-none, before, cellOf-in}
 use Rattle.laws.proofs.Passes.{start-edge, start-at}
 use Rattle.laws.proofs.Rows.{from-start}
 use Rattle.field.specs.Lent.{Stands, Reached, Spot, lent}
+use Rattle.field.specs.Blocks.{emptyBlock}
+use Rattle.field.proofs.Blocks.{block-none}
 use Rattle.field.proofs.Places.{cell-is, sum-is, stands-in, reaches, layer-spot}
 use Rattle.field.proofs.Loops.{upto-go}
 use Rattle.distance.specs.Value.{side, leastFrom, least, LowBefore, Passing, Low, Room}
@@ -234,6 +237,33 @@ passing-end w h is ks ar cs c i k j l ok p q g y x at b m =
 -- ---------------------------------------------------------------- the loops over columns and rows
 
 module _ (F : Field) (l : List ℕ) where
+  moved : (y a b : ℕ) → a ≡ b → Passing F y a l → Passing F y b l
+  moved y a b e v = rw (← e) v
+
+  pub columns-first : (y x : ℕ) → Passing F y x l → Passing F y (x + 0) l
+  columns-first y x v = moved y x (x + 0) (omega arith) v
+
+  pub columns-next : (y x j : ℕ) → Passing F y (x + j + 1) l → Passing F y (x + (j + 1)) l
+  columns-next y x j v = moved y (x + j + 1) (x + (j + 1)) (omega arith) v
+
+  pub columns-last : (y x j k : ℕ) → j ≤ k → k ≤ j → Passing F y (x + j) l → Passing F y (x + k) l
+  columns-last y x j k h g v = moved y (x + j) (x + k) (omega arith) v
+
+  -- a block without spans
+  pub columns-empty : (y x k : ℕ) (r : Bool) → Reached F → r ≡ emptyBlock (F .count) (F .w * y + x) k → r ≡ true → Passing F y x l → Passing F y (x + k) l
+  columns-empty y x k r ok e t v =
+      record {
+        rows = v .rows;
+        row = λ s h f g. elim (decLt (cellOf (F .count) s) (F .w * y + x)) [
+          | yes z ↦ v .row s h f z
+          | no z ↦
+              let j = cellOf (F .count) s - (F .w * y + x) in
+              let q : F .w * y + x + j ≡ cellOf (F .count) s = omega arith in
+              let n : getD (F .count) (cellOf (F .count) s) 0 ≡ 0 = rw q at (block-none (F .count) (F .w * y + x) k r e t j (omega arith)) in
+              absurd (omega (arith, layer-of F ok (cellOf (F .count) s) s (record { span = h; cell = refl })))
+        ];
+      }
+
   pub column-first : (y : ℕ) → LowBefore F (F .w * y) l → Passing F y 0 l
   column-first y v = record { rows = v; row = λ t h f g. absurd (omega arith) }
 

@@ -1,20 +1,26 @@
 -- The turns of the loops over rows, columns and layers, and what all rows come to.
 -- The rows in order are all spans in order (laws, Rows), so a stage by rows is the rule's stage.
-use Prim.Native.Nat.{ℕ, zero, suc, _+_, _*_, _-_, _≤_, _<_}
+use Prim.Native.Nat.{ℕ, zero, suc, _+_, _*_, _-_, _≤_, _<_, min}
 use native.Mathlib.Omega.{arith}
-use native.Mathlib.Nat.{mul-comm}
+use native.Mathlib.Nat.{mul-comm, mul-suc, mul-le-mul-left}
+use native.Mathlib.Numerals.{add-one}
 use lib.Arith.{digits-lt}
 use mathlib.Core.Path.{_≡_, refl, sym, ap, _∙_}
+use mathlib.Core.Bool.{Bool, true}
 use mathlib.Core.List.{List}
 use lib.ListN.{length, getD}
 use Rattle.rules.specs.Base.{upto}
 use Rattle.rules.specs.Field.{Field, spans}
 use Rattle.rules.specs.Distance.{lower, start, pass1, pass2, raw, blur}
 use Rattle.rules.specs.Rows.{overCell, downto, column, rowUp, rowDown, fromStart, blurTo, pass1Row, pass2Row, blurRow}
-use Rattle.laws.proofs.Rows.{pass1-by-rows, pass2-by-rows, blur-by-rows}
+use Rattle.laws.proofs.Basics.{upto-join}
+use Rattle.laws.proofs.Rows.{downto-join, pass1-by-rows, pass2-by-rows, blur-by-rows}
 use mir.Val.{Fits}
 use mir.Syntax.{w64}
-use Rattle.field.specs.Lent.{Celled, Reached, lent}
+use Rattle.field.specs.Lent.{Reached, lent}
+use Rattle.field.specs.Blocks.{emptyBlock}
+use Rattle.field.proofs.Blocks.{block-none, upto-still, downto-still, still-cell}
+use Rattle.distance.specs.Walk.{columnsUp, columnsDown}
 use Rattle.field.proofs.Loops.{upto-go, upto-end, product-small}
 use Rattle.distance.proofs.Earlier.{earlier}
 
@@ -41,12 +47,38 @@ module _ (F : Field) (f : ℕ → List ℕ → List ℕ) where
   unfolding overCell
   cell-end c i k j l m p q e h g = rw (← p, ← q) (upto-end (λ t. f (i + t)) k j l m e h g)
 
-  pub row-go : (y x a : ℕ) (l m n : List ℕ) → a ≡ F .w * y → m ≡ upto x (column F f y) l → n ≡ overCell F f (a + x) m → n ≡ upto (x + 1) (column F f y) l
-  unfolding column
-  row-go y x a l m n z e g = upto-go (column F f y) x l m n e (rw (← z) g)
+  -- k columns of row y from x on: one more, the end, and none where no span stands in a block
+  pub columns-go : (y x j : ℕ) (l m n : List ℕ) → m ≡ columnsUp F f y x j l → n ≡ overCell F f (F .w * y + (x + j)) m → n ≡ columnsUp F f y x (j + 1) l
+  unfolding columnsUp column
+  columns-go y x j l m n e g = upto-go (λ i. column F f y (x + i)) j l m n e g
 
-  pub column-go : (y x : ℕ) (l m n : List ℕ) → m ≡ upto x (column F f y) l → n ≡ overCell F f (F .w * y + x) m → n ≡ upto (x + 1) (column F f y) l
-  column-go y x l m n e g = row-go y x (F .w * y) l m n refl e g
+  -- with the place of the first found before the loop
+  pub columns-step : (y x a j : ℕ) (l m n : List ℕ) → a ≡ F .w * y + x → m ≡ columnsUp F f y x j l → n ≡ overCell F f (a + j) m → n ≡ columnsUp F f y x (j + 1) l
+  columns-step y x a j l m n p e g = columns-go y x j l m n e (let q : F .w * y + (x + j) ≡ a + j = omega arith in rw q g)
+
+  pub columns-end : (y x k j : ℕ) (l m : List ℕ) → m ≡ columnsUp F f y x j l → j ≤ k → k ≤ j → m ≡ columnsUp F f y x k l
+  unfolding columnsUp
+  columns-end y x k j l m e h g = upto-end (λ i. column F f y (x + i)) k j l m e h g
+
+  module _ (y x k : ℕ) (r : Bool) (e : r ≡ emptyBlock (F .count) (F .w * y + x) k) (t : r ≡ true) where
+    still : (i : ℕ) (l : List ℕ) → i < k → column F f y (x + i) l ≡ l
+    unfolding column
+    still i l h =
+        let q : F .w * y + x + i ≡ F .w * y + (x + i) = omega arith in
+        still-cell F f (F .w * y + (x + i)) l (rw q at (block-none (F .count) (F .w * y + x) k r e t i h))
+
+    pub columns-none : (l : List ℕ) → l ≡ columnsUp F f y x k l
+    unfolding columnsUp
+    columns-none l = upto-still k (λ i. column F f y (x + i)) l still
+
+    pub columns-down-none : (l : List ℕ) → l ≡ columnsDown F f y x k l
+    unfolding columnsDown
+    columns-down-none l = downto-still k (λ i. column F f y (x + i)) l still
+
+  -- the blocks of row y
+  pub block-go : (y x k : ℕ) (l m n : List ℕ) → m ≡ upto x (column F f y) l → n ≡ columnsUp F f y x k m → n ≡ upto (x + k) (column F f y) l
+  unfolding columnsUp
+  block-go y x k l m n e g = g ∙ ap (upto k (λ i. column F f y (x + i))) e ∙ sym (upto-join x k (column F f y) l)
 
   row-end : (y x : ℕ) (l m : List ℕ) → m ≡ upto x (column F f y) l → x ≤ F .w → F .w ≤ x → m ≡ rowUp F f y l
   unfolding rowUp
@@ -67,7 +99,7 @@ pub blur-end : (F : Field) (y : ℕ) (l k m : List ℕ) → Reached F → length
 blur-end F y l k m ok n e h g = upto-end (blurRow F l) (F .h) y k m e h g ∙ blur-by-rows F (ok .celled .cells) (ok .celled .counted) l k n
 
 -- a cell of row y
-pub cell-in : (w h y x : ℕ) → y < h → x < w → w * y + x < w * h
+cell-in : (w h y x : ℕ) → y < h → x < w → w * y + x < w * h
 cell-in w h y x g l =
     let z : y * w + x < h * w = digits-lt g l in
     omega (arith, mul-comm y w, mul-comm h w)
@@ -79,31 +111,59 @@ module _ (w h : ℕ) (is ks ar cs : List ℕ) (y : ℕ) (ok : Reached (lent w h 
   pub row-fits : Fits w64 (w * y)
   row-fits = omega (arith, row-small)
 
-  -- column x, with the row's first cell found before the loop
-  module _ (a x : ℕ) (e : a ≡ w * y) (l : x < w) where
-    pub column-fits : Fits w64 (a + x)
+  -- column x
+  module _ (x : ℕ) (l : x < w) where
+    pub column-fits : Fits w64 (w * y + x)
     column-fits = omega (arith, row-small, ok .celled .narrow)
 
-    pub column-in : a + x < length ks
+    pub column-in : w * y + x < length ks
     column-in = omega (arith, cell-in w h y x g l, ok .celled .counted)
 
-    pub column-indexed : a + x < length is
+    pub column-indexed : w * y + x < length is
     column-indexed = omega (arith, cell-in w h y x g l, ok .celled .indexed)
 
-  -- the last of x columns, which a loop downward comes to next
-  module _ (a x : ℕ) (e : a ≡ w * y) (l : x ≤ w) (m : 0 < x) where
-    pub last-fits : Fits w64 (a + (x - 1))
-    last-fits = column-fits a (x - 1) e (omega arith)
+  -- k columns from x on
+  module _ (x k : ℕ) (l : x + k ≤ w) where
+    pub block-fits : Fits w64 (w * y + x)
+    block-fits = omega (arith, row-small, ok .celled .narrow)
 
-    pub last-in : a + (x - 1) < length ks
-    last-in = column-in a (x - 1) e (omega arith)
+    pub block-in : w * y + x + k ≤ length ks
+    block-in =
+        let e : w * (y + 1) ≤ w * h = mul-le-mul-left w (omega arith) in
+        let z : w * (y + 1) ≡ w * y + w = rw add-one (mul-suc w y) in
+        omega (arith, ok .celled .counted)
+
+    -- with the place of the first found before the loop
+    module _ (a j : ℕ) (e : a ≡ w * y + x) where
+      pub place-in : j < k → a + j < length ks
+      place-in h = omega (arith, block-in)
+
+      pub place-fits : j < k → Fits w64 (a + j)
+      place-fits h = omega (arith, row-small, ok .celled .narrow)
+
+      pub last-in : j ≤ k → 0 < j → a + (j - 1) < length ks
+      last-in h m = omega (arith, block-in)
+
+      pub last-fits : j ≤ k → 0 < j → Fits w64 (a + (j - 1))
+      last-fits h m = omega (arith, row-small, ok .celled .narrow)
 
 -- the same downward: x columns, or y rows, are to go
 module _ (F : Field) (f : ℕ → List ℕ → List ℕ) where
-  pub row-down : (y x a : ℕ) (z m n : List ℕ) → 0 < x → a ≡ F .w * y → z ≡ downto x (column F f y) m → n ≡ overCell F f (a + (x - 1)) m
-      → z ≡ downto (x - 1) (column F f y) n
-  unfolding column
-  row-down y x a z m n h e p q = down-go (column F f y) x z m n h p (rw (← e) q)
+  pub columns-down : (y x a j : ℕ) (l m n : List ℕ) (k : ℕ) → 0 < j → a ≡ F .w * y + x → columnsDown F f y x k l ≡ columnsDown F f y x j m
+      → n ≡ overCell F f (a + (j - 1)) m → columnsDown F f y x k l ≡ columnsDown F f y x (j - 1) n
+  unfolding columnsDown column
+  columns-down y x a j l m n k h p e g =
+      down-go (λ i. column F f y (x + i)) j (columnsDown F f y x k l) m n h e (let q : F .w * y + (x + (j - 1)) ≡ a + (j - 1) = omega arith in rw q g)
+
+  pub columns-bottom : (y x j k : ℕ) (l m : List ℕ) → j ≤ 0 → columnsDown F f y x k l ≡ columnsDown F f y x j m → m ≡ columnsDown F f y x k l
+  unfolding columnsDown
+  columns-bottom y x j k l m h e = down-end (λ i. column F f y (x + i)) j (columnsDown F f y x k l) m h e
+
+  pub block-down : (y x k : ℕ) (z m n : List ℕ) → k ≡ min x 16 → z ≡ downto x (column F f y) m → n ≡ columnsDown F f y (x - k) k m → z ≡ downto (x - k) (column F f y) n
+  unfolding columnsDown
+  block-down y x k z m n b e g =
+      let q : x ≡ x - k + k = omega arith in
+      e ∙ ap (λ (i : ℕ). downto i (column F f y) m) q ∙ downto-join (x - k) k (column F f y) m ∙ ap (downto (x - k) (column F f y)) (sym g)
 
   row-bottom : (y x : ℕ) (l m : List ℕ) → x ≤ 0 → downto (F .w) (column F f y) l ≡ downto x (column F f y) m → m ≡ rowDown F f y l
   unfolding rowDown

@@ -1,6 +1,8 @@
 // The start and the two passes: each span takes the least of itself and of what its neighbours on two sides hold, plus 2, or plus 3 at a corner.
 use crate::start::FARTHEST;
 use crate::start::start_span;
+use field::block::block_of;
+use field::block::is_empty;
 use field::place::NO_LAYER;
 use field::place::Place;
 use field::place::SpanIx;
@@ -16,6 +18,7 @@ ghost use Rattle.rules.specs.Distance as rules;
 ghost use Rattle.field.specs.Lent.{lent, Reached, Stands, Spot, consAt};
 ghost use Rattle.rules.specs.Rows.{overCell, fromStart, pass1Row, pass2Row};
 ghost use Rattle.distance.specs.Value.{least, leastFrom, Passing, LowBefore, Low, Room};
+ghost use Rattle.distance.specs.Walk.{columnsUp, columnsDown};
 ghost use Rattle.distance.specs.Value as value;
 
 // The least of best and the value of span t plus n.
@@ -145,7 +148,54 @@ fn pass1_cell(
     }
 }
 
-// The start and pass 1 over row y, columns upward: what row y and the rows after it held is not looked at.
+// The same over the k columns from x on.
+fn pass1_columns(
+    w: usize,
+    h: usize,
+    index: &[u32],
+    count: &[u8],
+    area: &[u8],
+    con: &[u8],
+    raw: &mut [u16],
+    x: usize,
+    k: usize,
+    y: usize,
+)
+    requires { ⌜ (let F = lent w h (now index) (now count) (now area) (now con) in
+        Reached F × (x + k ≤ w) × (y < h) × Passing F y x (now raw)) ⌝ }
+    ensures { λ _. ⌜ (let F = lent w h (now (index .entry)) (now (count .entry)) (now (area .entry)) (now (con .entry)) in
+        (now (raw .exit) ≡ columnsUp F (fromStart F) y x k (now (raw .entry))) × Passing F y (x + k) (now (raw .exit))) ⌝ }
+{
+    for j in 0..k {
+        pass1_cell(w, h, index, count, area, con, raw, x + j, y);
+    }
+}
+
+// The same, a block without spans at once.
+fn pass1_block(
+    w: usize,
+    h: usize,
+    index: &[u32],
+    count: &[u8],
+    area: &[u8],
+    con: &[u8],
+    raw: &mut [u16],
+    x: usize,
+    k: usize,
+    y: usize,
+)
+    requires { ⌜ (let F = lent w h (now index) (now count) (now area) (now con) in
+        Reached F × (x + k ≤ w) × (y < h) × Passing F y x (now raw)) ⌝ }
+    ensures { λ _. ⌜ (let F = lent w h (now (index .entry)) (now (count .entry)) (now (area .entry)) (now (con .entry)) in
+        (now (raw .exit) ≡ columnsUp F (fromStart F) y x k (now (raw .entry))) × Passing F y (x + k) (now (raw .exit))) ⌝ }
+{
+    if is_empty(count, w * y + x, k) {
+        return;
+    }
+    pass1_columns(w, h, index, count, area, con, raw, x, k, y);
+}
+
+// The start and pass 1 over row y, columns upward, block by block: what row y and the rows after it held is not looked at.
 pub fn pass1_row(
     w: usize,
     h: usize,
@@ -161,8 +211,11 @@ pub fn pass1_row(
     ensures { λ _. ⌜ (let F = lent w h (now (index .entry)) (now (count .entry)) (now (area .entry)) (now (con .entry)) in
         (now (raw .exit) ≡ pass1Row F y (now (raw .entry))) × LowBefore F (w * (y + 1)) (now (raw .exit))) ⌝ }
 {
-    for x in 0..w {
-        pass1_cell(w, h, index, count, area, con, raw, x, y);
+    let mut x: usize = 0;
+    while x < w {
+        let k = block_of(w - x);
+        pass1_block(w, h, index, count, area, con, raw, x, k, y);
+        x += k;
     }
 }
 
@@ -214,7 +267,57 @@ fn pass2_cell(
     }
 }
 
-// Pass 2 over row y, columns downward.
+// The same over the k columns from x on, downward.
+fn pass2_columns(
+    w: usize,
+    h: usize,
+    index: &[u32],
+    count: &[u8],
+    area: &[u8],
+    con: &[u8],
+    raw: &mut [u16],
+    x: usize,
+    k: usize,
+    y: usize,
+)
+    requires { ⌜ (let F = lent w h (now index) (now count) (now area) (now con) in
+        Reached F × (x + k ≤ w) × (y < h) × Low F (now raw)) ⌝ }
+    ensures { λ _. ⌜ (let F = lent w h (now (index .entry)) (now (count .entry)) (now (area .entry)) (now (con .entry)) in
+        (now (raw .exit) ≡ columnsDown F (rules.lower F 2 1 1 0) y x k (now (raw .entry))) × Low F (now (raw .exit))) ⌝ }
+{
+    let first = w * y + x;
+    let mut j = k;
+    while 0 < j {
+        j -= 1;
+        pass2_cell(w, h, index, count, area, con, raw, first + j);
+    }
+}
+
+// The same, a block without spans at once.
+fn pass2_block(
+    w: usize,
+    h: usize,
+    index: &[u32],
+    count: &[u8],
+    area: &[u8],
+    con: &[u8],
+    raw: &mut [u16],
+    x: usize,
+    k: usize,
+    y: usize,
+)
+    requires { ⌜ (let F = lent w h (now index) (now count) (now area) (now con) in
+        Reached F × (x + k ≤ w) × (y < h) × Low F (now raw)) ⌝ }
+    ensures { λ _. ⌜ (let F = lent w h (now (index .entry)) (now (count .entry)) (now (area .entry)) (now (con .entry)) in
+        (now (raw .exit) ≡ columnsDown F (rules.lower F 2 1 1 0) y x k (now (raw .entry))) × Low F (now (raw .exit))) ⌝ }
+{
+    if is_empty(count, w * y + x, k) {
+        return;
+    }
+    pass2_columns(w, h, index, count, area, con, raw, x, k, y);
+}
+
+// Pass 2 over row y, columns downward, block by block.
 pub fn pass2_row(
     w: usize,
     h: usize,
@@ -230,11 +333,11 @@ pub fn pass2_row(
     ensures { λ _. ⌜ (let F = lent w h (now (index .entry)) (now (count .entry)) (now (area .entry)) (now (con .entry)) in
         (now (raw .exit) ≡ pass2Row F y (now (raw .entry))) × Low F (now (raw .exit))) ⌝ }
 {
-    let first = w * y;
     let mut x = w;
     while 0 < x {
-        x -= 1;
-        pass2_cell(w, h, index, count, area, con, raw, first + x);
+        let k = block_of(x);
+        x -= k;
+        pass2_block(w, h, index, count, area, con, raw, x, k, y);
     }
 }
 

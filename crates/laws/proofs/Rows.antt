@@ -27,7 +27,7 @@ module _ {ℓ} {A : Type ℓ} where
   upto-rows w zero g a = rw (mul-zero w)
   upto-rows w (suc h) g a = rw (mul-suc w h) (upto-join (w * h) w g a ∙ rw (upto-rows w h g a))
 
-  downto-join : (a k : ℕ) (f : ℕ → A → A) (s : A) → downto (a + k) f s ≡ downto a f (downto k (λ j. f (a + j)) s)
+  pub downto-join : (a k : ℕ) (f : ℕ → A → A) (s : A) → downto (a + k) f s ≡ downto a f (downto k (λ j. f (a + j)) s)
   unfolding downto
   downto-join a zero f s = let e : a + 0 ≡ a = omega arith in rw e
   downto-join a (suc k) f s = let e : a + suc k ≡ suc (a + k) = omega arith in rw e (downto-join a k f (f (a + k) s))

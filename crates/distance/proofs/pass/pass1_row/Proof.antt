@@ -6,7 +6,7 @@ use Rattle.rules.specs.Base.{upto}
 use Rattle.rules.specs.Rows.{column, fromStart}
 use Rattle.field.specs.Lent.{lent}
 use Rattle.distance.specs.Value.{Passing}
-use Rattle.distance.proofs.Walks.{column-go, pass1-row-end}
+use Rattle.distance.proofs.Walks.{block-go, pass1-row-end}
 use Rattle.distance.proofs.Bounds.{column-first, column-last}
 use borrow.Author.Needs.{needs}
 use Rattle.distance.proofs.pass.pass1_row.Statement.{statement}
@@ -22,8 +22,14 @@ loop-holds : tie.Need-loop-holds Inv-loop μ-loop
 unfolding upto
 loop-holds c = (search needs, search needs, search (needs, column-first))
 
-pass1-cell-requires : tie.Need-pass1-cell-requires Inv-loop μ-loop
-pass1-cell-requires c κs = search needs
+sub-block-of : tie.Need-sub-block-of Inv-loop μ-loop
+sub-block-of c = search needs
+
+block-of-requires : tie.Need-block-of-requires Inv-loop μ-loop
+block-of-requires c κs = search needs
+
+pass1-block-requires : tie.Need-pass1-block-requires Inv-loop μ-loop
+pass1-block-requires c κs = search needs
 
 add-x : tie.Need-add-x Inv-loop μ-loop
 add-x c = search needs
@@ -32,7 +38,7 @@ loop-less : tie.Need-loop-less Inv-loop μ-loop
 loop-less c = search needs
 
 loop-again : tie.Need-loop-again Inv-loop μ-loop
-loop-again c = (search needs, search (needs, column-go), search needs)
+loop-again c = (search needs, search (needs, block-go), search needs)
 
 same-length : tie.Need-same-length Inv-loop μ-loop
 same-length c = search needs
@@ -47,7 +53,9 @@ pass1-row-spec =
     Inv-loop
     μ-loop
     loop-holds
-    pass1-cell-requires
+    sub-block-of
+    block-of-requires
+    pass1-block-requires
     add-x
     loop-less
     loop-again

@@ -1,2 +1,3 @@
 pub mod Links
 pub mod Answer
+pub mod Cells

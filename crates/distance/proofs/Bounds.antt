@@ -3,7 +3,7 @@
 -- 2·x, whatever the rows before hold, which is at most 510. Pass 2 only lowers.
 use Prim.Native.Nat.{ℕ, _+_, _*_, _-_, _%_, _≤_, _<_}
 use native.Mathlib.Omega.{arith}
-use native.Mathlib.Nat.{mod-lt, mul-suc, mul-zero, mul-comm}
+use native.Mathlib.Nat.{mod-lt, mul-suc, mul-comm}
 use native.Mathlib.Numerals.{add-one}
 use native.Mathlib.Decide.{decLt, ℕ-discrete}
 use mathlib.Core.Path.{_≡_, refl, sym, ap, _∙_}
@@ -18,14 +18,14 @@ use Rattle.rules.specs.Distance.{startAt, far, leastOf, lower}
 use Rattle.rules.specs.Rows.{fromStart}
 use Rattle.laws.proofs.Basics.{getD-set-at, getD-any}
 use Rattle.laws.proofs.Cells.{near-none, before, cellOf-in}
-use Rattle.laws.proofs.Passes.{start-edge, start-at}
+use Rattle.laws.proofs.Passes.{wide-pos, mod-pred, start-edge, start-at}
 use Rattle.laws.proofs.Rows.{from-start}
 use Rattle.field.specs.Lent.{Stands, Reached, Spot, lent}
 use Rattle.field.specs.Blocks.{emptyBlock}
 use Rattle.field.proofs.Blocks.{block-none}
 use Rattle.field.proofs.Places.{cell-is, sum-is, stands-in, reaches, layer-spot}
 use Rattle.field.proofs.Loops.{upto-go}
-use Rattle.distance.specs.Value.{side, leastFrom, least, LowBefore, Passing, Low, Room}
+use Rattle.distance.specs.Value.{side, leastFrom, least, LowBefore, Passing, PassedTo, Low, Room}
 use Rattle.distance.proofs.Earlier.{inner, before-0, before-03, before-3, before-32, earlier}
 
 pub low-before : (F : Field) (c : ℕ) (l : List ℕ) → Low F l → LowBefore F c l
@@ -44,6 +44,10 @@ module _ (F : Field) (v a b c e s : ℕ) (l : List ℕ) where
   least-first : leastFrom F v a b c e s l ≤ far l (near F s a) + 2
   unfolding leastFrom side
   least-first = omega arith
+
+start-is : (F : Field) (ok : Reached F) (s : ℕ) (l : List ℕ) → length l ≡ spans F → s < spans F → set l s (leastFrom F (startAt F s) 0 3 3 2 s l) ≡ fromStart F s l
+unfolding leastOf leastFrom side
+start-is F ok s l n h = sym (from-start F s h (earlier F ok s h) l n)
 
 module _ (F : Field) (ok : Reached F) where
   -- a layer of its cell
@@ -113,6 +117,62 @@ module _ (F : Field) (ok : Reached F) where
                 (λ z. absurd (omega (arith, v .cell, ap (cellOf (F .count)) z))) (λ z. b .row t h f g);
           }
 
+  -- the same over spans in order
+  module _ (c s : ℕ) (l : List ℕ) (b : PassedTo F s l) (v : Stands F c s) where
+    flat-low : (t : ℕ) → t < spans F → t < s → far l t ≤ 510
+    flat-low t i g =
+        let m = mod-lt (cellOf (F .count) t) (wide-pos (F .w) (F .h) (cellOf (F .count) t) (stands-in F (ok .celled) (cellOf (F .count) t) t (record { span = i; cell = refl }))) in
+        omega (arith, b .low t g, ok .celled .narrow)
+
+    flat-new : ((i : ℕ) → getD (F .area) i 0 < 256) → leastFrom F (startAt F s) 0 3 3 2 s l ≤ 2 * (c % F .w)
+    unfolding cellTo leaves areaOf
+    flat-new bytes =
+        elim (ℕ-discrete (conOf F s 0) 255) [
+          | yes z ↦
+              let e = start-edge F s 0 (omega (arith, ok .celled .few)) (v .span) (rw (getD-any (F .area) s 256 0 (v .span)) (bytes s)) (omega arith) (near-none F s 0 z) in
+              omega (arith, start-at F s (v .span), least-own F (startAt F s) 0 3 3 2 s l)
+          | no z ↦
+              let r = inner F ok c s 0 v (omega arith) (reaches F ok s 0 (v .span) (omega arith) z .inside) in
+              let k = eqb-false (c % F .w) 0 (r .0) in
+              let m = mod-pred c (F .w) (wide-pos (F .w) (F .h) c (stands-in F (ok .celled) c s v)) (omega arith) in
+              let y = b .low (near F s 0) (earlier F ok s (v .span) .first (r .1 .span)) in
+              let x : far l (near F s 0) ≤ 2 * ((c - 1) % F .w) = rw (r .1 .cell) at y in
+              omega (arith, least-first F (startAt F s) 0 3 3 2 s l)
+        ]
+
+    pub flat-go : ((i : ℕ) → getD (F .area) i 0 < 256) → (n : ℕ) → n ≡ leastFrom F (startAt F s) 0 3 3 2 s l → PassedTo F (s + 1) (set l s n)
+    flat-go bytes n e =
+        let i : s < length l = omega (arith, b .size, v .span) in
+        let o : n ≤ 2 * (c % F .w) = rw e (flat-new bytes) in
+        record {
+          size = length-set l s n ∙ b .size;
+          low = λ t h. getD-set-at l s n 65535 t (λ r. r ≤ 2 * (cellOf (F .count) t % F .w)) i (λ z. rw (z, v .cell) o) (λ z. b .low t (omega arith));
+        }
+
+    here : Spot F (F .w) (F .index) (F .con) c s
+    here = record { reached = ok; wide = refl; indexed = refl; linked = refl; stands = v }
+
+    pub flat-left : Room (F .w) (F .index) (F .con) l c s 0 3
+    flat-left = record { F = F; spot = here; size = b .size; first = λ i. flat-low _ i (earlier F ok s (v .span) .first i); second = λ i. flat-low _ i (earlier F ok s (v .span) .second i) }
+
+    pub flat-up : Room (F .w) (F .index) (F .con) l c s 3 2
+    flat-up = record { F = F; spot = here; size = b .size; first = λ i. flat-low _ i (earlier F ok s (v .span) .third i); second = λ i. flat-low _ i (earlier F ok s (v .span) .fourth i) }
+
+    pub flat-start : (k : List ℕ) (n : ℕ) → l ≡ upto s (fromStart F) k → n ≡ leastFrom F (startAt F s) 0 3 3 2 s l → set l s n ≡ upto (s + 1) (fromStart F) k
+    flat-start k n e g = upto-go (fromStart F) s k l (set l s n) e (ap (set l s) g ∙ start-is F ok s l (b .size) (v .span))
+
+  pub flat-first : (l : List ℕ) → length l ≡ spans F → PassedTo F 0 l
+  flat-first l n = record { size = n; low = λ t h. absurd (omega arith) }
+
+  pub flat-last : (s n : ℕ) (l : List ℕ) → n ≡ spans F → n ≤ s → PassedTo F s l → Low F l
+  flat-last s n l e g b =
+      record {
+        size = b .size;
+        low = λ t h.
+            let m = mod-lt (cellOf (F .count) t) (wide-pos (F .w) (F .h) (cellOf (F .count) t) (stands-in F (ok .celled) (cellOf (F .count) t) t (record { span = h; cell = refl }))) in
+            omega (arith, b .low t (omega arith), ok .celled .narrow);
+      }
+
   -- a cell more
   passing-cell : (y x : ℕ) (l : List ℕ) → Passing F y x l → ((t : ℕ) → t < getD (F .count) (F .w * y + x) 0 → far l (getD (F .index) (F .w * y + x) 0 + t) ≤ 2 * x)
       → Passing F y (x + 1) l
@@ -132,9 +192,6 @@ module _ (F : Field) (ok : Reached F) where
         ];
       }
 
-  low-all : (l : List ℕ) → LowBefore F (F .w * F .h) l → Low F l
-  low-all l b = record { size = b .size; low = λ t h. b .low t h (stands-in F (ok .celled) (cellOf (F .count) t) t (record { span = h; cell = refl })) }
-
 -- ---------------------------------------------------------------- pass 2
 
 low-set : (F : Field) (a b c e s x : ℕ) (l : List ℕ) → Low F l → s < spans F → x ≡ least F a b c e s l → Low F (set l s x)
@@ -151,10 +208,6 @@ low-set F a b c e s x l v h q =
 lower-is : (F : Field) (a b c e s : ℕ) (l : List ℕ) → set l s (least F a b c e s l) ≡ lower F a b c e s l
 unfolding leastOf lower least leastFrom side
 lower-is F a b c e s l = refl
-
-start-is : (F : Field) (ok : Reached F) (s : ℕ) (l : List ℕ) → length l ≡ spans F → s < spans F → set l s (leastFrom F (startAt F s) 0 3 3 2 s l) ≡ fromStart F s l
-unfolding leastOf leastFrom side
-start-is F ok s l n h = sym (from-start F s h (earlier F ok s h) l n)
 
 module _ (w h : ℕ) (is ks ar cs : List ℕ) (c i k j : ℕ) (l : List ℕ) (ok : Reached (lent w h is ks ar cs)) (p : i ≡ getD is c 0) (q : k ≡ getD ks c 0) (g : j < k) where
   spot : Spot (lent w h is ks ar cs) w is cs c (i + j)
@@ -277,12 +330,3 @@ module _ (F : Field) (l : List ℕ) where
           | no e ↦ omega (arith, v .row t i (omega arith) (omega arith), ok .celled .narrow)
         ];
       }
-
-  pub row-first : length l ≡ spans F → LowBefore F (F .w * 0) l
-  row-first n = record { size = n; low = λ t h g. absurd (omega (arith, mul-zero (F .w))) }
-
-  pub row-last : (y : ℕ) → Reached F → y ≤ F .h → F .h ≤ y → LowBefore F (F .w * y) l → Low F l
-  row-last y ok h g v =
-      let e : y ≡ F .h = omega arith in
-      let n : F .w * y ≡ F .w * F .h = ap (λ (z : ℕ). F .w * z) e in
-      low-all F ok l (record { size = v .size; low = λ t i f. v .low t i (omega arith) })

@@ -8,19 +8,21 @@ use lib.Arith.{digits-lt}
 use mathlib.Core.Path.{_≡_, refl, sym, ap, _∙_}
 use mathlib.Core.Bool.{Bool, true}
 use mathlib.Core.List.{List}
-use lib.ListN.{length, getD}
+use lib.ListN.{length, getD, set}
+use lib.Seq.{getD-set-other}
 use Rattle.rules.specs.Base.{upto}
-use Rattle.rules.specs.Field.{Field, spans}
-use Rattle.rules.specs.Distance.{lower, start, pass1, pass2, raw, blur}
+use Rattle.rules.specs.Field.{Field, spans, cellOf}
+use Rattle.rules.specs.Distance.{lower, start, pass1, pass2, raw, blurAt, blur}
 use Rattle.rules.specs.Rows.{overCell, downto, column, rowUp, rowDown, fromStart, blurTo, pass1Row, pass2Row, blurRow}
-use Rattle.laws.proofs.Basics.{upto-join}
-use Rattle.laws.proofs.Rows.{downto-join, pass1-by-rows, pass2-by-rows, blur-by-rows}
+use Rattle.laws.proofs.Basics.{upto-ind, upto-join, tab-at, length-tab}
+use Rattle.laws.proofs.Rows.{downto-join, spans-upto, stored, pass1-from-start, pass2-by-rows}
 use mir.Val.{Fits}
 use mir.Syntax.{w64}
-use Rattle.field.specs.Lent.{Reached, lent}
+use Rattle.field.specs.Lent.{Stands, Reached, lent}
 use Rattle.field.specs.Blocks.{emptyBlock}
 use Rattle.field.proofs.Blocks.{block-none, upto-still, downto-still, still-cell}
-use Rattle.distance.specs.Walk.{columnsUp, columnsDown}
+use Rattle.distance.specs.Walk.{columnsUp, columnsDown, cellsUp, noteCell, cellsOf}
+use Rattle.field.proofs.Places.{stands-at}
 use Rattle.field.proofs.Loops.{upto-go, upto-end, product-small}
 use Rattle.distance.proofs.Earlier.{earlier}
 
@@ -84,6 +86,58 @@ module _ (F : Field) (f : ℕ → List ℕ → List ℕ) where
   unfolding rowUp
   row-end y x l m e h g = upto-end (column F f y) (F .w) x l m e h g
 
+-- ---------------------------------------------------------------- all cells, block by block
+
+module _ (F : Field) (f : ℕ → List ℕ → List ℕ) (c : ℕ) where
+  pub cells-go : (j : ℕ) (l m n : List ℕ) → m ≡ cellsUp F f c j l → n ≡ overCell F f (c + j) m → n ≡ cellsUp F f c (j + 1) l
+  unfolding cellsUp
+  cells-go j l m n e g = upto-go (λ i. overCell F f (c + i)) j l m n e g
+
+  pub cells-end : (k j : ℕ) (l m : List ℕ) → m ≡ cellsUp F f c j l → j ≤ k → k ≤ j → m ≡ cellsUp F f c k l
+  unfolding cellsUp
+  cells-end k j l m e h g = upto-end (λ i. overCell F f (c + i)) k j l m e h g
+
+  pub cells-none : (k : ℕ) (r : Bool) (l : List ℕ) → r ≡ emptyBlock (F .count) c k → r ≡ true → l ≡ cellsUp F f c k l
+  unfolding cellsUp
+  cells-none k r l e t = upto-still k (λ i. overCell F f (c + i)) l (λ i x h. still-cell F f (c + i) x (block-none (F .count) c k r e t i h))
+
+  pub cells-block : (k : ℕ) (l m n : List ℕ) → m ≡ upto c (overCell F f) l → n ≡ cellsUp F f c k m → n ≡ upto (c + k) (overCell F f) l
+  unfolding cellsUp
+  cells-block k l m n e g = g ∙ ap (upto k (λ i. overCell F f (c + i))) e ∙ sym (upto-join c k (overCell F f) l)
+
+-- ---------------------------------------------------------------- the cell of each span
+
+pub note-go : (w h : ℕ) (is ks ar cs : List ℕ) (c i k j : ℕ) (l m : List ℕ) → Reached (lent w h is ks ar cs) → i ≡ getD is c 0 → k ≡ getD ks c 0 → j < k
+    → m ≡ upto j (λ t. noteCell (lent w h is ks ar cs) (i + t)) l → set m (i + j) c ≡ upto (j + 1) (λ t. noteCell (lent w h is ks ar cs) (i + t)) l
+unfolding noteCell
+note-go w h is ks ar cs c i k j l m ok p q g e =
+    upto-go (λ t. noteCell (lent w h is ks ar cs) (i + t)) j l m (set m (i + j) c) e
+    (ap (set m (i + j)) (sym (stands-at (lent w h is ks ar cs) (ok .celled) c i k j p q g .cell)))
+
+pub note-in : (w h : ℕ) (is ks ar cs : List ℕ) (c i k j : ℕ) (m : List ℕ) → Reached (lent w h is ks ar cs) → i ≡ getD is c 0 → k ≡ getD ks c 0 → j < k
+    → length m ≡ length ar → i + j < length m
+note-in w h is ks ar cs c i k j m ok p q g n = omega (arith, stands-at (lent w h is ks ar cs) (ok .celled) c i k j p q g .span)
+
+pub spread-end : (F : Field) (c n : ℕ) (l m : List ℕ) → Reached F → length l ≡ spans F → n ≡ F .w * F .h → m ≡ upto c (overCell F (noteCell F)) l → c ≤ n → n ≤ c → m ≡ cellsOf F
+unfolding cellsOf noteCell
+spread-end F c n l m ok e d a h g =
+    upto-end (overCell F (noteCell F)) (F .w * F .h) c l m a (omega arith) (omega arith)
+    ∙ sym (spans-upto F (ok .celled .cells) (ok .celled .counted) (noteCell F) l) ∙ stored (spans F) (cellOf (F .count)) l e
+
+-- the cell of span s, as a walk over spans reads it
+pub cell-stands : (F : Field) (cells : List ℕ) (s n x : ℕ) → cells ≡ cellsOf F → s < n → n ≡ spans F → x ≡ getD cells s 0 → Stands F x s
+unfolding cellsOf
+cell-stands F cells s n x e l q g =
+    let z : 0 + s ≡ s = omega arith in
+    let h : s < spans F = omega arith in
+    record { span = h; cell = sym (g ∙ ap (λ (l : List ℕ). getD l s 0) e ∙ tab-at (spans F) 0 (cellOf (F .count)) s 0 h ∙ ap (cellOf (F .count)) z) }
+
+pub cells-sized : (F : Field) (cells : List ℕ) → cells ≡ cellsOf F → length cells ≡ spans F
+unfolding cellsOf
+cells-sized F cells e = rw e (length-tab (spans F) 0 (cellOf (F .count)))
+
+-- ---------------------------------------------------------------- the ends
+
 pub pass1-row-end : (F : Field) (y x : ℕ) (l m : List ℕ) → m ≡ upto x (column F (fromStart F) y) l → x ≤ F .w → F .w ≤ x → m ≡ pass1Row F y l
 unfolding pass1Row
 pass1-row-end F y x l m e h g = row-end F (fromStart F) y x l m e h g
@@ -92,11 +146,24 @@ pub blur-row-end : (F : Field) (r : List ℕ) (y x : ℕ) (l m : List ℕ) → m
 unfolding blurRow
 blur-row-end F r y x l m e h g = row-end F (blurTo F r) y x l m e h g
 
-pub pass1-end : (F : Field) (y : ℕ) (l m : List ℕ) → Reached F → length l ≡ spans F → m ≡ upto y (pass1Row F) l → y ≤ F .h → F .h ≤ y → m ≡ pass1 F (start F)
-pass1-end F y l m ok n e h g = upto-end (pass1Row F) (F .h) y l m e h g ∙ pass1-by-rows F (earlier F ok) (ok .celled .cells) (ok .celled .counted) l n
+pub pass1-end : (F : Field) (s d : ℕ) (l m : List ℕ) → Reached F → length l ≡ spans F → m ≡ upto s (fromStart F) l → s ≤ spans F → d ≡ spans F → d ≤ s → m ≡ pass1 F (start F)
+pass1-end F s d l m ok n e h q f =
+    let g : spans F ≤ s = omega arith in
+    upto-end (fromStart F) (spans F) s l m e h g ∙ pass1-from-start F (earlier F ok) l n
 
-pub blur-end : (F : Field) (y : ℕ) (l k m : List ℕ) → Reached F → length k ≡ spans F → m ≡ upto y (blurRow F l) k → y ≤ F .h → F .h ≤ y → m ≡ blur F l
-blur-end F y l k m ok n e h g = upto-end (blurRow F l) (F .h) y k m e h g ∙ blur-by-rows F (ok .celled .cells) (ok .celled .counted) l k n
+pub blur-end : (F : Field) (s d : ℕ) (l k m : List ℕ) → k ≡ cellsOf F → m ≡ upto s (blurTo F l) k → s ≤ spans F → d ≡ spans F → d ≤ s → m ≡ blur F l
+unfolding blur blurTo
+blur-end F s d l k m n e h q f =
+    let g : spans F ≤ s = omega arith in
+    upto-end (blurTo F l) (spans F) s k m e h g ∙ stored (spans F) (blurAt F l) k (cells-sized F k n)
+
+-- the cells that the blur has not come to
+blur-kept : (F : Field) (l k : List ℕ) (s t : ℕ) → s ≤ t → getD (upto s (blurTo F l) k) t 0 ≡ getD k t 0
+unfolding blurTo
+blur-kept F l k s t h = upto-ind (λ _ x. getD x t 0 ≡ getD k t 0) (blurTo F l) k s refl (λ i x g e. getD-set-other x i t (blurAt F l i) 0 (λ z. omega arith) ∙ e)
+
+pub blur-stands : (F : Field) (l k m : List ℕ) (s n x : ℕ) → k ≡ cellsOf F → m ≡ upto s (blurTo F l) k → s < n → n ≡ spans F → x ≡ getD m s 0 → Stands F x s
+blur-stands F l k m s n x q e h d g = cell-stands F k s n x q h d (g ∙ ap (λ (y : List ℕ). getD y s 0) e ∙ blur-kept F l k s s (omega arith))
 
 -- a cell of row y
 cell-in : (w h y x : ℕ) → y < h → x < w → w * y + x < w * h

@@ -1,5 +1,5 @@
 -- What a stage gives a span, and the bounds that keep every sum within 65,535.
-use Prim.Native.Nat.{ℕ, _+_, _*_, _-_, _≤_, _<_, min}
+use Prim.Native.Nat.{ℕ, _+_, _*_, _-_, _%_, _≤_, _<_, min}
 use mathlib.Core.Path.{_≡_}
 use mathlib.Core.List.{List}
 use lib.ListN.{length}
@@ -28,6 +28,11 @@ pub record LowBefore (F : Field) (c : ℕ) (l : List ℕ) : Type 0 where
 pub record Passing (F : Field) (y x : ℕ) (l : List ℕ) : Type 0 where
   pub rows : LowBefore F (F .w * y) l
   pub row : (t : ℕ) → t < spans F → F .w * y ≤ cellOf (F .count) t → cellOf (F .count) t < F .w * y + x → far l t ≤ 2 * (cellOf (F .count) t - F .w * y)
+
+-- pass 1 has gone through the spans before s, which hold at most twice their column
+pub record PassedTo (F : Field) (s : ℕ) (l : List ℕ) : Type 0 where
+  pub size : length l ≡ spans F
+  pub low : (t : ℕ) → t < s → far l t ≤ 2 * (cellOf (F .count) t % F .w)
 
 -- every value is at most 510, as after pass 1
 pub record Low (F : Field) (l : List ℕ) : Type 0 where

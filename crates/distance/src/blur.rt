@@ -16,7 +16,7 @@ ghost use Rattle.rules.specs.Field.{Field};
 ghost use Rattle.rules.specs.Distance as rules;
 ghost use Rattle.field.specs.Lent.{lent, Reached, Spot, consAt};
 ghost use Rattle.rules.specs.Rows.{overCell, blurTo, blurRow};
-ghost use Rattle.distance.specs.Walk.{columnsUp};
+ghost use Rattle.distance.specs.Walk.{columnsUp, cellsOf};
 ghost use Rattle.distance.specs.Value.{Sized};
 
 // A raw value of at most this stays.
@@ -196,7 +196,7 @@ pub fn blur_row(
     }
 }
 
-// Every row.
+// All spans; before it the list of the blurred values has the cell of each.
 pub fn box_blur(
     w: usize,
     h: usize,
@@ -208,11 +208,15 @@ pub fn box_blur(
     blurred: &mut [u16],
 )
     requires { ⌜ (let F = lent w h (now index) (now count) (now area) (now con) in
-        Reached F × (length (now raw) ≡ length (now area)) × (length (now blurred) ≡ length (now area))) ⌝ }
+        Reached F × (length (now raw) ≡ length (now area)) × (now blurred ≡ cellsOf F)) ⌝ }
     ensures { λ _. ⌜ (let F = lent w h (now (index .entry)) (now (count .entry)) (now (area .entry)) (now (con .entry)) in
         now (blurred .exit) ≡ rules.blur F (now (raw .entry))) ⌝ }
 {
-    for y in 0..h {
-        blur_row(w, h, index, count, area, con, raw, blurred, y);
+    for s in 0..area.len() {
+        let p = Place {
+            cell: at16(blurred, s),
+            span: SpanIx(s),
+        };
+        blurred[s] = blur_span(w, index, con, raw, p);
     }
 }

@@ -1,10 +1,11 @@
-// The raw distances: the start and the two passes.
+// The raw distances: the start and the two passes; cells has the cell of each span.
 use crate::pass::pass1;
 use crate::pass::pass2;
 ghost use mathlib.Core.Path.{_≡_};
 ghost use lib.ListN.{length};
 ghost use Rattle.rules.specs.Distance as rules;
 ghost use Rattle.field.specs.Lent.{lent, Reached};
+ghost use Rattle.distance.specs.Walk.{cellsOf};
 
 pub fn calculate_distance_field(
     w: usize,
@@ -14,10 +15,12 @@ pub fn calculate_distance_field(
     area: &[u8],
     con: &[u8],
     raw: &mut [u16],
+    cells: &[u16],
 )
-    requires { ⌜ Reached (lent w h (now index) (now count) (now area) (now con)) × (length (now raw) ≡ length (now area)) ⌝ }
+    requires { ⌜ (let F = lent w h (now index) (now count) (now area) (now con) in
+        Reached F × (length (now raw) ≡ length (now area)) × (now cells ≡ cellsOf F)) ⌝ }
     ensures { λ _. ⌜ now (raw .exit) ≡ rules.raw (lent w h (now (index .entry)) (now (count .entry)) (now (area .entry)) (now (con .entry))) ⌝ }
 {
-    pass1(w, h, index, count, area, con, raw);
+    pass1(w, h, index, count, area, con, raw, cells);
     pass2(w, h, index, count, area, con, raw);
 }

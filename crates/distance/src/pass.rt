@@ -9,6 +9,7 @@ use field::place::SpanIx;
 use field::place::connections;
 use field::place::follow;
 use field::read::at8;
+use field::read::at16;
 use field::read::at32;
 ghost use mathlib.Core.Path.{_≡_};
 ghost use Prim.Native.Nat.{_+_, _*_, _<_, _≤_, min};
@@ -18,7 +19,7 @@ ghost use Rattle.rules.specs.Distance as rules;
 ghost use Rattle.field.specs.Lent.{lent, Reached, Stands, Spot, consAt};
 ghost use Rattle.rules.specs.Rows.{overCell, fromStart, pass1Row, pass2Row};
 ghost use Rattle.distance.specs.Value.{least, leastFrom, Passing, LowBefore, Low, Room};
-ghost use Rattle.distance.specs.Walk.{columnsUp, columnsDown};
+ghost use Rattle.distance.specs.Walk.{columnsUp, columnsDown, cellsOf};
 ghost use Rattle.distance.specs.Value as value;
 
 // The least of best and the value of span t plus n.
@@ -219,7 +220,7 @@ pub fn pass1_row(
     }
 }
 
-// The start and pass 1.
+// The start and pass 1 over all spans; cells has the cell of each.
 pub(crate) fn pass1(
     w: usize,
     h: usize,
@@ -228,14 +229,19 @@ pub(crate) fn pass1(
     area: &[u8],
     con: &[u8],
     raw: &mut [u16],
+    cells: &[u16],
 )
     requires { ⌜ (let F = lent w h (now index) (now count) (now area) (now con) in
-        Reached F × (length (now raw) ≡ length (now area))) ⌝ }
+        Reached F × (length (now raw) ≡ length (now area)) × (now cells ≡ cellsOf F)) ⌝ }
     ensures { λ _. ⌜ (let F = lent w h (now (index .entry)) (now (count .entry)) (now (area .entry)) (now (con .entry)) in
         (now (raw .exit) ≡ rules.pass1 F (rules.start F)) × Low F (now (raw .exit))) ⌝ }
 {
-    for y in 0..h {
-        pass1_row(w, h, index, count, area, con, raw, y);
+    for s in 0..area.len() {
+        let p = Place {
+            cell: at16(cells, s),
+            span: SpanIx(s),
+        };
+        raw[s] = from_start(w, h, index, count, area, con, raw, p);
     }
 }
 

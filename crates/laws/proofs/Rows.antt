@@ -67,12 +67,15 @@ module _ (F : Field) (ok : goodCells (F .index) (F .count) 0 (spans F) ≡ true)
       (upto-join a k f l ∙ rw (cells-upto f l c)
       (upto-ext k (λ j. f (a + j)) (λ j m. f (i + j) m) (upto c (overCell F f) l) (λ j x h. ap (λ (z : ℕ). f (z + j) x) (first j h))))
 
-  -- the spans in order, row by row
+  -- the spans in order, cell by cell, and row by row
+  pub spans-upto : length (F .count) ≡ F .w * F .h → (f : ℕ → List ℕ → List ℕ) (l : List ℕ) → upto (spans F) f l ≡ upto (F .w * F .h) (overCell F f) l
+  spans-upto n f l =
+      let e : spans F ≡ before (F .count) (F .w * F .h) = rw (← n) (omega (arith, cells-sum (F .index) (F .count) 0 (spans F) ok)) in
+      rw e (cells-upto f l (F .w * F .h))
+
   pub rows-upto : length (F .count) ≡ F .w * F .h → (f : ℕ → List ℕ → List ℕ) (l : List ℕ) → upto (spans F) f l ≡ upto (F .h) (rowUp F f) l
   unfolding rowUp column
-  rows-upto n f l =
-      let e : spans F ≡ before (F .count) (F .w * F .h) = rw (← n) (omega (arith, cells-sum (F .index) (F .count) 0 (spans F) ok)) in
-      rw e (cells-upto f l (F .w * F .h) ∙ upto-rows (F .w) (F .h) (overCell F f) l)
+  rows-upto n f l = spans-upto n f l ∙ upto-rows (F .w) (F .h) (overCell F f) l
 
 pub pass2-by-rows : (F : Field) (l : List ℕ) → downto (F .h) (pass2Row F) l ≡ pass2 F l
 unfolding pass2 pass2Row rowDown column overCell
@@ -97,7 +100,7 @@ stored-upto n g l e =
       done = λ i r. getD-set-at x k (g k) 0 i (λ v. v ≡ g i) q (λ z. rw z) (λ z. p .done i (omega arith));
     })
 
-stored : (n : ℕ) (g : ℕ → ℕ) (l : List ℕ) → length l ≡ n → upto n (λ s m. set m s (g s)) l ≡ tab n 0 g
+pub stored : (n : ℕ) (g : ℕ → ℕ) (l : List ℕ) → length l ≡ n → upto n (λ s m. set m s (g s)) l ≡ tab n 0 g
 stored n g l e = by-elements (upto n (λ s m. set m s (g s)) l) (stored-upto n g l e)
   where
     by-elements : (x : List ℕ) → Stored n g n x → x ≡ tab n 0 g

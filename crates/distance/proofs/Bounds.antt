@@ -209,6 +209,21 @@ lower-is : (F : Field) (a b c e s : ℕ) (l : List ℕ) → set l s (least F a b
 unfolding leastOf lower least leastFrom side
 lower-is F a b c e s l = refl
 
+-- over spans from the last: x is what pass 2 gives span s, in cell c, of every field that fits what is lent
+module _ (F : Field) (ok : Reached F) (c s : ℕ) (l : List ℕ) (b : Low F l) (v : Stands F c s) where
+  at-spot : Spot F (F .w) (F .index) (F .con) c s
+  at-spot = record { reached = ok; wide = refl; indexed = refl; linked = refl; stands = v }
+
+  pub low-room : (a d : ℕ) → Room (F .w) (F .index) (F .con) l c s a d
+  low-room a d = record { F = F; spot = at-spot; size = b .size; first = λ i. b .low _ i; second = λ i. b .low _ i }
+
+  module _ (x : ℕ) (n : (F′ : Field) → Spot F′ (F .w) (F .index) (F .con) c s → x ≡ least F′ 2 1 1 0 s l) where
+    pub low-next : Low F (set l s x)
+    low-next = low-set F 2 1 1 0 s x l b (v .span) (n F at-spot)
+
+    pub down-next : set l s x ≡ lower F 2 1 1 0 s l
+    down-next = ap (set l s) (n F at-spot) ∙ lower-is F 2 1 1 0 s l
+
 module _ (w h : ℕ) (is ks ar cs : List ℕ) (c i k j : ℕ) (l : List ℕ) (ok : Reached (lent w h is ks ar cs)) (p : i ≡ getD is c 0) (q : k ≡ getD ks c 0) (g : j < k) where
   spot : Spot (lent w h is ks ar cs) w is cs c (i + j)
   spot = layer-spot w h is ks ar cs c i k j p q g ok

@@ -1,8 +1,8 @@
 -- What pass 1 reads at a span stands in cells before the span's own: one to the left, one above, or above and one to the right.
--- Spans stand as their cells do, so it is earlier in their order too. Assumes nothing.
+-- Spans stand as their cells do, so it is earlier in their order too. What pass 2 reads stands in other cells than the span's own. Assumes nothing.
 use Prim.Native.Nat.{ℕ, _+_, _*_, _-_, _/_, _%_, _≤_, _<_}
 use native.Mathlib.Omega.{arith}
-use native.Mathlib.Nat.{mod-le, div-le-self, div-eq-of-lt}
+use native.Mathlib.Nat.{mod-le, mod-lt, div-le-self, div-eq-of-lt}
 use native.Mathlib.Decide.{decLt, ℕ-discrete}
 use mathlib.Core.Path.{_≡_, refl, sym, ap, _∙_}
 use mathlib.Core.Bool.{false}
@@ -12,7 +12,7 @@ use Rattle.rules.specs.Field.{Field, spans, near, cellOf, cellTo, leaves, conOf
 use Rattle.laws.proofs.Basics.{tests}
 use Rattle.laws.proofs.Cells.{near-none, before, before-lt, cellOf-in}
 use Rattle.laws.proofs.Passes.{wide-pos, none-near}
-use Rattle.laws.proofs.Rows.{Earlier}
+use Rattle.laws.proofs.Rows.{Earlier, Apart}
 use Rattle.field.specs.Lent.{Stands, Reached}
 use Rattle.field.proofs.Places.{sum-is, stands-in, reaches, near-stands}
 
@@ -89,4 +89,25 @@ module _ (F : Field) (ok : Reached F) where
         second = λ i. in-order s _ h i (before-03 (cellOf (F .count) s) s v i);
         third = λ i. in-order s _ h i (before-3 (cellOf (F .count) s) s v i);
         fourth = λ i. in-order s _ h i (before-32 (cellOf (F .count) s) s v i);
+      }
+
+  -- pass 2
+  pub apart : (s : ℕ) → s < spans F → Apart F s
+  unfolding cellTo leaves
+  apart s h =
+      let c = cellOf (F .count) s in
+      let v : Stands F c s = record { span = h; cell = refl } in
+      let p = wide-pos (F .w) (F .h) c (in-grid c s v) in
+      record {
+        first = λ i e. let r = inner c s 2 v (omega arith) i in omega (arith, r .1 .cell);
+        second = λ i e.
+            let r = inner c s 2 v (omega arith) (through s 2 1 i h (omega arith)) in
+            let q = inner (cellTo (F .w) c 2) (near F s 2) 1 (r .1) (omega arith) i in
+            omega (arith, q .1 .cell);
+        third = λ i e. let r = inner c s 1 v (omega arith) i in omega (arith, r .1 .cell);
+        fourth = λ i e.
+            let r = inner c s 1 v (omega arith) (through s 1 0 i h (omega arith)) in
+            let q = inner (cellTo (F .w) c 1) (near F s 1) 0 (r .1) (omega arith) i in
+            let n : (c + F .w) % F .w ≡ 0 → ⊥ = eqb-false ((c + F .w) % F .w) 0 (q .0) in
+            omega (arith, q .1 .cell, mod-lt (c + F .w) p);
       }

@@ -15,7 +15,7 @@ use Rattle.rules.specs.Field.{Field, spans, cellOf}
 use Rattle.rules.specs.Distance.{lower, start, pass1, pass2, raw, blurAt, blur}
 use Rattle.rules.specs.Rows.{overCell, downto, column, rowUp, rowDown, fromStart, blurTo, pass1Row, pass2Row, blurRow}
 use Rattle.laws.proofs.Basics.{upto-ind, upto-join, tab-at, length-tab}
-use Rattle.laws.proofs.Rows.{downto-join, spans-upto, stored, pass1-from-start, pass2-by-rows}
+use Rattle.laws.proofs.Rows.{downto-join, spans-upto, stored, pass1-from-start, pass2-from-last}
 use mir.Val.{Fits}
 use mir.Syntax.{w64}
 use Rattle.field.specs.Lent.{Stands, Reached, lent}
@@ -24,7 +24,7 @@ use Rattle.field.proofs.Blocks.{block-none, upto-still, downto-still, still-cel
 use Rattle.distance.specs.Walk.{columnsUp, columnsDown, cellsUp, noteCell, cellsOf}
 use Rattle.field.proofs.Places.{stands-at}
 use Rattle.field.proofs.Loops.{upto-go, upto-end, product-small}
-use Rattle.distance.proofs.Earlier.{earlier}
+use Rattle.distance.proofs.Earlier.{earlier, apart}
 
 -- ---------------------------------------------------------------- a loop downward
 
@@ -131,6 +131,10 @@ cell-stands F cells s n x e l q g =
     let z : 0 + s ≡ s = omega arith in
     let h : s < spans F = omega arith in
     record { span = h; cell = sym (g ∙ ap (λ (l : List ℕ). getD l s 0) e ∙ tab-at (spans F) 0 (cellOf (F .count)) s 0 h ∙ ap (cellOf (F .count)) z) }
+
+-- the last of s spans, which a loop downward comes to next
+pub last-stands : (F : Field) (cells : List ℕ) (s x : ℕ) → cells ≡ cellsOf F → 0 < s → s ≤ spans F → x ≡ getD cells (s - 1) 0 → Stands F x (s - 1)
+last-stands F cells s x e l h g = cell-stands F cells (s - 1) (spans F) x e (omega arith) refl g
 
 pub cells-sized : (F : Field) (cells : List ℕ) → cells ≡ cellsOf F → length cells ≡ spans F
 unfolding cellsOf
@@ -240,8 +244,9 @@ pub pass2-row-end : (F : Field) (y x : ℕ) (l m : List ℕ) → x ≤ 0 → dow
 unfolding pass2Row
 pass2-row-end F y x l m h e = row-bottom F (lower F 2 1 1 0) y x l m h e
 
-pub pass2-end : (F : Field) (y : ℕ) (l m : List ℕ) → y ≤ 0 → downto (F .h) (pass2Row F) l ≡ downto y (pass2Row F) m → m ≡ pass2 F l
-pass2-end F y l m h e = down-end (pass2Row F) y (downto (F .h) (pass2Row F) l) m h e ∙ pass2-by-rows F l
+pub pass2-end : (F : Field) (s : ℕ) (l m : List ℕ) → Reached F → s ≤ 0 → downto (spans F) (lower F 2 1 1 0) l ≡ downto s (lower F 2 1 1 0) m → m ≡ pass2 F l
+pass2-end F s l m ok h e =
+    down-end (lower F 2 1 1 0) s (downto (spans F) (lower F 2 1 1 0) l) m h e ∙ pass2-from-last F (ok .celled .cells) (apart F ok) (ok .celled .counted) l
 
 pub raw-end : (F : Field) (m n : List ℕ) → m ≡ pass1 F (start F) → n ≡ pass2 F m → n ≡ raw F
 unfolding raw

@@ -22,5 +22,5 @@ pub fn calculate_distance_field(
     ensures { λ _. ⌜ now (raw .exit) ≡ rules.raw (lent w h (now (index .entry)) (now (count .entry)) (now (area .entry)) (now (con .entry))) ⌝ }
 {
     pass1(w, h, index, count, area, con, raw, cells);
-    pass2(w, h, index, count, area, con, raw);
+    pass2(w, h, index, count, area, con, raw, cells);
 }

@@ -347,7 +347,7 @@ pub fn pass2_row(
     }
 }
 
-// Pass 2.
+// Pass 2 over all spans from the last to the first; cells has the cell of each. A cell's layers do not read each other, so their order is free.
 pub(crate) fn pass2(
     w: usize,
     h: usize,
@@ -356,15 +356,20 @@ pub(crate) fn pass2(
     area: &[u8],
     con: &[u8],
     raw: &mut [u16],
+    cells: &[u16],
 )
     requires { ⌜ (let F = lent w h (now index) (now count) (now area) (now con) in
-        Reached F × Low F (now raw)) ⌝ }
+        Reached F × Low F (now raw) × (now cells ≡ cellsOf F)) ⌝ }
     ensures { λ _. ⌜ (let F = lent w h (now (index .entry)) (now (count .entry)) (now (area .entry)) (now (con .entry)) in
-        (now (raw .exit) ≡ rules.pass2 F (now (raw .entry))) × Low F (now (raw .exit))) ⌝ }
+        now (raw .exit) ≡ rules.pass2 F (now (raw .entry))) ⌝ }
 {
-    let mut y = h;
-    while 0 < y {
-        y -= 1;
-        pass2_row(w, h, index, count, area, con, raw, y);
+    let mut s = area.len();
+    while 0 < s {
+        s -= 1;
+        let p = Place {
+            cell: at16(cells, s),
+            span: SpanIx(s),
+        };
+        raw[s] = lowered(w, index, con, raw, p, 2, 1, 1, 0);
     }
 }

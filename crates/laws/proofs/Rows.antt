@@ -8,14 +8,14 @@ use mathlib.Core.Path.{_≡_, refl, sym, ap, _∙_}
 use mathlib.Core.Bool.{true}
 use mathlib.Core.List.{List}
 use lib.ListN.{length, getD, set, length-set, List·getD-eq-default}
-use lib.Seq.{ext-getD, set-set, getD-set-same, getD-set-other}
+use lib.Seq.{ext-getD, set-set, set-comm, getD-set-same, getD-set-other}
 use Rattle.rules.specs.Base.{upto, tab}
-use Rattle.rules.specs.Field.{Field, spans, near}
+use Rattle.rules.specs.Field.{Field, spans, near, cellOf}
 use Rattle.rules.specs.Refusals.{goodCells}
 use Rattle.rules.specs.Distance.{far, leastOf, lower, startAt, start, pass1, pass2, blurAt, blur}
 use Rattle.rules.specs.Rows.{overCell, downto, column, rowUp, rowDown, startTo, fromStart, blurTo, pass1Row, pass2Row, blurRow}
-use Rattle.laws.proofs.Basics.{upto-ind, upto-join, upto-ext, tab-at, length-tab, getD-set-at}
-use Rattle.laws.proofs.Cells.{before, before-next, before-none, cells-at, cells-sum}
+use Rattle.laws.proofs.Basics.{upto-ind, upto-join, upto-ext, tab-at, length-tab, getD-set-at, in-list}
+use Rattle.laws.proofs.Cells.{before, before-next, before-none, before-lt, cellOf-at, cells-at, cells-sum}
 use Rattle.laws.proofs.Lengths.{start-length, lower-length}
 use Rattle.laws.proofs.Passes.{start-at}
 
@@ -203,3 +203,100 @@ module _ (F : Field) (earlier : (s : ℕ) → s < spans F → Earlier F s) where
       → upto (F .h) (pass1Row F) l ≡ pass1 F (start F)
   unfolding pass1Row
   pass1-by-rows ok n l e = sym (rows-upto F ok n (fromStart F) l) ∙ pass1-from-start l e
+
+-- ---------------------------------------------------------------- pass 2 from the last span
+
+module _ {ℓ} {A : Type ℓ} where
+  -- a step that commutes with n others may come before them
+  upto-past : (n : ℕ) (f : ℕ → A → A) (g : A → A) (a : A) → ((i : ℕ) (x : A) → i < n → g (f i x) ≡ f i (g x)) → g (upto n f a) ≡ upto n f (g a)
+  unfolding upto
+  upto-past zero f g a h = refl
+  upto-past (suc n) f g a h = h n (upto n f a) (omega arith) ∙ ap (f n) (upto-past n f g a (λ i x l. h i x (omega arith)))
+
+  -- steps that commute may be turned round
+  upto-turned : (n : ℕ) (f : ℕ → A → A) (a : A) → ((i j : ℕ) (x : A) → i < n → j < n → (i ≡ j → ⊥) → f j (f i x) ≡ f i (f j x)) → upto n f a ≡ downto n f a
+  unfolding upto downto
+  upto-turned zero f a h = refl
+  upto-turned (suc n) f a h =
+      upto-past n f (f n) a (λ i x l. h i n x (omega arith) (omega arith) (λ z. omega arith))
+      ∙ upto-turned n f (f n a) (λ i j x k l z. h i j x (omega arith) (omega arith) z)
+
+  downto-ext : (n : ℕ) (f g : ℕ → A → A) (s : A) → ((i : ℕ) (x : A) → i < n → f i x ≡ g i x) → downto n f s ≡ downto n g s
+  unfolding downto
+  downto-ext zero f g s h = refl
+  downto-ext (suc n) f g s h = ap (downto n f) (h n s (omega arith)) ∙ downto-ext n f g (g n s) (λ i x l. h i x (omega arith))
+
+-- what pass 2 reads at span s stands in other cells
+pub record Apart (F : Field) (s : ℕ) : Type 0 where
+  pub first : near F s 2 < spans F → cellOf (F .count) (near F s 2) ≡ cellOf (F .count) s → ⊥
+  pub second : near F (near F s 2) 1 < spans F → cellOf (F .count) (near F (near F s 2) 1) ≡ cellOf (F .count) s → ⊥
+  pub third : near F s 1 < spans F → cellOf (F .count) (near F s 1) ≡ cellOf (F .count) s → ⊥
+  pub fourth : near F (near F s 1) 0 < spans F → cellOf (F .count) (near F (near F s 1) 0) ≡ cellOf (F .count) s → ⊥
+
+module _ (F : Field) where
+  -- the value that pass 2 gives span s
+  value2 : ℕ → List ℕ → ℕ
+  value2 s l = leastOf (far l s) (far l (near F s 2)) (far l (near F (near F s 2) 1)) (far l (near F s 1)) (far l (near F (near F s 1) 0))
+
+  -- a store to another span of the cell does not change it
+  value-same : (s t v : ℕ) (l : List ℕ) → Apart F s → t < spans F → cellOf (F .count) t ≡ cellOf (F .count) s → (s ≡ t → ⊥) → value2 s (set l t v) ≡ value2 s l
+  unfolding value2
+  value-same s t v l a i c n =
+      rw (
+        getD-set-other l t s v 65535 n,
+        other (near F s 2) (a .first),
+        other (near F (near F s 2) 1) (a .second),
+        other (near F s 1) (a .third),
+        other (near F (near F s 1) 0) (a .fourth),
+      )
+    where
+      other : (r : ℕ) → (r < spans F → cellOf (F .count) r ≡ cellOf (F .count) s → ⊥) → far (set l t v) r ≡ far l r
+      other r o = getD-set-other l t r v 65535 (λ z. o (rw z i) (ap (cellOf (F .count)) z ∙ c))
+
+  lower-turned : (s t : ℕ) (l : List ℕ) → Apart F s → Apart F t → s < spans F → t < spans F → cellOf (F .count) t ≡ cellOf (F .count) s → (s ≡ t → ⊥)
+      → lower F 2 1 1 0 t (lower F 2 1 1 0 s l) ≡ lower F 2 1 1 0 s (lower F 2 1 1 0 t l)
+  unfolding lower value2
+  lower-turned s t l a b i j c n =
+      ap (set (set l s (value2 s l)) t) (value-same t s (value2 s l) l b i (sym c) (λ z. n (sym z)))
+      ∙ set-comm l s t (value2 s l) (value2 t l) n
+      ∙ sym (ap (set (set l t (value2 t l)) s) (value-same s t (value2 t l) l a j c n))
+
+  module _ (ok : goodCells (F .index) (F .count) 0 (spans F) ≡ true) (apart : (s : ℕ) → s < spans F → Apart F s) where
+    -- layer j of cell c
+    layer-in : (c j : ℕ) → j < getD (F .count) c 0 → (getD (F .index) c 0 + j < spans F) × (cellOf (F .count) (getD (F .index) c 0 + j) ≡ c)
+    layer-in c j h =
+        let s : getD (F .index) c 0 ≡ 0 + before (F .count) c = cells-at (F .index) (F .count) 0 (spans F) ok c .starts (omega arith) in
+        let e : getD (F .index) c 0 + j ≡ before (F .count) c + j = omega arith in
+        let b = before-lt (F .count) c (length (F .count)) j h (in-list (F .count) c (omega arith)) in
+        (omega (arith, cells-sum (F .index) (F .count) 0 (spans F) ok), rw e (cellOf-at (F .count) c j h))
+
+    -- the layers of a cell downward
+    cell-turned : (c : ℕ) (l : List ℕ) → overCell F (lower F 2 1 1 0) c l ≡ downto (getD (F .count) c 0) (λ j. lower F 2 1 1 0 (getD (F .index) c 0 + j)) l
+    unfolding overCell
+    cell-turned c l =
+        upto-turned (getD (F .count) c 0) (λ j. lower F 2 1 1 0 (getD (F .index) c 0 + j)) l
+        (λ i j x h g n.
+        let a = layer-in c i h in
+        let b = layer-in c j g in
+        lower-turned (getD (F .index) c 0 + i) (getD (F .index) c 0 + j) x (apart _ (a .0)) (apart _ (b .0)) (a .0) (b .0) (b .1 ∙ sym (a .1)) (λ z. n (omega arith)))
+
+    cells-downto : (l : List ℕ) (c : ℕ) → downto (before (F .count) c) (lower F 2 1 1 0) l ≡ downto c (overCell F (lower F 2 1 1 0)) l
+    unfolding downto
+    cells-downto l zero = rw (before-none (F .count))
+    cells-downto l (suc c) =
+        let a = before (F .count) c in
+        let k = getD (F .count) c 0 in
+        let i = getD (F .index) c 0 in
+        let first : (j : ℕ) → j < k → a ≡ i = λ j h. omega (arith, cells-at (F .index) (F .count) 0 (spans F) ok c .starts (omega arith)) in
+        rw (before-next (F .count) c)
+        (downto-join a k (lower F 2 1 1 0) l
+        ∙ ap (downto a (lower F 2 1 1 0))
+        (downto-ext k (λ j. lower F 2 1 1 0 (a + j)) (λ j. lower F 2 1 1 0 (i + j)) l (λ j x h. ap (λ (z : ℕ). lower F 2 1 1 0 (z + j) x) (first j h)) ∙ sym (cell-turned c l))
+        ∙ cells-downto (overCell F (lower F 2 1 1 0) c l) c)
+
+    -- the spans from the last to the first, whatever the rule's order of a cell's layers
+    pub pass2-from-last : length (F .count) ≡ F .w * F .h → (l : List ℕ) → downto (spans F) (lower F 2 1 1 0) l ≡ pass2 F l
+    unfolding pass2 overCell
+    pass2-from-last n l =
+        let e : spans F ≡ before (F .count) (F .w * F .h) = rw (← n) (omega (arith, cells-sum (F .index) (F .count) 0 (spans F) ok)) in
+        rw e (cells-downto l (F .w * F .h) ∙ sym (upto-downto (F .w * F .h) (overCell F (lower F 2 1 1 0)) l))

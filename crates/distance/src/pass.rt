@@ -64,23 +64,11 @@ fn side(
     lower(raw, k.span.0, 3, b)
 }
 
-// What a pass gives the span at place p: it looks at neighbour a and its neighbour b, and at neighbour c and its neighbour e. A value of at
-// most 2 can't become less, since at least 2 is added to each.
-fn lowered(
-    w: usize,
-    index: &[u32],
-    con: &[u8],
-    raw: &[u16],
-    p: Place,
-    a: usize,
-    b: usize,
-    c: usize,
-    e: usize,
-) -> u16
-    requires { ⌜ (Room w (now index) (now con) (now raw) (p .cell) (p .span .0) a b × Room w (now index) (now con) (now raw) (p .cell) (p .span .0) c e
-        × (a < 4) × (b < 4) × (c < 4) × (e < 4)) ⌝ }
+// What pass 2 gives the span at place p. A value of at most 2 can't become less, since at least 2 is added to each other.
+fn lowered(w: usize, index: &[u32], con: &[u8], raw: &[u16], p: Place) -> u16
+    requires { ⌜ Room w (now index) (now con) (now raw) (p .cell) (p .span .0) 2 1 × Room w (now index) (now con) (now raw) (p .cell) (p .span .0) 1 0 ⌝ }
     ensures { λ r. ⌜ ((F : Field) → Spot F w (now (index .entry)) (now (con .entry)) (p .cell) (p .span .0)
-        → r ≡ least F a b c e (p .span .0) (now (raw .entry))) ⌝ }
+        → r ≡ least F 2 1 1 0 (p .span .0) (now (raw .entry))) ⌝ }
 {
     let s = p.span;
     let i = p.span.0;
@@ -89,8 +77,8 @@ fn lowered(
         return own;
     }
     let cons = connections(con, s);
-    let best = side(w, index, con, raw, cons, p, a, b, own);
-    side(w, index, con, raw, cons, p, c, e, best)
+    let best = side(w, index, con, raw, cons, p, 2, 1, own);
+    side(w, index, con, raw, cons, p, 1, 0, best)
 }
 
 // What pass 1 gives the span at place p, from where it starts: a span that starts above 0 starts above all that its neighbours make of it.
@@ -269,7 +257,7 @@ fn pass2_cell(
             cell: c,
             span: SpanIx(s),
         };
-        raw[s] = lowered(w, index, con, raw, p, 2, 1, 1, 0);
+        raw[s] = lowered(w, index, con, raw, p);
     }
 }
 
@@ -370,6 +358,6 @@ pub(crate) fn pass2(
             cell: at16(cells, s),
             span: SpanIx(s),
         };
-        raw[s] = lowered(w, index, con, raw, p, 2, 1, 1, 0);
+        raw[s] = lowered(w, index, con, raw, p);
     }
 }

@@ -29,7 +29,7 @@ at16-requires : tie.Need-at16-requires Inv-loop μ-loop
 at16-requires c κs = let n = cells-sized _ _ (c .before .before .before .before .before .before .before .before .pre .2) in search needs
 
 lowered-requires : tie.Need-lowered-requires Inv-loop μ-loop
-lowered-requires c κs = (low-room _ (c .before .before .before .before .before .before .before .before .before .before .pre .0) _ _ _ (c .before .before .before .loop .inv .2) (last-stands _ _ _ _ (c .before .before .before .before .before .before .before .before .before .before .pre .2) (c .before .before .loop-test .taken) (c .before .before .before .loop .inv .0) (c .before .at16 .ensures .0)) _ _, low-room _ (c .before .before .before .before .before .before .before .before .before .before .pre .0) _ _ _ (c .before .before .before .loop .inv .2) (last-stands _ _ _ _ (c .before .before .before .before .before .before .before .before .before .before .pre .2) (c .before .before .loop-test .taken) (c .before .before .before .loop .inv .0) (c .before .at16 .ensures .0)) _ _, search needs, search needs, search needs, search needs)
+lowered-requires c κs = (low-room _ (c .before .before .before .before .before .before .before .before .before .before .pre .0) _ _ _ (c .before .before .before .loop .inv .2) (last-stands _ _ _ _ (c .before .before .before .before .before .before .before .before .before .before .pre .2) (c .before .before .loop-test .taken) (c .before .before .before .loop .inv .0) (c .before .at16 .ensures .0)) _ _, low-room _ (c .before .before .before .before .before .before .before .before .before .before .pre .0) _ _ _ (c .before .before .before .loop .inv .2) (last-stands _ _ _ _ (c .before .before .before .before .before .before .before .before .before .before .pre .2) (c .before .before .loop-test .taken) (c .before .before .before .loop .inv .0) (c .before .at16 .ensures .0)) _ _)
 
 mul-raw : tie.Need-mul-raw Inv-loop μ-loop
 mul-raw c = search needs

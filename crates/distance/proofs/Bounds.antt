@@ -70,16 +70,16 @@ module _ (F : Field) (ok : Reached F) where
         ]
 
     module _ (s : ℕ) (v : Stands F (F .w * y + x) s) where
-      pub room-0 : near F s 0 < spans F → far l (near F s 0) ≤ 510
+      room-0 : near F s 0 < spans F → far l (near F s 0) ≤ 510
       room-0 i = passed-low _ i (before-0 F ok _ s v i)
 
-      pub room-03 : near F (near F s 0) 3 < spans F → far l (near F (near F s 0) 3) ≤ 510
+      room-03 : near F (near F s 0) 3 < spans F → far l (near F (near F s 0) 3) ≤ 510
       room-03 i = passed-low _ i (before-03 F ok _ s v i)
 
-      pub room-3 : near F s 3 < spans F → far l (near F s 3) ≤ 510
+      room-3 : near F s 3 < spans F → far l (near F s 3) ≤ 510
       room-3 i = passed-low _ i (before-3 F ok _ s v i)
 
-      pub room-32 : near F (near F s 3) 2 < spans F → far l (near F (near F s 3) 2) ≤ 510
+      room-32 : near F (near F s 3) 2 < spans F → far l (near F (near F s 3) 2) ≤ 510
       room-32 i = passed-low _ i (before-32 F ok _ s v i)
 
       left-low : near F s 0 < spans F → cellOf (F .count) (near F s 0) ≡ F .w * y + x - 1 → 0 < x → far l (near F s 0) ≤ 2 * (x - 1)
@@ -89,7 +89,7 @@ module _ (F : Field) (ok : Reached F) where
           rw e at a
 
       -- what the span comes to, the areas being bytes
-      pub new-low : ((i : ℕ) → getD (F .area) i 0 < 256) → leastFrom F (startAt F s) 0 3 3 2 s l ≤ 2 * x
+      new-low : ((i : ℕ) → getD (F .area) i 0 < 256) → leastFrom F (startAt F s) 0 3 3 2 s l ≤ 2 * x
       unfolding cellTo leaves areaOf
       new-low bytes =
           elim (ℕ-discrete (conOf F s 0) 255) [
@@ -105,7 +105,7 @@ module _ (F : Field) (ok : Reached F) where
                 omega (arith, least-first F (startAt F s) 0 3 3 2 s l)
           ]
 
-      pub passing-set : (n : ℕ) → Passing F y x (set l s n)
+      passing-set : (n : ℕ) → Passing F y x (set l s n)
       passing-set n =
           let i : s < length l = omega (arith, b .rows .size, v .span) in
           record {

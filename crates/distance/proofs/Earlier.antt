@@ -1,12 +1,11 @@
 -- What pass 1 reads at a span stands in cells before the span's own: one to the left, one above, or above and one to the right.
 -- Spans stand as their cells do, so it is earlier in their order too. What pass 2 reads stands in other cells than the span's own. Assumes nothing.
-use Prim.Native.Nat.{ℕ, _+_, _*_, _-_, _/_, _%_, _≤_, _<_}
+use Prim.Native.Nat.{ℕ, _+_, _*_, _-_, _/_, _%_, _<_}
 use native.Mathlib.Omega.{arith}
 use native.Mathlib.Nat.{mod-le, mod-lt, div-le-self, div-eq-of-lt}
 use native.Mathlib.Decide.{decLt, ℕ-discrete}
 use mathlib.Core.Path.{_≡_, refl, sym, ap, _∙_}
 use mathlib.Core.Bool.{false}
-use lib.ListN.{getD}
 use borrow.Author.Tests.{eqb-false}
 use Rattle.rules.specs.Field.{Field, spans, near, cellOf, cellTo, leaves, conOf}
 use Rattle.laws.proofs.Basics.{tests}

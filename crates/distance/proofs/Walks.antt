@@ -35,7 +35,7 @@ module _ {ℓ} {A : Type ℓ} where
   down-go f zero z t u h e g = absurd (omega arith)
   down-go f (suc c) z t u h e g = let q : suc c - 1 ≡ c = omega arith in rw q (rw (rw q at g) e)
 
-  pub down-end : (f : ℕ → A → A) (c : ℕ) (z t : A) → c ≤ 0 → z ≡ downto c f t → t ≡ z
+  down-end : (f : ℕ → A → A) (c : ℕ) (z t : A) → c ≤ 0 → z ≡ downto c f t → t ≡ z
   unfolding downto
   down-end f zero z t h e = sym e
   down-end f (suc c) z t h e = absurd (omega arith)

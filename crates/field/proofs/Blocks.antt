@@ -12,7 +12,7 @@ use borrow.Author.Tests.{eqb-true, eq-eqb, ne-eqb}
 use Rattle.rules.specs.Base.{_and_, upto, every}
 use Rattle.rules.specs.Field.{Field}
 use Rattle.rules.specs.Rows.{overCell, downto}
-use Rattle.laws.proofs.Basics.{both, every-at, and-no}
+use Rattle.laws.proofs.Basics.{both, every-at}
 use Rattle.field.specs.Blocks.{emptyTo, emptyBlock}
 
 -- ---------------------------------------------------------------- the loop of the test

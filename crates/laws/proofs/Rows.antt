@@ -16,7 +16,7 @@ use Rattle.rules.specs.Distance.{far, leastOf, lower, startAt, start, pass1, pa
 use Rattle.rules.specs.Rows.{overCell, downto, column, rowUp, rowDown, startTo, fromStart, blurTo, pass1Row, pass2Row, blurRow}
 use Rattle.laws.proofs.Basics.{upto-ind, upto-join, upto-ext, tab-at, length-tab, getD-set-at, in-list}
 use Rattle.laws.proofs.Cells.{before, before-next, before-none, before-lt, cellOf-at, cells-at, cells-sum}
-use Rattle.laws.proofs.Lengths.{start-length, lower-length}
+use Rattle.laws.proofs.Lengths.{start-length}
 use Rattle.laws.proofs.Passes.{start-at}
 
 -- ---------------------------------------------------------------- rows and columns

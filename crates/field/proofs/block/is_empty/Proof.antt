@@ -1,6 +1,6 @@
 -- Invariant: `empty` tells whether the cells below j have no span. A part of a block is not looked at.
 -- Assumes nothing.
-use Prim.Native.Nat.{_≤_, _-_, _+_}
+use Prim.Native.Nat.{_≤_, _-_}
 use mathlib.Core.Path.{_≡_}
 use Rattle.rules.specs.Base.{every}
 use Rattle.field.specs.Blocks.{emptyTo}

@@ -79,7 +79,7 @@ fn spread_block(
 }
 
 // For all spans, block by block.
-pub fn spread(
+pub(crate) fn spread(
     w: usize,
     h: usize,
     index: &[u32],

@@ -8,7 +8,6 @@ use checker::Verdict;
 use checker::check;
 use distance::blur::box_blur;
 use distance::blur::greatest;
-use distance::cells::spread;
 use distance::distances::calculate_distance_field;
 ghost use Rattle.rules.specs.Outcomes.{distanceOutcome};
 ghost use Rattle.field.specs.Lent.{lent};
@@ -50,7 +49,6 @@ pub fn build_distance_field(
         Verdict::Refused(r) => DistanceAnswer::Refused(r),
         Verdict::Sound => {
             // Until the blur its list has the cell of each span.
-            spread(width, height, index, count, area, con, blurred);
             calculate_distance_field(width, height, index, count, area, con, raw, blurred);
             box_blur(width, height, index, count, area, con, raw, blurred);
             DistanceAnswer::Done(greatest(raw))

@@ -14,14 +14,11 @@ enum-known-r c = search needs
 enum-told : tie.Need-enum-told
 enum-told c = search needs
 
-spread-requires : tie.Need-spread-requires
-spread-requires c κs = (search (needs, sound-reached), search (needs, sound-blurred))
-
 calculate-distance-field-requires : tie.Need-calculate-distance-field-requires
-calculate-distance-field-requires c κs = (search (needs, sound-reached), search (needs, sound-raw), search needs)
+calculate-distance-field-requires c κs = (search (needs, sound-reached), search (needs, sound-raw), search (needs, sound-blurred))
 
 box-blur-requires : tie.Need-box-blur-requires
-box-blur-requires c κs = (search (needs, sound-reached), raw-sized _ _ _ _ _ _ _ (c .before .before .before .before .calculate-distance-field .ensures), search needs)
+box-blur-requires c κs = (search (needs, sound-reached), raw-sized _ _ _ _ _ _ _ (c .before .before .before .before .before .before .calculate-distance-field .ensures .0), search needs)
 
 greatest-requires : tie.Need-greatest-requires
 greatest-requires c κs = search needs
@@ -45,7 +42,6 @@ build-distance-field-spec =
     check-requires
     enum-known-r
     enum-told
-    spread-requires
     calculate-distance-field-requires
     box-blur-requires
     greatest-requires

@@ -15,9 +15,6 @@ use Rattle.rules.specs.Field.{Field, spans, cellTo, leaves}
 use Rattle.rules.specs.Refusals.{goodCells, goodCon}
 use Rattle.laws.proofs.Passes.{across-in}
 use Rattle.field.specs.Lent.{Stands, Celled, consAt, lent}
-use Rattle.field.specs.Blocks.{emptyBlock}
-use Rattle.field.proofs.Blocks.{block-none}
-use Rattle.checker.specs.Cells.{noSum, Summed}
 use Rattle.checker.specs.Links.{names, namesAt, reachAt, inCell}
 use Rattle.field.proofs.Loops.{every-halt, every-end, every-ext, every-join}
 use Rattle.field.proofs.Places.{stands-at, con-at, firstOf, first-is, total-is, room-left, room-up}
@@ -32,70 +29,20 @@ flip r false s e f = rw (← f) (ap not (sym e))
 
 -- ---------------------------------------------------------------- refusal 4
 
--- the test of the cells from i on with sum spans before them is that of the cells from i + j on with s, whatever all counts come to
-unfoldable pub Rest : List ℕ → List ℕ → ℕ → ℕ → ℕ → ℕ → Type 0
-Rest is ks i sum j s = (n : ℕ) → goodCells (drop i is) (drop i ks) sum n ≡ goodCells (drop j is) (drop j ks) s n
-
-pub rest-none : (is ks : List ℕ) (i sum : ℕ) → Rest is ks i sum (i + 0) sum
-unfolding Rest
-rest-none is ks i sum n = let e : i + 0 ≡ i = omega arith in rw e
-
--- one cell more, of count k and index x; r is its test
-module _ (is ks : List ℕ) (i k x s : ℕ) (r : Bool) (h : i < length ks) (l : length ks ≡ length is) (e : k ≡ getD ks i 0) (f : x ≡ getD is i 0)
-    (t : r ≡ (leb k 63 and (eqb k 0 or eqb x s))) where
-  opened : (n : ℕ) → goodCells (drop i is) (drop i ks) s n ≡ (r and goodCells (drop (i + 1) is) (drop (i + 1) ks) (s + k) n)
+module _ (is ks : List ℕ) (n i k x sum : ℕ) (r : Bool) (h : i < length ks) (l : length ks ≡ length is) (e : k ≡ getD ks i 0) (f : x ≡ getD is i 0)
+    (t : r ≡ (leb k 63 and (eqb k 0 or eqb x sum))) where
+  opened : goodCells (drop i is) (drop i ks) sum n ≡ (r and goodCells (drop (i + 1) is) (drop (i + 1) ks) (sum + k) n)
   unfolding goodCells
-  opened n = rw (add-one, drop-cons is i 0 (omega arith), drop-cons ks i 0 h, ← f, ← e, t)
+  opened = rw (add-one, drop-cons is i 0 (omega arith), drop-cons ks i 0 h, ← f, ← e, t)
 
-  rest-more : (o sum : ℕ) → Rest is ks o sum i s → r ≡ true → Rest is ks o sum (i + 1) (s + k)
-  unfolding Rest _and_
-  rest-more o sum a z n = a n ∙ opened n ∙ rw z refl
+  pub cells-turn : goodCells is ks 0 n ≡ goodCells (drop i is) (drop i ks) sum n → r ≡ true
+      → goodCells is ks 0 n ≡ goodCells (drop (i + 1) is) (drop (i + 1) ks) (sum + k) n
+  unfolding _and_
+  cells-turn a z = a ∙ opened ∙ rw z refl
 
-  rest-stop : (o sum : ℕ) → Rest is ks o sum i s → r ≡ false → (n : ℕ) → goodCells (drop o is) (drop o ks) sum n ≡ false
-  unfolding Rest _and_
-  rest-stop o sum a z n = a n ∙ opened n ∙ rw z refl
-
--- the loop over k cells from i on
-module _ (is ks : List ℕ) (i j k c x s sum : ℕ) (r : Bool) (b : i + k ≤ length ks) (g : j < k) (l : length ks ≡ length is) (e : c ≡ getD ks (i + j) 0) (f : x ≡ getD is (i + j) 0)
-    (t : r ≡ (leb c 63 and (eqb c 0 or eqb x s))) (a : Rest is ks i sum (i + j) s) where
-  pub sum-go : r ≡ true → Rest is ks i sum (i + (j + 1)) (s + c)
-  sum-go z = let q : i + j + 1 ≡ i + (j + 1) = omega arith in rw (← q) (rest-more is ks (i + j) c x s r (omega arith) l e f t i sum a z)
-
-  pub sum-stop : r ≡ false → Summed is ks i k sum noSum
-  sum-stop z = record { wrong = λ _ n. rest-stop is ks (i + j) c x s r (omega arith) l e f t i sum a z n; right = λ n. absurd (n refl); small = λ n. absurd (n refl) }
-
-pub sum-end : (is ks : List ℕ) (i j k s sum : ℕ) → i + k ≤ length ks → length ks ≤ 65536 → j ≤ k → k ≤ j → s ≤ 255 * (i + j) → Rest is ks i sum (i + j) s → Summed is ks i k sum s
-unfolding Rest
-sum-end is ks i j k s sum b m h g o a =
-    let q : i + j ≡ i + k = omega arith in
-    record { wrong = λ z. absurd (omega arith); right = λ _ n. rw (← q) (a n); small = λ _. omega arith }
-
--- k cells without spans
-none-more : (is ks : List ℕ) (i k sum : ℕ) → i + k ≤ length ks → length ks ≡ length is → ((j : ℕ) → j < k → getD ks (i + j) 0 ≡ 0) → Rest is ks i sum (i + k) sum
-unfolding _and_ _or_
-none-more is ks i zero sum b l z = rest-none is ks i sum
-none-more is ks i (suc k) sum b l z =
-    let v = none-more is ks i k sum (omega arith) l (λ j h. z j (omega arith)) in
-    let q : i + k + 1 ≡ i + suc k = omega arith in
-    let y : sum + 0 ≡ sum = omega arith in
-    rw (← q) (rw y at (rest-more is ks (i + k) 0 (getD is (i + k) 0) sum true (omega arith) l (sym (z k (omega arith))) refl refl i sum v refl))
-
-pub sum-none : (is ks : List ℕ) (i k sum : ℕ) (r : Bool) → i + k ≤ length ks → length ks ≡ length is → length ks ≤ 65536 → sum ≤ 255 * i
-    → r ≡ emptyBlock ks i k → r ≡ true → Summed is ks i k sum sum
-unfolding Rest
-sum-none is ks i k sum r b l m o e t =
-    record { wrong = λ z. absurd (omega arith); right = λ _ n. none-more is ks i k sum b l (block-none ks i k r e t) n; small = λ _. omega arith }
-
--- the loop over the blocks
-module _ (is ks : List ℕ) (n i k sum s : ℕ) (v : Summed is ks i k sum s) (a : goodCells is ks 0 n ≡ goodCells (drop i is) (drop i ks) sum n) where
-  pub cells-turn : (s ≡ noSum → ⊥) → goodCells is ks 0 n ≡ goodCells (drop (i + k) is) (drop (i + k) ks) s n
-  cells-turn z = a ∙ v .right z n
-
-  pub cells-small : (s ≡ noSum → ⊥) → s ≤ 255 * (i + k)
-  cells-small z = v .small z
-
-  pub cells-stop : s ≡ noSum → false ≡ goodCells is ks 0 n
-  cells-stop z = sym (a ∙ v .wrong z n)
+  pub cells-stop : goodCells is ks 0 n ≡ goodCells (drop i is) (drop i ks) sum n → r ≡ false → false ≡ goodCells is ks 0 n
+  unfolding _and_
+  cells-stop a z = sym (a ∙ opened ∙ rw z refl)
 
 pub cells-done : (is ks : List ℕ) (n i sum : ℕ) → i ≤ length ks → length ks ≤ i → length ks ≡ length is
     → goodCells is ks 0 n ≡ goodCells (drop i is) (drop i ks) sum n → eqb sum n ≡ goodCells is ks 0 n

@@ -12,7 +12,7 @@ ghost use mathlib.Core.List.{[], _∷_};
 ghost use mathlib.Core.Bool.{not};
 ghost use Prim.Native.Nat.{_≤_};
 ghost use lib.ListN.{length};
-ghost use Rattle.rules.specs.Refusals.{refusal, wrongLength};
+ghost use Rattle.rules.specs.Refusals.{refusal, wrongLength, mostSpans};
 ghost use Rattle.field.specs.Lent.{lent};
 ghost use Rattle.checker.specs.Answer.{numberOf, verdictNumber};
 
@@ -53,7 +53,7 @@ pub enum Verdict {
 const MOST_CELLS_A_SIDE: usize = 256;
 
 // The most spans of a field.
-const MOST_SPANS: usize = 32000;
+const MOST_SPANS: usize = 65000;
 
 // The lists are as long as w, h and the number of spans say; a and b are the lengths of the entry's own two.
 fn lengths_ok(
@@ -66,7 +66,7 @@ fn lengths_ok(
     a: usize,
     b: usize,
 ) -> bool
-    requires { ⌜ (w ≤ 256) × (h ≤ 256) × (length (now area) ≤ 32000) ⌝ }
+    requires { ⌜ (w ≤ 256) × (h ≤ 256) × (length (now area) ≤ mostSpans) ⌝ }
     ensures { λ r. ⌜ (let F = lent w h (now (index .entry)) (now (count .entry)) (now (area .entry)) (now (con .entry)) in
         r ≡ not (wrongLength F (a ∷ b ∷ []))) ⌝ }
 {

@@ -13,6 +13,7 @@ use lib.Seq.{length-take-le}
 use Rattle.rules.specs.Field.{none}
 use Rattle.rules.specs.Net.{Net, near}
 use Rattle.rules.specs.Growth.{Marks, put, finds, wrote, written, Spread, round, rounds}
+use Rattle.rules.specs.Refusals.{mostSpans}
 use Rattle.laws.proofs.Basics.{All}
 use Rattle.space.proofs.Laws.{cases}
 use Rattle.net.specs.Table.{netAt, Mutual}
@@ -154,7 +155,7 @@ module _ (ar : List ℕ) (a e b fill : ℕ) (ids ws : List ℕ) (k : ℕ) (ws′
 
 -- ---------------------------------------------------------------- the changes written
 
-module _ (N : Net) (n a e fill : ℕ) (ids ws : List ℕ) (lo hi : ℕ) (v : Front N n a e fill ids ws lo hi) (o : lo ≤ hi) (room : n ≤ length ws) (few : n ≤ 32000) where
+module _ (N : Net) (n a e fill : ℕ) (ids ws : List ℕ) (lo hi : ℕ) (v : Front N n a e fill ids ws lo hi) (o : lo ≤ hi) (room : n ≤ length ws) (few : n ≤ mostSpans) where
   -- what the round changes stands in the queue
   pub change-queued : (x : ℕ) → has x (changes N (frontOf n a fill ids ws)) ≡ true → (x < n) × Queued ws e lo hi x
   unfolding changes frontOf
@@ -229,7 +230,7 @@ module _ (N : Net) (n a e fill : ℕ) (ids ws : List ℕ) (lo hi : ℕ) (v : Fro
 -- ---------------------------------------------------------------- beside the changes
 
 module _ (ar : List ℕ) (a e b fill : ℕ) (ids ws : List ℕ) (lo hi : ℕ) (N : Net) (v : Front N (length ar) a e fill ids ws lo hi)
-    (o : lo ≤ hi) (room : length ar ≤ length ws) (few : length ar ≤ 32000) (low : length ar ≤ a) (lie : a + length ar ≤ e) (fit : fill ≤ length ar)
+    (o : lo ≤ hi) (room : length ar ≤ length ws) (few : length ar ≤ mostSpans) (low : length ar ≤ a) (lie : a + length ar ≤ e) (fit : fill ≤ length ar)
     (ids₁ ws₁ : List ℕ) (u : Writing (length ar) e lo hi ids ws ids₁ ws₁ hi) (q₁ : netAt b ar ws₁ ≡ N) (x : Mutual N) (sized : length (N .areas) ≡ length ar)
     (ws₂ : List ℕ) (k : ℕ) (m : Moved ar e b ids₁ ws₁ hi ws₂ k) (t : Beside ar e b ids₁ ws₁ ws₂ lo hi) where
   -- a span whose flag is still up finds nothing: it found nothing before, and was tried if a neighbour changed
@@ -268,7 +269,7 @@ module _ (ar : List ℕ) (a e b fill : ℕ) (ids ws : List ℕ) (lo hi : ℕ) (N
 
 -- ---------------------------------------------------------------- rounds
 
-module _ (N : Net) (n a e fill : ℕ) (ids ws : List ℕ) (lo hi : ℕ) (v : Front N n a e fill ids ws lo hi) (room : n ≤ length ws) (few : n ≤ 32000) where
+module _ (N : Net) (n a e fill : ℕ) (ids ws : List ℕ) (lo hi : ℕ) (v : Front N n a e fill ids ws lo hi) (room : n ≤ length ws) (few : n ≤ mostSpans) where
   -- with nothing noted, that is all
   pub front-off : (k : ℕ) → hi ≤ lo → lo ≤ hi → 0 < k → rounds N k (frontOf n a fill ids ws) ≡ frontOf n a fill ids ws
   unfolding changes

@@ -11,6 +11,7 @@ use lib.Seq.{getD-take, getD-set-same, getD-set-other, take-set-le}
 use Rattle.rules.specs.Field.{none}
 use Rattle.rules.specs.Net.{near}
 use Rattle.rules.specs.Growth.{takes}
+use Rattle.rules.specs.Refusals.{mostSpans}
 use Rattle.laws.proofs.NextId.{zeros, zeros-le, zeros-lower}
 use Rattle.net.specs.Table.{netAt, lastPlace, Closed}
 use Rattle.net.proofs.Tables.{net-same, near-at, net-inside}
@@ -160,7 +161,7 @@ module _ (ar : List ℕ) (e b : ℕ) (ids ws : List ℕ) (x : ℕ) where
   pub tried-down : (f v : ℕ) → f ≡ e + 3 * length ar → v ≡ getD ws (f + x) 0 → v ≡ 0 → Tried ar e b ids ws ws x
   tried-down f v p q z = record { cold = λ h u. absurd (u (rw (← p) (sym q ∙ z))) }
 
-  pub tried-used : (i s : ℕ) → s ≡ getD ws i 0 → s ≡ none → length ar ≤ 32000 → Tried ar e b ids ws ws (getD ws i 0)
+  pub tried-used : (i s : ℕ) → s ≡ getD ws i 0 → s ≡ none → length ar ≤ mostSpans → Tried ar e b ids ws ws (getD ws i 0)
   tried-used i s q z f = record { cold = λ h u. absurd (omega arith) }
 
   pub tried-as : (i s : ℕ) → s ≡ getD ws i 0 → (ws′ : List ℕ) → Tried ar e b ids ws ws′ s → Tried ar e b ids ws ws′ (getD ws i 0)
@@ -170,7 +171,7 @@ module _ (ar : List ℕ) (e b : ℕ) (ids ws : List ℕ) (x : ℕ) where
     pub tried-nothing : id ≡ 0 → Tried ar e b ids ws ws x
     tried-nothing z = record { cold = λ h u. zero-no (netAt b ar ws) (marksAt (length ar) ids ws) x id far g z }
 
-    pub tried-found : x < length ar → length ar ≤ 32000 → (id ≡ 0 → ⊥) → Found (netAt b ar ws) (marksAt (length ar) ids ws) (length ar) x id far
+    pub tried-found : x < length ar → length ar ≤ mostSpans → (id ≡ 0 → ⊥) → Found (netAt b ar ws) (marksAt (length ar) ids ws) (length ar) x id far
     tried-found h f z = record {
       span = h;
       found = taken-yes (netAt b ar ws) (marksAt (length ar) ids ws) x id far g (λ q. omega arith) z;

@@ -8,6 +8,7 @@ use lib.ListN.{length, getD}
 use lib.Seq.{getD-take}
 use Rattle.rules.specs.Net.{Net}
 use Rattle.rules.specs.Growth.{rounds}
+use Rattle.rules.specs.Refusals.{mostSpans}
 use Rattle.laws.proofs.NextId.{zeros, zeros-le}
 use Rattle.net.specs.Table.{netAt, Closed, Mutual}
 use Rattle.net.proofs.Tables.{net-same, spans-at}
@@ -18,7 +19,7 @@ use Rattle.expand.proofs.Waves.{rounds-none}
 use Rattle.expand.proofs.Fronts.{front-same, front-tried, front-next, front-round, round-ok, round-only, front-off, front-on}
 
 -- source distances in the workspace
-pub low-calm : (n a fill : ℕ) (ids ws : List ℕ) → n ≤ 32000 → n ≤ length ws → Ok n (frontOf n a fill ids ws) → Calm n ws
+pub low-calm : (n a fill : ℕ) (ids ws : List ℕ) → n ≤ mostSpans → n ≤ length ws → Ok n (frontOf n a fill ids ws) → Calm n ws
 unfolding frontOf
 low-calm n a fill ids ws f l o = record { fits = l; most = λ x g. omega (arith, o .low .bound x, getD-take n ws x 0 g) }
 

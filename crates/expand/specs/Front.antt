@@ -9,9 +9,10 @@ use lib.ListN.{length, getD, take}
 use Rattle.rules.specs.Field.{none}
 use Rattle.rules.specs.Net.{Net, near}
 use Rattle.rules.specs.Growth.{Marks, finds, takes, Spread, rounds}
+use Rattle.rules.specs.Refusals.{mostSpans}
 use Rattle.laws.proofs.NextId.{zeros}
 use Rattle.space.specs.Space.{Clear}
-use Rattle.net.specs.Table.{netAt, lastPlace, mostSpans}
+use Rattle.net.specs.Table.{netAt, lastPlace}
 use Rattle.flood.specs.Stack.{marksAt}
 use Rattle.expand.specs.Layout.{fresh, listAt, changesAt, applied, Sizes, Calm, Entries, Ok}
 

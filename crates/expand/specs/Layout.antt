@@ -11,10 +11,11 @@ use Rattle.rules.specs.Base.{_and_, if_then_else_, tab, keep}
 use Rattle.rules.specs.Field.{none}
 use Rattle.rules.specs.Net.{Net}
 use Rattle.rules.specs.Growth.{Marks, Taken, put, walkable, finds, Spread}
+use Rattle.rules.specs.Refusals.{mostSpans}
 use Rattle.laws.proofs.Basics.{All}
 use Rattle.laws.proofs.NextId.{zeros}
 use Rattle.space.specs.Space.{Clear}
-use Rattle.net.specs.Table.{netAt, lastPlace, mostSpans, Closed}
+use Rattle.net.specs.Table.{netAt, lastPlace, Closed}
 use Rattle.flood.specs.Stack.{marksAt}
 use Rattle.expand.specs.declared.look.Taken as code
 

@@ -8,7 +8,8 @@ ghost use mathlib.Core.Path.{_≡_};
 ghost use Prim.Native.Nat.{_+_, _*_, _<_, _≤_};
 ghost use lib.ListN.{length, getD};
 ghost use Rattle.rules.specs.Growth.{look, takes};
-ghost use Rattle.net.specs.Table.{netAt, mostSpans};
+ghost use Rattle.rules.specs.Refusals.{mostSpans};
+ghost use Rattle.net.specs.Table.{netAt};
 ghost use Rattle.flood.specs.Stack.{marksAt};
 ghost use Rattle.expand.specs.Layout.{takenOf, Sight};
 

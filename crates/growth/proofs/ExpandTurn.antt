@@ -9,6 +9,7 @@ use lib.ListN.{length, getD, set}
 use Rattle.rules.specs.Field.{none}
 use Rattle.rules.specs.Net.{Net, spans}
 use Rattle.rules.specs.Growth.{Spread, expand}
+use Rattle.rules.specs.Refusals.{mostSpans}
 use Rattle.laws.proofs.Basics.{All, All-map}
 use Rattle.laws.proofs.Grows.{Inside, expand-down}
 use Rattle.space.specs.Space.{sec}
@@ -36,7 +37,7 @@ module _ (ar con : List ℕ) (at : Sections) (next : ℕ) (fs : List ℕ) (j : �
   room : 13 * length ar ≤ length ws
   room = room-for ar con at next fs j ids ws (v .between)
 
-  few : length ar ≤ 32000
+  few : length ar ≤ mostSpans
   few = few-spans ar con at next fs j ids ws (v .between)
 
   stack-is : getD (stacksAt (length ar) ws fs) j [] ≡ stackOf (length ar) fs j ws

@@ -10,6 +10,7 @@ use Rattle.rules.specs.Base.{upto}
 use Rattle.rules.specs.Field.{Field}
 use Rattle.rules.specs.Net.{netOf}
 use Rattle.rules.specs.Growth.{Marks, Turn, turn, expand, blank, painted, firstId, grown}
+use Rattle.rules.specs.Refusals.{mostSpans}
 use Rattle.laws.proofs.NextId.{zeros-le}
 use Rattle.laws.proofs.Lengths.{painted-length}
 use Rattle.laws.proofs.Grows.{first-few}
@@ -39,7 +40,7 @@ module _ (w h : ℕ) (is ks ar cs : List ℕ) (b : ℕ) (ids ws : List ℕ) (p :
   pub cells-first : length ks ≡ w * h
   cells-first = reached-first .celled .counted
 
-  pub few-first : length ar ≤ 32000
+  pub few-first : length ar ≤ mostSpans
   few-first = reached-first .celled .few
 
   pub size-first : length ids ≡ length ar
@@ -54,7 +55,7 @@ module _ (w h : ℕ) (is ks ar cs dist : List ℕ) (b most border : ℕ) (ids ws
   abbrev G : Field
   G = lent w h is ks ar cs
 
-  few : length ar ≤ 32000
+  few : length ar ≤ mostSpans
   few = few-first w h is ks ar cs b ids ws p
 
   painted-ids : ids₁ ≡ painted G border .ids

@@ -6,6 +6,7 @@ use native.Mathlib.Decide.{decLt}
 use mathlib.Core.Path.{_≡_, _∙_}
 use mathlib.Core.List.{List}
 use lib.ListN.{length, getD}
+use Rattle.rules.specs.Refusals.{mostSpans}
 use Rattle.space.specs.Space.{Clear}
 use Rattle.net.specs.declared.Sections.{Sections}
 use Rattle.net.specs.Table.{netAt}
@@ -17,7 +18,7 @@ use Rattle.growth.specs.Turns.{Left, Between}
 
 module _ (ar con : List ℕ) (at : Sections) (next : ℕ) (fs : List ℕ) (j : ℕ) (ids ws : List ℕ) (v : Between ar con at next fs j ids ws) where
   -- few spans, and room for all sections
-  pub few-spans : length ar ≤ 32000
+  pub few-spans : length ar ≤ mostSpans
   few-spans = net-few (at .table) ar ws (v .lent .closed)
 
   pub room-for : 13 * length ar ≤ length ws

@@ -9,8 +9,8 @@ ghost use mathlib.Core.Path.{_≡_};
 ghost use mathlib.Core.List.{[]};
 ghost use Prim.Native.Nat.{_*_, _≤_};
 ghost use lib.ListN.{length};
+ghost use Rattle.rules.specs.Refusals.{mostSpans};
 ghost use Rattle.field.specs.Lent.{lent};
-ghost use Rattle.net.specs.Table.{mostSpans};
 ghost use Rattle.growth.specs.Turns.{SectionsFor, Bytes, Between};
 ghost use Rattle.growth.specs.Grow.{Grew, Poised, Full};
 

@@ -10,7 +10,7 @@ ghost use mathlib.Core.Path.{_≡_};
 ghost use mathlib.Core.List.{[]};
 ghost use Prim.Native.Nat.{_+_, _*_, _<_, _≤_};
 ghost use lib.ListN.{length, getD};
-ghost use Rattle.net.specs.Table.{mostSpans};
+ghost use Rattle.rules.specs.Refusals.{mostSpans};
 ghost use Rattle.growth.specs.Turns.{SectionsFor, Left, Loaded, Bytes, Between, Turned, AllTurns};
 
 // The stacks of the turn after l's: at turn number 0 all is sorted anew; at another, what remains of the stack before is appended to this turn's.

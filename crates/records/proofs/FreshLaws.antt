@@ -11,6 +11,7 @@ use lib.Seq.{getD-set-same, getD-set-other}
 use lib.Dec.{eqb}
 use borrow.Author.Tests.{eq-eqb, ne-eqb, lt-ltb, le-ltb}
 use Rattle.rules.specs.Base.{if_then_else_, many}
+use Rattle.rules.specs.Refusals.{mostSpans}
 use Rattle.laws.proofs.Basics.{many-le}
 use Rattle.space.proofs.Laws.{getD-before, getD-after}
 use Rattle.table.specs.View.{startOf, endOf, Placed}
@@ -90,7 +91,7 @@ pub renewed-then : (ids : List ℕ) (m i j : ℕ) (ws₀ ws ws′ : List ℕ) �
 renewed-then ids m i j ws₀ ws ws′ P R = record { low = R .low; size = R .size ∙ P .size; names = R .names; empty = R .empty; counts = R .counts; lists = R .lists; floors = R .floors; columns = R .columns; pool = R .pool; after = λ x h. R .after x h ∙ P .after x h }
 
 module _ (ids : List ℕ) (m i : ℕ) (ws : List ℕ) (R : Renewed ids m i ws ws) (h : i < m) (q before : ℕ) (eb : before ≡ slot ids i) (eq : q ≡ 15 * m + 8 * length ids + 62 * before)
-    (few : m < 32768) (spans : length ids ≤ 32000) (room : 15 * m + 70 * length ids ≤ length ws) where
+    (few : m < 32768) (spans : length ids ≤ mostSpans) (room : 15 * m + 70 * length ids ≤ length ws) where
   at-floors : q ≡ floorsAt ids m i
   unfolding floorsAt
   at-floors = rw (eq, eb)

@@ -10,7 +10,7 @@ use Rattle.rules.specs.Net.{Net, areaOf}
 use Rattle.rules.specs.Growth.{plain}
 use Rattle.rules.specs.Contour.{firstSolid, contour}
 use Rattle.rules.specs.Records.{Rec, at, onceAll}
-use Rattle.net.specs.Table.{mostSpans}
+use Rattle.rules.specs.Refusals.{mostSpans}
 use Rattle.contour.specs.Pool.{pooled}
 use Rattle.table.specs.View.{startOf, endOf, listAt, recsOf}
 use Rattle.records.specs.Map.{listsAt, floorPartsAt, poolAt, floorsFrom, floorRoom, recordsEnd, border}

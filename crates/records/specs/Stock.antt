@@ -8,8 +8,9 @@ use Rattle.rules.specs.Field.{Field, spans}
 use Rattle.rules.specs.Net.{netOf}
 use Rattle.rules.specs.Growth.{plain}
 use Rattle.rules.specs.Records.{records}
+use Rattle.rules.specs.Refusals.{mostSpans}
 use Rattle.field.specs.Lent.{Sound}
-use Rattle.net.specs.Table.{netAt, lastPlace, mostSpans}
+use Rattle.net.specs.Table.{netAt, lastPlace}
 use Rattle.contour.specs.Ways.{Ways}
 use Rattle.table.specs.View.{startOf, endOf, recsOf, Held}
 use Rattle.records.specs.Map.{listsAt, floorPartsAt, poolAt, floorsFrom, recordsEnd, border}

@@ -11,7 +11,7 @@ ghost use Prim.Native.Nat.{_+_, _*_, _≤_, _<_};
 ghost use lib.ListN.{length, getD};
 ghost use lib.Dec.{eqb};
 ghost use Rattle.rules.specs.Base.{many};
-ghost use Rattle.net.specs.Table.{mostSpans};
+ghost use Rattle.rules.specs.Refusals.{mostSpans};
 ghost use Rattle.records.specs.Map.{recordsEnd, border};
 ghost use Rattle.records.specs.Rows.{slot};
 ghost use Rattle.records.specs.Fresh.{tallyOne, Tallied, Renewed};

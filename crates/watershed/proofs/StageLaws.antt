@@ -15,6 +15,7 @@ use Rattle.rules.specs.Records.{records}
 use Rattle.rules.specs.Filter.{filtered}
 use Rattle.rules.specs.Merge.{merged}
 use Rattle.rules.specs.Numbering.{Regions, numbered, regions}
+use Rattle.rules.specs.Refusals.{mostSpans}
 use Rattle.laws.proofs.Basics.{getD-any}
 use Rattle.laws.proofs.Grows.{first-few, grown-next}
 use Rattle.laws.proofs.Nets.{net-bytes}
@@ -45,7 +46,7 @@ unfolding field.areaOf
 areas-are-bytes w h is ks ar cs bytes s l = rw (getD-any ar s 256 0 l) (bytes s)
 
 module _ (w h : ℕ) (is ks ar cs dist ws ids : List ℕ) (a : Admitted (lent w h is ks ar cs) dist ws ids) where
-  pub few : length ar ≤ 32000
+  pub few : length ar ≤ mostSpans
   few = sound-reached (lent w h is ks ar cs) (a .sound) .celled .few
 
   -- the table of neighbours at its place

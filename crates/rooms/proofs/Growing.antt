@@ -120,11 +120,13 @@ grown-grow F dist most b bytes o =
     let start : Turn = record { marks = painted F b; stacks = []; next = firstId b } in
     let size : length (painted F b .ids) ≡ spans (netOf F) = painted-length F b in
     let go = turns-go (netOf F) dist top start (top / 2) (unstopped F dist most b o .turns) in
-    let r = upto-ind (λ k (t : Turn). (t ≡ upto k (turn (netOf F) dist top) start) × Turned (netOf F) (firstId b) t) (turn (netOf F) dist top) start (top / 2)
-    (refl, record {
-      grow = painted-grow F b;
-      room = record { size = size; some = first .0; plain = omega arith; room = omega (arith, zeros-le (painted F b .ids)); inside = λ j. tt };
-      good = λ j. tt;
-    })
+    let r = upto-ind (λ k (t : Turn). (t ≡ upto k (turn (netOf F) dist top) start) × Turned (netOf F) (firstId b) t) (turn (netOf F) dist top) start (top / 2) (
+      refl,
+      record {
+        grow = painted-grow F b;
+        room = record { size = size; some = first .0; plain = omega arith; room = omega (arith, zeros-le (painted F b .ids)); inside = λ j. tt };
+        good = λ j. tt;
+      },
+    )
     (λ k t g h. (rw (h .0) refl, turn-grow (netOf F) dist bytes (firstId b) top k t (rw (h .0) (go k g)) (h .1))) in
     expand-grow (netOf F) (firstId b) _ 0 _ _ (r .1 .grow)

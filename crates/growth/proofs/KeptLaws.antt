@@ -11,8 +11,6 @@ use Rattle.space.specs.Space.{Clear}
 use Rattle.net.specs.declared.Sections.{Sections}
 use Rattle.net.specs.Table.{netAt}
 use Rattle.net.proofs.Tables.{net-few, net-same, lent-same}
-use Rattle.flood.specs.Stack.{marksAt}
-use Rattle.expand.specs.Layout.{Low}
 use Rattle.growth.specs.Floods.{IdsBelowNext}
 use Rattle.growth.specs.Turns.{Left, Between}
 
@@ -40,15 +38,13 @@ module _ (ar con : List ℕ) (at : Sections) (next : ℕ) (fs : List ℕ) (j : �
     pub kept-net : netAt (at .table) ar ws′ ≡ netAt (at .table) ar ws
     kept-net = net-same (at .table) ar ws ws′ (v .lent .room) size (λ x h. past x (omega (arith, v .laid .past)))
 
-    pub kept-between : (next′ : ℕ) (fs′ : List ℕ) (j′ : ℕ) (ids′ : List ℕ) → j′ < 8 → IdsBelowNext (length ar) next′ ids′ → Low (length ar) (marksAt (length ar) ids′ ws′)
-        → Left (length ar) fs′ j′ ws′ → Between ar con at next′ fs′ j′ ids′ ws′
-    kept-between next′ fs′ j′ ids′ t b l f = record {
+    pub kept-between : (next′ : ℕ) (fs′ : List ℕ) (j′ : ℕ) (ids′ : List ℕ) → j′ < 8 → IdsBelowNext (length ar) next′ ids′ → Left (length ar) fs′ j′ ws′ → Between ar con at next′ fs′ j′ ids′ ws′
+    kept-between next′ fs′ j′ ids′ t b f = record {
       lent = lent-same (at .table) ar con ws ws′ size kept-net (v .lent);
       both-ways = rw kept-net (v .both-ways);
       laid = v .laid;
       turn = t;
       ids-below = b;
-      low = l;
       changes = record { blank = λ x a u. past x (omega (arith, v .laid .changes)) ∙ v .changes .blank x a u };
       stack = record { zeros = λ x a u. past x (omega (arith, v .laid .stack)) ∙ v .stack .zeros x a u };
       left = f;

@@ -85,11 +85,14 @@ gussetraft_distance_answer gussetraft_build_distance_field(
     uint16_t *blurred, size_t blurred_len);
 
 /* refusal: 0, or the number of the refusal; max_region, the last number given: the ids in use are exactly 1 (5 with a border) to
- * max_region - 1, and those of the border; overlaps: how many regions, before the merge, lie over themselves. Both are 0 where refused. */
+ * max_region - 1, and those of the border; overlaps: how many regions, before the merge, lie over themselves; cut: how many regions,
+ * removed ones too and absorbed ones counted in their absorber, have a contour that was cut short, because the walk round it was not
+ * back after 40,000 steps, so that the list of neighbours is partial (never one of at most 10,000 spans). All three are 0 where refused. */
 typedef struct {
     uint16_t refusal;
     uint16_t max_region;
     uint16_t overlaps;
+    uint16_t cut;
 } gussetraft_region_answer;
 
 /* Writes the region id of each span; 0 is none. dist and max_distance are the blurred distances and the number that

@@ -73,7 +73,8 @@ static int run(size_t n) {
         border_size, min_region_area, merge_region_area, workspace, GUSSETRAFT_WORKSPACE_LEN(n), ids, n);
     if (got.refusal) return refused(got.refusal);
 
-    printf("max_distance %u max_region %u overlaps %u\n", (unsigned)far.max_distance, (unsigned)got.max_region, (unsigned)got.overlaps);
+    printf("max_distance %u max_region %u overlaps %u cut %u\n", (unsigned)far.max_distance, (unsigned)got.max_region, (unsigned)got.overlaps,
+        (unsigned)got.cut);
     print_ids();
     return 0;
 }

@@ -37,7 +37,7 @@
 //! let mut ids = [0; 9];
 //! let regions = build_regions(&field, &blurred, max_distance, &sizes, &mut workspace, &mut ids)?;
 //! assert_eq!(ids, [1; 9]);
-//! assert_eq!((regions.max_region, regions.overlaps), (2, 0));
+//! assert_eq!((regions.max_region, regions.overlaps, regions.cut), (2, 0, 0));
 //!
 //! // Bad input is refused, and every list holds what it held before.
 //! let damaged = Field { area: &[1; 8], ..field };
@@ -101,6 +101,9 @@ pub struct Regions {
     pub max_region: u16,
     /// How many regions, before the merge, lie over themselves.
     pub overlaps: u16,
+    /// How many regions, absorbed ones counted in their absorber, have a contour that was cut short: after 40,000 steps the walk was not back, so
+    /// the neighbour list is partial. A region of at most 10,000 spans is never cut short.
+    pub cut: u16,
 }
 
 /// Why a call was refused. Every lent list then holds what it held before.
@@ -231,6 +234,7 @@ pub fn build_regions(
     Ok(Regions {
         max_region: answer.max_region,
         overlaps: answer.overlaps,
+        cut: answer.cut,
     })
 }
 

@@ -123,6 +123,7 @@ fn check_regions(name: &str, field: &Field, beside: &Lent) {
             let numbers = Regions {
                 max_region: expected.max_region,
                 overlaps: expected.overlaps.try_into().expect("records fit 16 bits"),
+                cut: expected.cut.try_into().expect("records fit 16 bits"),
             };
             assert_eq!(answer, Ok(numbers), "{name}");
             same(name, "ids", &ids, &expected.ids);

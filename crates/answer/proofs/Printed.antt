@@ -44,7 +44,7 @@ rows-shown w h is ks ar cs ids zero z = refl
 rows-shown w h is ks ar cs ids (suc k) z = ap (λ (l : List ℕ). rowText (shown w h is ks) ids z ++ l) (rows-shown w h is ks ar cs ids k (suc z))
 
 listing-shown : (w h : ℕ) (is ks ar cs : List ℕ) (most : ℕ) (o : RegionOutcome)
-    → listing (shown w h is ks) most (numbered (o .most) (o .over) (o .ids)) ≡ listing (lent w h is ks ar cs) most o
+    → listing (shown w h is ks) most (numbered (o .most) (o .over) (o .cut) (o .ids)) ≡ listing (lent w h is ks ar cs) most o
 unfolding listing
 listing-shown w h is ks ar cs most o = rw (rows-shown w h is ks ar cs (o .ids) h 0)
 
@@ -58,16 +58,17 @@ module _ (w h : ℕ) (is ks ar cs dist : List ℕ) (most : ℕ) (z : Sizes) (ws 
       let a : AnswersRegions (regionOutcome (lent w h is ks ar cs) dist most z ws ids) (region.Refused k) ws′ ids′ = rw (← y) b in
       rw (ne-eqb (regionOutcome (lent w h is ks ar cs) dist most z ws ids .refused) 0 (λ v. omega (arith, a .refused, number-pos k)), ← a .refused, ← e) p
 
-  pub second-done : (x : RegionAnswer) → AnswersRegions (regionOutcome (lent w h is ks ar cs) dist most z ws ids) x ws′ ids′ → (m o : ℕ) → x ≡ region.Done m o
-      → Prints out (listing (shown w h is ks) most (numbered m o ids′)) r out′ → Prints out (second (lent w h is ks ar cs) dist most z ws ids) r out′
+  pub second-done : (x : RegionAnswer) → AnswersRegions (regionOutcome (lent w h is ks ar cs) dist most z ws ids) x ws′ ids′ → (m o u : ℕ) → x ≡ region.Done m o u
+      → Prints out (listing (shown w h is ks) most (numbered m o u ids′)) r out′ → Prints out (second (lent w h is ks ar cs) dist most z ws ids) r out′
   unfolding second if_then_else_
-  second-done x b m o y p =
-      let a : AnswersRegions (regionOutcome (lent w h is ks ar cs) dist most z ws ids) (region.Done m o) ws′ ids′ = rw (← y) b in
+  second-done x b m o u y p =
+      let a : AnswersRegions (regionOutcome (lent w h is ks ar cs) dist most z ws ids) (region.Done m o u) ws′ ids′ = rw (← y) b in
       rw (
         eq-eqb (regionOutcome (lent w h is ks ar cs) dist most z ws ids .refused) 0 (sym (a .refused)),
         ← listing-shown w h is ks ar cs most (regionOutcome (lent w h is ks ar cs) dist most z ws ids),
         ← a .most,
         ← a .over,
+        ← a .cut,
         ← a .ids,
       ) p
 
@@ -80,10 +81,10 @@ regions-accepted F dist most z ws ids =
     (λ e _. accepted F (length dist ∷ length ids ∷ []) (length ws) dist most (eqb-true _ _ e)) (λ e h. absurd (eqb-false _ _ e h))
 
 -- the field is as the listing needs it
-pub listable : (w h : ℕ) (is ks ar cs dist : List ℕ) (most : ℕ) (z : Sizes) (ws ids ws′ ids′ out : List ℕ) (x : RegionAnswer) (m o : ℕ) → Fitting w h ar ids out
-    → AnswersRegions (regionOutcome (lent w h is ks ar cs) dist most z ws ids) x ws′ ids′ → x ≡ region.Done m o → length ids′ ≡ length ids → Listable w h is ks ids′ out
-listable w h is ks ar cs dist most z ws ids ws′ ids′ out x m o f b y n =
-    let a : AnswersRegions (regionOutcome (lent w h is ks ar cs) dist most z ws ids) (region.Done m o) ws′ ids′ = rw (← y) b in
+pub listable : (w h : ℕ) (is ks ar cs dist : List ℕ) (most : ℕ) (z : Sizes) (ws ids ws′ ids′ out : List ℕ) (x : RegionAnswer) (m o u : ℕ) → Fitting w h ar ids out
+    → AnswersRegions (regionOutcome (lent w h is ks ar cs) dist most z ws ids) x ws′ ids′ → x ≡ region.Done m o u → length ids′ ≡ length ids → Listable w h is ks ids′ out
+listable w h is ks ar cs dist most z ws ids ws′ ids′ out x m o u f b y n =
+    let a : AnswersRegions (regionOutcome (lent w h is ks ar cs) dist most z ws ids) (region.Done m o u) ws′ ids′ = rw (← y) b in
     let F : Field = lent w h is ks ar cs in
     let none = regions-accepted F dist most z ws ids (sym (a .refused)) in
     let c = reached-of F (length dist ∷ length ids ∷ []) none .celled in
@@ -116,7 +117,7 @@ module _ (F : Field) (raw bl : List ℕ) where
 module _ (F : Field) (z : Sizes) (dist : List ℕ) (most : ℕ) (ws ids : List ℕ) where
   second-listed : regionRefusal F (length dist ∷ length ids ∷ []) (length ws) dist most ≡ 0
       → let v = regions F (z .least) (z .merge) (grown F dist most (z .border) .ids) (grown F dist most (z .border) .next) in
-      second F dist most z ws ids ≡ listing F most (record { refused = 0; most = v .most; over = v .over; workspace = replicate (length ws) 0; ids = v .ids })
+      second F dist most z ws ids ≡ listing F most (record { refused = 0; most = v .most; over = v .over; cut = v .cut; workspace = replicate (length ws) 0; ids = v .ids })
   unfolding second regionOutcome if_then_else_
   second-listed e = rw (eq-eqb _ 0 e)
 

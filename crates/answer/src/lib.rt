@@ -53,7 +53,7 @@ fn print_regions(
         ids,
     ) {
         RegionAnswer::Refused(k) => write_refused(out, refusal_number(k)),
-        RegionAnswer::Done(m, o) => write_listing(
+        RegionAnswer::Done(m, o, u) => write_listing(
             head.w as usize,
             head.h as usize,
             index,
@@ -62,6 +62,7 @@ fn print_regions(
             max_distance,
             m,
             o,
+            u,
             out,
         ),
     }

@@ -5,7 +5,7 @@ use mathlib.Core.Path.{_≡_, refl, ap}
 use mathlib.Core.List.{List}
 use lib.ListN.{length}
 use Rattle.rules.specs.Net.{Net, near}
-use Rattle.rules.specs.Contour.{across, solid, firstSolid, Walker, stride, walk, trim, contour}
+use Rattle.rules.specs.Contour.{across, solid, firstSolid, Walker, stride, walk, trim, walkFrom, contour, cutShort}
 use Rattle.net.specs.Table.{netAt}
 use Rattle.contour.specs.Ways.{Ways}
 
@@ -29,9 +29,17 @@ module _ (l a b ids : List ℕ) where
   walk-areas s d zero v = refl
   walk-areas s d (suc k) v = rw (stride-areas v, walk-areas s d k (stride M ids v))
 
+  from-areas : (s d : ℕ) → walkFrom N ids s d ≡ walkFrom M ids s d
+  unfolding near across walkFrom
+  from-areas s d = walk-areas s d 40000 _
+
   pub contour-areas : (s d : ℕ) → contour N ids s d ≡ contour M ids s d
-  unfolding near across contour
-  contour-areas s d = ap (λ (v : Walker). trim (v .listed)) (walk-areas s d 40000 _)
+  unfolding contour
+  contour-areas s d = ap (λ (v : Walker). trim (v .listed)) (from-areas s d)
+
+  pub cut-areas : (s d : ℕ) → cutShort N ids s d ≡ cutShort M ids s d
+  unfolding cutShort
+  cut-areas s d = rw (from-areas s d)
 
 -- so ids may stand where the areas are
 pub ways-areas : (table : ℕ) (con ar ids ws : List ℕ) → length ids ≡ length ar → Ways table con ar ws → Ways table con ids ws

@@ -11,7 +11,7 @@ use lib.Dec.{eqb}
 use borrow.Author.Tests.{eqb-true, eqb-false, eq-eqb, not-false}
 use Rattle.rules.specs.Base.{_and_, if_then_else_, many}
 use Rattle.rules.specs.Net.{Net, spans, near}
-use Rattle.rules.specs.Contour.{across, solid, Walker, stride, walk, trim, contour}
+use Rattle.rules.specs.Contour.{across, solid, Walker, stride, walk, trim, walkFrom, contour, cutShort}
 use Rattle.laws.proofs.Basics.{if-ind, All, Distinct, zeros-above}
 use Rattle.laws.proofs.Basics.{in-list}
 use Rattle.laws.proofs.Strides.{Place, Answered, stride-once}
@@ -214,7 +214,7 @@ module _ (N : Net) (ok : Answered N) (ids : List ℕ) (size : length ids ≡ spa
 
     -- a contour lists at most four ids for each span of the region
     pub contour-room : length (contour N ids s d) ≤ 4 * many (eqb own) ids
-    unfolding contour first
+    unfolding contour walkFrom first
     contour-room =
         let w : length (walk N ids s d mostStrides (first N ids s d) .listed) ≤ 4 * many (eqb own) ids = walk-listed mostStrides 0 _ been-first (omega (arith, been-room 0 _ been-first)) in
         omega (arith, trim-le (walk N ids s d mostStrides (first N ids s d) .listed), w)
@@ -253,3 +253,8 @@ module _ (N : Net) (ok : Answered N) (ids : List ℕ) (size : length ids ≡ spa
 
     pub walk-whole : 4 * many (eqb own) ids ≤ mostStrides → back s d (walk N ids s d mostStrides (first N ids s d)) ≡ true
     walk-whole h = walk-home mostStrides 0 _ been-first (omega arith)
+
+    -- a region of at most 10,000 spans is never cut short
+    pub never-cut : many (eqb own) ids ≤ 10000 → cutShort N ids s d ≡ false
+    unfolding cutShort walkFrom first backAt
+    never-cut few = rw (walk-whole (omega arith)) refl

@@ -4,13 +4,13 @@ use Prim.Native.Nat.{ℕ, suc, _+_, _*_, _-_, _≤_, _<_}
 use native.Mathlib.Omega.{arith}
 use native.Mathlib.Numerals.{add-one}
 use mathlib.Core.Path.{_≡_, refl, sym, ap, _∙_}
-use mathlib.Core.Bool.{Bool, true, false}
+use mathlib.Core.Bool.{Bool, true, false, not}
 use mathlib.Core.List.{List}
 use lib.ListN.{length, getD}
 use lib.Dec.{eqb}
 use Rattle.rules.specs.Base.{_and_, if_then_else_}
 use Rattle.rules.specs.Net.{Net, spans}
-use Rattle.rules.specs.Contour.{stride, walk, trim, contour, Walker as RWalker}
+use Rattle.rules.specs.Contour.{stride, walk, trim, walkFrom, contour, cutShort, Walker as RWalker}
 use Rattle.laws.proofs.Strides.{Answered}
 use Rattle.space.specs.Space.{sec}
 use Rattle.space.proofs.Laws.{length-sec}
@@ -163,9 +163,14 @@ module _ (pool : Pool) (cs ids ws₀ : List ℕ) (s d start : ℕ) (st : Start p
   pub trim-there : (pool .at ≤ lastPlace) × (start < v .end) × (pool .at + v .end ≤ length ws)
   trim-there = (omega (arith, st .apart, st .ways .lent .place), k .order, omega (arith, k .laid .within, k .laid .inside))
 
+  -- a walk that is not back was cut short
+  pub cut-is : (b : Bool) → b ≡ backAt s d (v .span .0) (v .dir) → not b ≡ cutShort (netAt (pool .table) ids ws₀) ids s d
+  unfolding cutShort walkFrom first view backAt
+  cut-is b e = ap not e ∙ ap (λ (x : RWalker). not (eqb (x .span) s and eqb (x .dir) d)) (k .same)
+
   module _ (ws′ : List ℕ) (r : ℕ) (t : Trimmed (pool .at) ws start (v .end) ws′ r) where
     contour-is : sec (pool .at + start) (r - start) ws′ ≡ contour (netAt (pool .table) ids ws₀) ids s d
-    unfolding contour first view
+    unfolding contour walkFrom first view
     contour-is = t .same ∙ ap (λ (x : RWalker). trim (x .listed)) (k .same)
 
     pub contour-pool : ws′ ≡ pooled ws₀ (pool .at) (4 * length ids) start (contour (netAt (pool .table) ids ws₀) ids s d)

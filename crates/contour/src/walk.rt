@@ -8,7 +8,7 @@ use net::neighbour;
 ghost use mathlib.Core.Path.{_≡_};
 ghost use Prim.Native.Nat.{_+_, _*_, _<_, _≤_};
 ghost use lib.ListN.{length};
-ghost use Rattle.rules.specs.Contour.{contour};
+ghost use Rattle.rules.specs.Contour.{contour, cutShort};
 ghost use Rattle.net.specs.Table.{netAt, lastPlace};
 ghost use Rattle.contour.specs.Pool.{pooled, Standing, Start, Stridden, Begun, Walked, Trimmed};
 
@@ -107,7 +107,13 @@ fn trim(ws: &mut [u16], pool: Pool, start: usize, end: usize) -> usize
     last
 }
 
-// The contour of the span's region, from its solid edge in direction d, is listed in the pool from start on. Gives the list's end.
+// Where a contour's list ends, and whether its walk used up its strides without coming back.
+pub struct Contour {
+    pub end: usize,
+    pub cut: bool,
+}
+
+// The contour of the span's region, from its solid edge in direction d, is listed in the pool from start on.
 pub fn walk_contour(
     con: &[u8],
     ids: &[u16],
@@ -116,15 +122,21 @@ pub fn walk_contour(
     span: SpanIx,
     d: usize,
     start: usize,
-) -> usize
+) -> Contour
     requires { ⌜ Start pool (now con) (now ids) (span .0) start (now ws) × (d < 4) ⌝ }
     ensures { λ _. ⌜ (let net = netAt (pool .table) (now (ids .entry)) (now (ws .entry)) in
         let list = contour net (now (ids .entry)) (span .0) d in
         now (ws .exit) ≡ pooled (now (ws .entry)) (pool .at) (4 * length (now (ids .entry))) start list) ⌝ }
     ensures { λ r. ⌜ (let net = netAt (pool .table) (now (ids .entry)) (now (ws .entry)) in
-        r ≡ start + length (contour net (now (ids .entry)) (span .0) d)) ⌝ }
+        r .end ≡ start + length (contour net (now (ids .entry)) (span .0) d)) ⌝ }
+    ensures { λ r. ⌜ (let net = netAt (pool .table) (now (ids .entry)) (now (ws .entry)) in
+        r .cut ≡ cutShort net (now (ids .entry)) (span .0) d) ⌝ }
 {
     let v = walk(con, ids, ws, pool, span, d, start);
     let end = v.end;
-    trim(ws, pool, start, end)
+    let back = v.at(span, d);
+    Contour {
+        end: trim(ws, pool, start, end),
+        cut: !back,
+    }
 }

@@ -13,17 +13,17 @@ use Rattle.rules.specs.Net as net
 use Rattle.rules.specs.Refusals.{goodCells, goodCon, goodBack, tooWide, tooMany, wrongLength, wrongCells, wrongReach, wrongBack, refusal, tooShort, tooFar, regionRefusal}
 use Rattle.rules.specs.Distance.{same, startAt, start, leastOf, lower, pass1, pass2, raw, greatest, term, blurAt, blur}
 use Rattle.rules.specs.Growth.{walkable, put, paintOf, painted, firstId, blank, sorted, remains, look, takes, finds, wrote, written, round, rounds, expand, sees, orElse, objects, pushed, visit, flow, flood, floods, loaded, turn, grown}
-use Rattle.rules.specs.Contour.{across, solid, firstSolid, stride, walk, trim, contour}
+use Rattle.rules.specs.Contour.{across, solid, firstSolid, stride, walk, trim, walkFrom, contour, cutShort}
 use Rattle.rules.specs.Records.{fresh, at, once, onceAll, others, counted, addSpan, records}
 use Rattle.rules.specs.Filter.{seen, removed, reach, gather, total, removeAll, filterOne, filtered}
 use Rattle.rules.specs.Merge.{suits, picked, place, around, dedup, tidy, absorbed, emptied, renamed, mergeOne, merged}
-use Rattle.rules.specs.Numbering.{live, numberOf, overlaps, numbered, regions}
+use Rattle.rules.specs.Numbering.{live, numberOf, overlaps, cuts, numbered, regions}
 use Rattle.rules.specs.Outcomes.{Sizes, DistanceOutcome, RegionOutcome, distanceOutcome, regionOutcome}
 use Rattle.rules.specs.Open.{openCon, flat, openField}
 
 -- what document 01 says of a run; a cell is (x, z)
 pub data Claim : Type 0 where
-  maxDistance maxRegion overlapCount everyId : ℕ → Claim
+  maxDistance maxRegion overlapCount cutCount everyId : ℕ → Claim
   rawIs blurredIs idIs : ℕ → ℕ → ℕ → Claim
   -- the id after the first turn, when only floods have given ids
   floodedIs : ℕ → ℕ → ℕ → Claim
@@ -46,9 +46,9 @@ unfolding _and_ _or_ if_then_else_ upto tab every any keep many cellOf cellTo le
     goodCells goodCon goodBack tooWide tooMany wrongLength wrongCells wrongReach wrongBack refusal tooShort tooFar regionRefusal
     same startAt start leastOf lower pass1 pass2 raw greatest term blurAt blur
     walkable put paintOf painted firstId blank sorted remains look takes finds wrote written round rounds expand sees orElse objects pushed visit flow flood floods loaded turn grown
-    across solid firstSolid stride walk trim contour fresh at once onceAll others counted addSpan records
+    across solid firstSolid stride walk trim walkFrom contour cutShort fresh at once onceAll others counted addSpan records
     seen removed reach gather total removeAll filterOne filtered
-    suits picked place around dedup tidy absorbed emptied renamed mergeOne merged live numberOf overlaps numbered regions
+    suits picked place around dedup tidy absorbed emptied renamed mergeOne merged live numberOf overlaps cuts numbered regions
     distanceOutcome regionOutcome openCon flat openField
 run c =
     let F = c .field in
@@ -66,6 +66,7 @@ unfoldable pub holds : Run → Claim → Bool
 holds o (maxDistance v) = eqb (o .distances .most) v
 holds o (maxRegion v) = eqb (o .regions .most) v
 holds o (overlapCount v) = eqb (o .regions .over) v
+holds o (cutCount v) = eqb (o .regions .cut) v
 holds o (everyId v) = every (length (o .regions .ids)) (λ i. eqb (getD (o .regions .ids) i 0) v)
 holds o (rawIs x z v) = eqb (getD (o .distances .raw) (z * o .wide + x) 0) v
 holds o (blurredIs x z v) = eqb (getD (o .distances .blurred) (z * o .wide + x) 0) v
@@ -97,8 +98,8 @@ figures =
     case (openField 1 1) 0 0 0 (everyId 0 ∷ maxRegion 1 ∷ []) ∷
     case (openField 1 1) 1 0 0 (everyId 0x8004 ∷ maxRegion 5 ∷ []) ∷
     -- "Open 3 by 3: middle 2, ids 1. Least area 9: the same. Least area 10: ids 0, max_region 1."
-    case (openField 3 3) 0 0 0 (maxDistance 2 ∷ rawIs 1 1 2 ∷ blurredIs 1 1 2 ∷ everyId 1 ∷ maxRegion 2 ∷ overlapCount 0 ∷ []) ∷
-    case (openField 3 3) 0 9 0 (maxDistance 2 ∷ rawIs 1 1 2 ∷ blurredIs 1 1 2 ∷ everyId 1 ∷ maxRegion 2 ∷ overlapCount 0 ∷ []) ∷
+    case (openField 3 3) 0 0 0 (maxDistance 2 ∷ rawIs 1 1 2 ∷ blurredIs 1 1 2 ∷ everyId 1 ∷ maxRegion 2 ∷ overlapCount 0 ∷ cutCount 0 ∷ []) ∷
+    case (openField 3 3) 0 9 0 (maxDistance 2 ∷ rawIs 1 1 2 ∷ blurredIs 1 1 2 ∷ everyId 1 ∷ maxRegion 2 ∷ overlapCount 0 ∷ cutCount 0 ∷ []) ∷
     case (openField 3 3) 0 10 0 (everyId 0 ∷ maxRegion 1 ∷ []) ∷
     -- "3 by 3, area 0: middle 2, ids 0, max_region 1."
     case (flat 3 3 (λ c. 0)) 0 0 0 (rawIs 1 1 2 ∷ blurredIs 1 1 2 ∷ everyId 0 ∷ maxRegion 1 ∷ []) ∷

@@ -99,10 +99,10 @@ module _ (w h : ℕ) (index count ids : List ℕ) where
 
 -- ---------------------------------------------------------------- the whole listing
 
-listing-is : (w h : ℕ) (index count ids : List ℕ) (most region over : ℕ)
-    → listing (shown w h index count) most (numbered region over ids) ≡ heading most region over ++ rowsText (shown w h index count) ids h 0
+listing-is : (w h : ℕ) (index count ids : List ℕ) (most region over cut : ℕ)
+    → listing (shown w h index count) most (numbered region over cut ids) ≡ heading most region over cut ++ rowsText (shown w h index count) ids h 0
 unfolding listing heading named
-listing-is w h index count ids most region over = simp append-assoc
+listing-is w h index count ids most region over cut = simp append-assoc
 
 module _ (w h : ℕ) (index count ids out : List ℕ) (l : Listable w h index count ids out) where
   pub listing-filled : Filled (w * h) index count ids
@@ -121,16 +121,16 @@ module _ (w h : ℕ) (index count ids out : List ℕ) (l : Listable w h index co
     };
   }
 
-  module _ (most region over : ℕ) where
-    pub listing-length : length (heading most region over ++ rowsText (shown w h index count) ids h 0) ≤ 4096
+  module _ (most region over cut : ℕ) where
+    pub listing-length : length (heading most region over cut ++ rowsText (shown w h index count) ids h 0) ≤ 4096
     listing-length =
         let e : h * w ≡ length count = mul-comm h w ∙ sym (l .counts) in
         let z : 0 * w ≡ 0 = omega arith in
         let r : length (rowsText (shown w h index count) ids h 0) ≤ weigh count (length count) 0 + h = rw (e, z) at (rows-length w h index count ids h 0) in
         omega (
           arith,
-          length-append (heading most region over) (rowsText (shown w h index count) ids h 0),
-          heading-length most region over,
+          length-append (heading most region over cut) (rowsText (shown w h index count) ids h 0),
+          heading-length most region over cut,
           weigh-all index count 0 (length ids) (l .cells),
           l .high,
           l .counts,
@@ -138,18 +138,18 @@ module _ (w h : ℕ) (index count ids out : List ℕ) (l : Listable w h index co
           l .fewSpans,
         )
 
-    room : Room out 0 (heading most region over ++ rowsText (shown w h index count) ids h 0)
+    room : Room out 0 (heading most region over cut ++ rowsText (shown w h index count) ids h 0)
     room = record { fits = omega (arith, listing-length, l .room) }
 
-    pub listing-first : Room out 0 (heading most region over)
-    listing-first = room-first out 0 (heading most region over) (rowsText (shown w h index count) ids h 0) room
+    pub listing-first : Room out 0 (heading most region over cut)
+    listing-first = room-first out 0 (heading most region over cut) (rowsText (shown w h index count) ids h 0) room
 
-    module _ (r : ℕ) (out′ : List ℕ) (g : Wrote out 0 (heading most region over) r out′) where
+    module _ (r : ℕ) (out′ : List ℕ) (g : Wrote out 0 (heading most region over cut) r out′) where
       pub listing-rows : Room out′ r (rowsText (shown w h index count) ids h 0)
-      listing-rows = room-then out 0 (heading most region over) (rowsText (shown w h index count) ids h 0) room r out′ g
+      listing-rows = room-then out 0 (heading most region over cut) (rowsText (shown w h index count) ids h 0) room r out′ g
 
       pub listing-done : (s : ℕ) (out″ : List ℕ) → Wrote out′ r (rowsText (shown w h index count) ids h 0) s out″
-          → Prints out (listing (shown w h index count) most (numbered region over ids)) s out″
+          → Prints out (listing (shown w h index count) most (numbered region over cut ids)) s out″
       listing-done s out″ k =
-          subst (λ (t : List ℕ). Prints out t s out″) (sym (listing-is w h index count ids most region over))
-          (prints out _ s out″ room (wrote-then out 0 (heading most region over) (rowsText (shown w h index count) ids h 0) room r out′ g s out″ k))
+          subst (λ (t : List ℕ). Prints out t s out″) (sym (listing-is w h index count ids most region over cut))
+          (prints out _ s out″ room (wrote-then out 0 (heading most region over cut) (rowsText (shown w h index count) ids h 0) room r out′ g s out″ k))

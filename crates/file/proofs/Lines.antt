@@ -47,6 +47,10 @@ pub name-overlaps : _≡_ {A = List ℕ} (32 ∷ 111 ∷ 118 ∷ 101 ∷ 114 ∷
 unfolding text tab
 name-overlaps = refl
 
+pub name-cut : _≡_ {A = List ℕ} (32 ∷ 99 ∷ 117 ∷ 116 ∷ 32 ∷ []) (text " cut ")
+unfolding text tab
+name-cut = refl
+
 -- ---------------------------------------------------------------- lengths
 
 pub digits-length : (k v : ℕ) → length (digits k v) ≤ k
@@ -87,54 +91,72 @@ module _ (out : List ℕ) (n : ℕ) (long : 4096 ≤ length out) (name : List �
 
 -- ---------------------------------------------------------------- the first line
 
-pub heading-length : (most region over : ℕ) → length (heading most region over) ≤ 51
+pub heading-length : (most region over cut : ℕ) → length (heading most region over cut) ≤ 61
 unfolding heading text tab
-heading-length most region over =
+heading-length most region over cut =
     let a = named (text "max_distance ") most in
     let b = named (text " max_region ") region in
     let c = named (text " overlaps ") over in
+    let d = named (text " cut ") cut in
     omega (
       arith,
-      length-append a (b ++ (c ++ (10 ∷ []))),
-      length-append b (c ++ (10 ∷ [])),
-      length-append c (10 ∷ []),
+      length-append a (b ++ (c ++ (d ++ (10 ∷ [])))),
+      length-append b (c ++ (d ++ (10 ∷ []))),
+      length-append c (d ++ (10 ∷ [])),
+      length-append d (10 ∷ []),
       named-length (text "max_distance ") most,
       named-length (text " max_region ") region,
       named-length (text " overlaps ") over,
+      named-length (text " cut ") cut,
     )
 
-module _ (out : List ℕ) (most region over : ℕ) (h : Room out 0 (heading most region over)) (n₁ n₂ n₃ : List ℕ)
-    (e₁ : n₁ ≡ text "max_distance ") (e₂ : n₂ ≡ text " max_region ") (e₃ : n₃ ≡ text " overlaps ") where
-  pieces : heading most region over ≡ named n₁ most ++ (named n₂ region ++ (named n₃ over ++ (10 ∷ [])))
-  unfolding heading
-  pieces = rw (e₁, e₂, e₃) refl
+module _ (out : List ℕ) (most region over cut : ℕ) (h : Room out 0 (heading most region over cut)) (n₁ n₂ n₃ n₄ : List ℕ)
+    (e₁ : n₁ ≡ text "max_distance ") (e₂ : n₂ ≡ text " max_region ") (e₃ : n₃ ≡ text " overlaps ") (e₄ : n₄ ≡ text " cut ") where
+  -- the pieces from the third and from the fourth on
+  abbrev last₃ : List ℕ
+  last₃ = named n₄ cut ++ (10 ∷ [])
 
-  all : Room out 0 (named n₁ most ++ (named n₂ region ++ (named n₃ over ++ (10 ∷ []))))
+  abbrev last₂ : List ℕ
+  last₂ = named n₃ over ++ last₃
+
+  pieces : heading most region over cut ≡ named n₁ most ++ (named n₂ region ++ last₂)
+  unfolding heading
+  pieces = rw (e₁, e₂, e₃, e₄) refl
+
+  all : Room out 0 (named n₁ most ++ (named n₂ region ++ last₂))
   all = subst (λ (l : List ℕ). Room out 0 l) pieces h
 
   pub heading-room : Room out 0 (named n₁ most)
   heading-room = room-first out 0 (named n₁ most) _ all
 
   module _ (a : ℕ) (out₁ : List ℕ) (w₁ : Wrote out 0 (named n₁ most) a out₁) where
-    left₁ : Room out₁ a (named n₂ region ++ (named n₃ over ++ (10 ∷ [])))
+    left₁ : Room out₁ a (named n₂ region ++ last₂)
     left₁ = room-then out 0 (named n₁ most) _ all a out₁ w₁
 
     pub heading-room₁ : Room out₁ a (named n₂ region)
     heading-room₁ = room-first out₁ a (named n₂ region) _ left₁
 
     module _ (b : ℕ) (out₂ : List ℕ) (w₂ : Wrote out₁ a (named n₂ region) b out₂) where
-      left₂ : Room out₂ b (named n₃ over ++ (10 ∷ []))
+      left₂ : Room out₂ b last₂
       left₂ = room-then out₁ a (named n₂ region) _ left₁ b out₂ w₂
 
       pub heading-room₂ : Room out₂ b (named n₃ over)
       heading-room₂ = room-first out₂ b (named n₃ over) _ left₂
 
       module _ (c : ℕ) (out₃ : List ℕ) (w₃ : Wrote out₂ b (named n₃ over) c out₃) where
-        pub heading-room₃ : Room out₃ c (10 ∷ [])
-        heading-room₃ = room-then out₂ b (named n₃ over) _ left₂ c out₃ w₃
+        left₃ : Room out₃ c last₃
+        left₃ = room-then out₂ b (named n₃ over) _ left₂ c out₃ w₃
 
-        pub heading-done : (s : ℕ) (out₄ : List ℕ) → Wrote out₃ c (10 ∷ []) s out₄ → Wrote out 0 (heading most region over) s out₄
-        heading-done s out₄ w₄ =
-            let x = wrote-then out₂ b (named n₃ over) (10 ∷ []) left₂ c out₃ w₃ s out₄ w₄ in
-            let y = wrote-then out₁ a (named n₂ region) (named n₃ over ++ (10 ∷ [])) left₁ b out₂ w₂ s out₄ x in
-            subst (λ (l : List ℕ). Wrote out 0 l s out₄) (sym pieces) (wrote-then out 0 (named n₁ most) (named n₂ region ++ (named n₃ over ++ (10 ∷ []))) all a out₁ w₁ s out₄ y)
+        pub heading-room₃ : Room out₃ c (named n₄ cut)
+        heading-room₃ = room-first out₃ c (named n₄ cut) _ left₃
+
+        module _ (d : ℕ) (out₄ : List ℕ) (w₄ : Wrote out₃ c (named n₄ cut) d out₄) where
+          pub heading-room₄ : Room out₄ d (10 ∷ [])
+          heading-room₄ = room-then out₃ c (named n₄ cut) _ left₃ d out₄ w₄
+
+          pub heading-done : (s : ℕ) (out₅ : List ℕ) → Wrote out₄ d (10 ∷ []) s out₅ → Wrote out 0 (heading most region over cut) s out₅
+          heading-done s out₅ w₅ =
+              let x = wrote-then out₃ c (named n₄ cut) (10 ∷ []) left₃ d out₄ w₄ s out₅ w₅ in
+              let y = wrote-then out₂ b (named n₃ over) last₃ left₂ c out₃ w₃ s out₅ x in
+              let z = wrote-then out₁ a (named n₂ region) last₂ left₁ b out₂ w₂ s out₅ y in
+              subst (λ (l : List ℕ). Wrote out 0 l s out₅) (sym pieces) (wrote-then out 0 (named n₁ most) (named n₂ region ++ last₂) all a out₁ w₁ s out₅ z)

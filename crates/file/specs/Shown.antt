@@ -38,17 +38,18 @@ unfoldable pub named : List ℕ → ℕ → List ℕ
 named name v = name ++ decimal v
 
 -- the first line
-unfoldable pub heading : ℕ → ℕ → ℕ → List ℕ
-heading most region over =
-    named (text "max_distance ") most ++ (named (text " max_region ") region ++ (named (text " overlaps ") over ++ (10 ∷ [])))
+unfoldable pub heading : ℕ → ℕ → ℕ → ℕ → List ℕ
+heading most region over cut =
+    named (text "max_distance ") most ++ (named (text " max_region ") region ++ (named (text " overlaps ") over
+    ++ (named (text " cut ") cut ++ (10 ∷ []))))
 
 -- the field, as far as the listing shows it
 abbrev pub shown : ℕ → ℕ → List ℕ → List ℕ → Field
 shown w h index count = lent w h index count [] []
 
 -- the answer, as far as the listing shows it
-abbrev pub numbered : ℕ → ℕ → List ℕ → RegionOutcome
-numbered region over ids = record { refused = 0; most = region; over = over; workspace = []; ids = ids }
+abbrev pub numbered : ℕ → ℕ → ℕ → List ℕ → RegionOutcome
+numbered region over cut ids = record { refused = 0; most = region; over = over; cut = cut; workspace = []; ids = ids }
 
 -- a nonempty cell's ids are there
 pub record Inside (ids : List ℕ) (i k : ℕ) : Type 0 where

@@ -18,14 +18,15 @@ pub fn write_refused(out: &mut [u8], n: u16) -> usize
 }
 
 // The first line.
-fn put_heading(out: &mut [u8], most: u16, region: u16, over: u16) -> usize
-    requires { ⌜ Room (now out) 0 (heading most region over) ⌝ }
-    ensures { λ r. ⌜ Wrote (now (out .entry)) 0 (heading most region over) r (now (out .exit)) ⌝ }
+fn put_heading(out: &mut [u8], most: u16, region: u16, over: u16, cut: u16) -> usize
+    requires { ⌜ Room (now out) 0 (heading most region over cut) ⌝ }
+    ensures { λ r. ⌜ Wrote (now (out .entry)) 0 (heading most region over cut) r (now (out .exit)) ⌝ }
 {
     let a = put_named(out, 0, b"max_distance ", most);
     let b = put_named(out, a, b" max_region ", region);
     let c = put_named(out, b, b" overlaps ", over);
-    put(out, c, b'\n')
+    let d = put_named(out, c, b" cut ", cut);
+    put(out, d, b'\n')
 }
 
 // The first line, then the rows.
@@ -38,12 +39,13 @@ pub fn write_listing(
     max_distance: u16,
     max_region: u16,
     overlaps: u16,
+    cut: u16,
     out: &mut [u8],
 ) -> usize
     requires { ⌜ Listable w h (now index) (now count) (now ids) (now out) ⌝ }
     ensures { λ r. ⌜ (let F = shown w h (now (index .entry)) (now (count .entry)) in
-        Prints (now (out .entry)) (listing F «max_distance» (numbered «max_region» overlaps (now (ids .entry)))) r (now (out .exit))) ⌝ }
+        Prints (now (out .entry)) (listing F «max_distance» (numbered «max_region» overlaps cut (now (ids .entry)))) r (now (out .exit))) ⌝ }
 {
-    let next = put_heading(out, max_distance, max_region, overlaps);
+    let next = put_heading(out, max_distance, max_region, overlaps, cut);
     put_rows(out, next, w, h, index, count, ids)
 }

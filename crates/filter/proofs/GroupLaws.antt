@@ -36,9 +36,9 @@ recs-spare {ws} {ws′} m H f l =
 seen-is : (x : ℕ) (ws ws′ : List ℕ) (m r : ℕ) → getD ws′ r 0 ≡ getD ws r 0 → getD ws′ (m + r) 0 ≡ getD ws (m + r) 0 → getD ws′ (2 * m + r) 0 ≡ getD ws (2 * m + r) 0
     → getD ws′ (3 * m + r) 0 ≡ getD ws (3 * m + r) 0 → getD ws′ (4 * m + r) 0 ≡ 1
     → listAt ws′ m (7 * m) r ≡ listAt ws m (7 * m) r → listAt ws′ m (11 * m) r ≡ listAt ws m (11 * m) r
-    → recAt ws′ m (7 * m) (11 * m) r ≡ seen (recAt ws m (7 * m) (11 * m) r)
+    → getD ws′ (15 * m + r) 0 ≡ getD ws (15 * m + r) 0 → recAt ws′ m (7 * m) (11 * m) r ≡ seen (recAt ws m (7 * m) (11 * m) r)
 unfolding recAt seen
-seen-is x ws ws′ m r p₁ p₂ p₃ p₄ p₅ p₆ p₇ = rw (p₁, p₂, p₃, p₄, p₅, p₆, p₇)
+seen-is x ws ws′ m r p₁ p₂ p₃ p₄ p₅ p₆ p₇ p₈ = rw (p₁, p₂, p₃, p₄, p₅, p₆, p₇, p₈)
 
 module _ {ws ws′ : List ℕ} (m r : ℕ) (H : Held m (7 * m) (11 * m) ws) (f : Frame (4 * m) (6 * m) ws ws′) (l : length ws′ ≡ length ws) (h : r < m)
     (v : getD ws′ (4 * m + r) 0 ≡ 1) (o : (i : ℕ) → i < m → (i ≡ r → ⊥) → getD ws′ (4 * m + i) 0 ≡ getD ws (4 * m + i) 0) where
@@ -48,7 +48,7 @@ module _ {ws ws′ : List ℕ} (m r : ℕ) (H : Held m (7 * m) (11 * m) ws) (f :
       rw (view-at ws m (7 * m) (11 * m) r h)
       (view-set ws ws′ m (7 * m) (11 * m) r (seen (recAt ws m (7 * m) (11 * m) r)) h
       (seen-is 0 ws ws′ m r (getD-before r f (omega arith)) (getD-before (m + r) f (omega arith)) (getD-before (2 * m + r) f (omega arith)) (getD-before (3 * m + r) f (omega arith)) v
-      (list-past m (7 * m) (H .lists) f (omega arith) l r h) (list-past m (11 * m) (H .floors) f (omega arith) l r h))
+      (list-past m (7 * m) (H .lists) f (omega arith) l r h) (list-past m (11 * m) (H .floors) f (omega arith) l r h) (getD-after (15 * m + r) f (omega arith)))
       (λ i g n.
       rec-past m (7 * m) (11 * m) H f (omega arith) l i g (getD-before i f (omega arith)) (getD-before (m + i) f (omega arith)) (getD-before (2 * m + i) f (omega arith))
       (getD-before (3 * m + i) f (omega arith)) (o i g n)))

@@ -122,9 +122,9 @@ module _ (least t : ℕ) (rs : List Rec) (l : List ℕ) (q : t ≡ total rs l) w
 removed-is : (ws ws′ : List ℕ) (m r : ℕ) → getD ws′ r 0 ≡ 0 → getD ws′ (m + r) 0 ≡ 0 → getD ws′ (2 * m + r) 0 ≡ getD ws (2 * m + r) 0
     → getD ws′ (3 * m + r) 0 ≡ getD ws (3 * m + r) 0 → getD ws′ (4 * m + r) 0 ≡ getD ws (4 * m + r) 0
     → listAt ws′ m (7 * m) r ≡ listAt ws m (7 * m) r → listAt ws′ m (11 * m) r ≡ listAt ws m (11 * m) r
-    → recAt ws′ m (7 * m) (11 * m) r ≡ removed (recAt ws m (7 * m) (11 * m) r)
+    → getD ws′ (15 * m + r) 0 ≡ getD ws (15 * m + r) 0 → recAt ws′ m (7 * m) (11 * m) r ≡ removed (recAt ws m (7 * m) (11 * m) r)
 unfolding recAt removed
-removed-is ws ws′ m r p₁ p₂ p₃ p₄ p₅ p₆ p₇ = rw (p₁, p₂, p₃, p₄, p₅, p₆, p₇)
+removed-is ws ws′ m r p₁ p₂ p₃ p₄ p₅ p₆ p₇ p₈ = rw (p₁, p₂, p₃, p₄, p₅, p₆, p₇, p₈)
 
 module _ (ws : List ℕ) (m i : ℕ) (H : Held m (7 * m) (11 * m) ws) (h : i < m) where
   abbrev ws₁ : List ℕ
@@ -164,7 +164,8 @@ module _ (ws : List ℕ) (m i : ℕ) (H : Held m (7 * m) (11 * m) ws) (h : i < m
       (view-set ws ws₂ m (7 * m) (11 * m) i (removed (recAt ws m (7 * m) (11 * m) i)) h
       (removed-is ws ws₂ m i gone (getD-set-other ws₁ i (m + i) 0 0 (λ e. omega arith) ∙ getD-set-same ws (m + i) 0 0 remove-in)
       (getD-after (2 * m + i) remove-frame (omega arith)) (getD-after (3 * m + i) remove-frame (omega arith)) (getD-after (4 * m + i) remove-frame (omega arith))
-      (list-past m (7 * m) (H .lists) remove-frame (omega arith) remove-length i h) (list-past m (11 * m) (H .floors) remove-frame (omega arith) remove-length i h))
+      (list-past m (7 * m) (H .lists) remove-frame (omega arith) remove-length i h) (list-past m (11 * m) (H .floors) remove-frame (omega arith) remove-length i h)
+      (getD-after (15 * m + i) remove-frame (omega arith)))
       (λ j g n.
       rec-past m (7 * m) (11 * m) H remove-frame (omega arith) remove-length j g (other j n (λ e. omega arith)) (other (m + j) (λ e. omega arith) (λ e. n (omega arith)))
       (getD-after (2 * m + j) remove-frame (omega arith)) (getD-after (3 * m + j) remove-frame (omega arith)) (getD-after (4 * m + j) remove-frame (omega arith))))

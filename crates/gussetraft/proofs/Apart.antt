@@ -7,7 +7,7 @@ use Rattle.rules.specs.Field.{Field}
 use Rattle.rules.specs.Outcomes.{RegionOutcome}
 use Rattle.rules.specs.Mend.{MendOutcome}
 use Rattle.watershed.specs.declared.regions.RegionAnswer.{RegionAnswer}
-use Rattle.watershed.specs.Answer.{regionsRefusedBy, maxRegionIn, overlapsIn, AnswersRegions, GivesRooms}
+use Rattle.watershed.specs.Answer.{regionsRefusedBy, maxRegionIn, overlapsIn, cutIn, AnswersRegions, GivesRooms}
 use Rattle.mend.specs.declared.MendAnswer.{MendAnswer}
 use Rattle.mend.specs.Answer.{mendRefusedBy, changesIn, outcome}
 use Rattle.gussetraft.specs.declared.Regions.{Regions}
@@ -15,9 +15,9 @@ use Rattle.gussetraft.specs.declared.Mending.{Mending}
 use Rattle.gussetraft.specs.Exported.{GivesRegions, LeavesRooms, GivesMending}
 
 pub gives-regions : (o : RegionOutcome) (a : RegionAnswer) (r : Regions) (ws ids : List ℕ) → AnswersRegions o a ws ids
-    → r .refusal ≡ regionsRefusedBy a → r .«max_region» ≡ maxRegionIn a → r .overlaps ≡ overlapsIn a → GivesRegions o r ws ids
-gives-regions o a r ws ids p e f g =
-    record { refusal = e ∙ p .refused; most = f ∙ p .most; over = g ∙ p .over; cleared = p .workspace; numbers = p .ids }
+    → r .refusal ≡ regionsRefusedBy a → r .«max_region» ≡ maxRegionIn a → r .overlaps ≡ overlapsIn a → r .cut ≡ cutIn a → GivesRegions o r ws ids
+gives-regions o a r ws ids p e f g h =
+    record { refusal = e ∙ p .refused; most = f ∙ p .most; over = g ∙ p .over; cut = h ∙ p .cut; cleared = p .workspace; numbers = p .ids }
 
 pub leaves-rooms : (F : Field) (border : ℕ) (a : RegionAnswer) (r : Regions) (ids : List ℕ) → GivesRooms F border a ids
     → r .refusal ≡ regionsRefusedBy a → r .«max_region» ≡ maxRegionIn a → LeavesRooms F border r ids

@@ -13,8 +13,8 @@ use Rattle.gussetraft.specs.Exported.{Gives, GivesRegions, GivesMending}
 distances-same : (a b : Distances) → a .refusal ≡ b .refusal → a .«max_distance» ≡ b .«max_distance» → a ≡ b
 distances-same a b e f = rw (e, f)
 
-regions-same : (a b : Regions) → a .refusal ≡ b .refusal → a .«max_region» ≡ b .«max_region» → a .overlaps ≡ b .overlaps → a ≡ b
-regions-same a b e f g = rw (e, f, g)
+regions-same : (a b : Regions) → a .refusal ≡ b .refusal → a .«max_region» ≡ b .«max_region» → a .overlaps ≡ b .overlaps → a .cut ≡ b .cut → a ≡ b
+regions-same a b e f g h = rw (e, f, g, h)
 
 -- `gussetraft_build_distance_field`
 pub one-distance-answer : (o : DistanceOutcome) (a b : Distances) (l m x y : List ℕ) → Gives o a l m → Gives o b x y → (a ≡ b) × (l ≡ x) × (m ≡ y)
@@ -27,7 +27,7 @@ one-distance-answer o a b l m x y p q = (
 -- `gussetraft_build_regions`
 pub one-region-answer : (o : RegionOutcome) (a b : Regions) (l m x y : List ℕ) → GivesRegions o a l m → GivesRegions o b x y → (a ≡ b) × (l ≡ x) × (m ≡ y)
 one-region-answer o a b l m x y p q = (
-  regions-same a b (p .refusal ∙ sym (q .refusal)) (p .most ∙ sym (q .most)) (p .over ∙ sym (q .over)),
+  regions-same a b (p .refusal ∙ sym (q .refusal)) (p .most ∙ sym (q .most)) (p .over ∙ sym (q .over)) (p .cut ∙ sym (q .cut)),
   p .cleared ∙ sym (q .cleared),
   p .numbers ∙ sym (q .numbers),
 )

@@ -21,6 +21,7 @@ pub record GivesRegions (o : RegionOutcome) (r : Regions) (workspace ids : List 
   pub refusal : r .refusal ≡ o .refused
   pub most : r .«max_region» ≡ o .most
   pub over : r .overlaps ≡ o .over
+  pub cut : r .cut ≡ o .cut
   pub cleared : workspace ≡ o .workspace
   pub numbers : ids ≡ o .ids
 

@@ -11,7 +11,7 @@ ghost use Rattle.rules.specs.Outcomes.{Sizes, distanceOutcome, regionOutcome};
 ghost use Rattle.rules.specs.Mend.{mendOutcome};
 ghost use Rattle.field.specs.Lent.{lent};
 ghost use Rattle.mend.specs.Answer.{mendRefusedBy, changesIn};
-ghost use Rattle.watershed.specs.Answer.{refusedBy, mostIn, regionsRefusedBy, maxRegionIn, overlapsIn};
+ghost use Rattle.watershed.specs.Answer.{refusedBy, mostIn, regionsRefusedBy, maxRegionIn, overlapsIn, cutIn};
 ghost use Rattle.gussetraft.specs.Exported.{Gives, GivesRegions, LeavesRooms, GivesMending};
 
 // The answer of the distance entry: 0 or the refusal number, and max_distance.
@@ -21,12 +21,13 @@ pub struct Distances {
     pub max_distance: u16,
 }
 
-// The answer of the region entry: 0 or the refusal number, max_region, and the overlap count.
+// The answer of the region entry: 0 or the refusal number, max_region, the overlap count, and the number of records cut short.
 #[repr(C)]
 pub struct Regions {
     pub refusal: u16,
     pub max_region: u16,
     pub overlaps: u16,
+    pub cut: u16,
 }
 
 // The answer of the mending: 0 or the refusal number, and how many connections were set to none.
@@ -52,18 +53,20 @@ fn numbers(a: DistanceAnswer) -> Distances
 }
 
 fn region_numbers(a: RegionAnswer) -> Regions
-    ensures { λ r. ⌜ (r .refusal ≡ regionsRefusedBy a) × (r .«max_region» ≡ maxRegionIn a) × (r .overlaps ≡ overlapsIn a) ⌝ }
+    ensures { λ r. ⌜ (r .refusal ≡ regionsRefusedBy a) × (r .«max_region» ≡ maxRegionIn a) × (r .overlaps ≡ overlapsIn a) × (r .cut ≡ cutIn a) ⌝ }
 {
     match a {
         RegionAnswer::Refused(r) => Regions {
             refusal: refusal_number(r),
             max_region: 0,
             overlaps: 0,
+            cut: 0,
         },
-        RegionAnswer::Done(m, o) => Regions {
+        RegionAnswer::Done(m, o, u) => Regions {
             refusal: 0,
             max_region: m,
             overlaps: o,
+            cut: u,
         },
     }
 }

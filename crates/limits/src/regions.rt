@@ -7,18 +7,20 @@ use checker::refusal_number;
 use watershed::RegionAnswer;
 use watershed::build_regions;
 
-// A line for the answer: refused and its number, or max_region and the overlap count.
+// A line for the answer: refused and its number, or max_region, the overlap count and the number of records cut short.
 fn answer(r: RegionAnswer) {
     match r {
         RegionAnswer::Refused(k) => {
             io::write_all(1, b"refused ");
             io::print_decimal(1, refusal_number(k) as u64);
         }
-        RegionAnswer::Done(m, o) => {
+        RegionAnswer::Done(m, o, u) => {
             io::write_all(1, b"max_region ");
             io::print_decimal(1, m as u64);
             io::write_all(1, b" overlaps ");
             io::print_decimal(1, o as u64);
+            io::write_all(1, b" cut ");
+            io::print_decimal(1, u as u64);
         }
     }
     io::write_all(1, b"\n");

@@ -61,7 +61,7 @@ filter-fresh least rs f = record { own = filter-each (λ x r. (r .id ≡ 0 → �
 -- ---- before the filter
 
 module _ (m n : ℕ) (ws ids : List ℕ) (R : Ready m n ws ids) where
-  ready-pool : Pool m (4 * n) (15 * m) (15 * m + 4 * n) ws
+  ready-pool : Pool m (4 * n) (16 * m) (16 * m + 4 * n) ws
   ready-pool = record {
     held = R .held;
     halves = record {
@@ -105,7 +105,7 @@ module _ (m n : ℕ) (ws ids : List ℕ) (R : Ready m n ws ids) where
     counts-less : (x : ℕ) → x < m → countAt ws₁ m x ≤ countAt ws m x
     counts-less x h = omega (arith, count-at ws₁ m x h, count-at ws m x h, ap (λ (rs : List Rec). at rs x .count) e, filter-counts least (recsOf ws m) x)
 
-    pub filtered-pool : Pool m (4 * n) (15 * m) (15 * m + 4 * n) ws₁
+    pub filtered-pool : Pool m (4 * n) (16 * m) (16 * m + 4 * n) ws₁
     filtered-pool =
         let P = ready-pool in
         record {
@@ -130,10 +130,10 @@ module _ (m n : ℕ) (ws ids : List ℕ) (R : Ready m n ws ids) where
     pub filtered-joined : Joined (recsOf ws₁ m)
     filtered-joined = record { rs = recsOf ws₁ m; alike = alike-start (recsOf ws₁ m) (rw e (filter-fresh least (recsOf ws m) ready-fresh)) }
 
-    pub numbered-top : (area : ℕ) (ws₂ ids′ : List ℕ) (k o : ℕ) → recsOf ws₂ m ≡ mergedF area (suc m) (recsOf ws₁ m)
-        → _≡_ {A = Regions} (record { ids = ids′; most = k; over = o }) (numbered (recsOf ws₂ m) ids)
-        → _≡_ {A = Regions} (record { ids = ids′; most = k; over = o }) (numbered (merged area (suc m) (filtered least (recsOf ws m))) ids)
-    numbered-top area ws₂ ids′ k o q d =
+    pub numbered-top : (area : ℕ) (ws₂ ids′ : List ℕ) (k o u : ℕ) → recsOf ws₂ m ≡ mergedF area (suc m) (recsOf ws₁ m)
+        → _≡_ {A = Regions} (record { ids = ids′; most = k; over = o; cut = u }) (numbered (recsOf ws₂ m) ids)
+        → _≡_ {A = Regions} (record { ids = ids′; most = k; over = o; cut = u }) (numbered (merged area (suc m) (filtered least (recsOf ws m))) ids)
+    numbered-top area ws₂ ids′ k o u q d =
         d ∙ ap (λ (rs : List Rec). numbered rs ids) (q ∙ ap (mergedF area (suc m)) e)
         ∙ sym (merge-is area (suc m) (filtered least (recsOf ws m)) (filter-fresh least (recsOf ws m) ready-fresh) ids)
 

@@ -1,5 +1,5 @@
 -- What the records' stage hands over: m records (next id plus 1) in the workspace, of n spans with the ids `ids`.
--- From 15m on: the pool's two halves, 4n each, the lists in the first; then the floors.
+-- From 16m on: the pool's two halves, 4n each, the lists in the first; then the floors.
 use Prim.Native.Nat.{ℕ, _+_, _*_, _≤_, _<_}
 use mathlib.Core.Path.{_≡_}
 use mathlib.Core.List.{List}
@@ -13,13 +13,13 @@ use Rattle.pool.specs.Pool.{lenAt, countAt}
 pub record Ready (m n : ℕ) (ws ids : List ℕ) : Type 0 where
   pub records : m ≤ n + 6
   pub spans : n ≤ mostSpans
-  pub room : 15 * m + 70 * n ≤ length ws
+  pub room : 16 * m + 70 * n ≤ length ws
   -- tables and parts in the workspace, ids and floors below m, what is listed flagged or below m
   pub held : Held m (7 * m) (11 * m) ws
   -- lists in the first half, floors past the second
-  pub from : (r : ℕ) → r < m → 15 * m ≤ startOf ws m (7 * m) r
-  pub upto : (r : ℕ) → r < m → endOf ws m (7 * m) r ≤ 15 * m + 4 * n
-  pub floors : (r : ℕ) → r < m → 15 * m + 8 * n ≤ startOf ws m (11 * m) r
+  pub from : (r : ℕ) → r < m → 16 * m ≤ startOf ws m (7 * m) r
+  pub upto : (r : ℕ) → r < m → endOf ws m (7 * m) r ≤ 16 * m + 4 * n
+  pub floors : (r : ℕ) → r < m → 16 * m + 8 * n ≤ startOf ws m (11 * m) r
   -- all lists together, and all counts
   pub lists : sumTo (lenAt ws m) m ≤ 4 * n
   pub counts : sumTo (countAt ws m) m ≤ n

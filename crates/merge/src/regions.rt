@@ -21,11 +21,11 @@ pub fn merge_and_filter_regions(
     merge_region_size: u16,
 ) -> Regions
     requires { ⌜ Ready m n (now ws) (now ids) ⌝ }
-    ensures { λ r. ⌜ (record { ids = now (ids .exit); most = r .«max_region»; over = r .overlaps }
+    ensures { λ r. ⌜ (record { ids = now (ids .exit); most = r .«max_region»; over = r .overlaps; cut = r .cut }
         ≡ numbered (merged «merge_region_size» (suc m) (filtered «min_region_area» (recsOf (now (ws .entry)) m))) (now (ids .entry))) ⌝ }
 {
     filter(ws, m, min_region_area);
-    let h = 15 * m;
+    let h = 16 * m;
     let p = 4 * n;
     merge_all(ws, m, p, merge_region_size, h, h + p);
     number(ids, ws, m)

@@ -10,9 +10,9 @@ use lib.Dec.{eqb}
 use Rattle.rules.specs.Base.{if_then_else_, tab}
 use Rattle.rules.specs.Growth.{flagged}
 use Rattle.rules.specs.Records.{Rec, at, fresh, once}
-use Rattle.rules.specs.Numbering.{live, overlaps, numberOf, numbered, Regions}
+use Rattle.rules.specs.Numbering.{live, overlaps, cuts, numberOf, numbered, Regions}
 use Rattle.space.specs.Space.{Frame, sec}
-use Rattle.space.proofs.Laws.{sec-before}
+use Rattle.space.proofs.Laws.{sec-before, sec-after}
 use Rattle.table.specs.View.{recAt, view, recsOf}
 use Rattle.numbering.specs.Number.{stepLive, liveIds, renumber, nonzero, numberedBy, Numbers, Column, Marked}
 use Rattle.table.proofs.ViewLaws.{map-tab}
@@ -45,6 +45,11 @@ unfolding tab overlaps nonzero recAt
 overs-are ws m s t zero k = refl
 overs-are ws m s t (suc n) k = over-by (getD ws (3 * m + k) 0) n _ _ (overs-are ws m s t n (suc k))
 
+cuts-are : (ws : List ℕ) (m s t n k : ℕ) → cuts (tab n k (recAt ws m s t)) ≡ nonzero (tab n k (λ r. getD ws (15 * m + r) 0))
+unfolding tab cuts nonzero recAt
+cuts-are ws m s t zero k = refl
+cuts-are ws m s t (suc n) k = over-by (getD ws (15 * m + k) 0) n _ _ (cuts-are ws m s t n (suc k))
+
 id-at : (rs : List Rec) (r : ℕ) → at rs r .id ≡ getD (map (λ (q : Rec). q .id) rs) r 0
 unfolding at fresh
 id-at rs r = sym (List·getD-map (λ (q : Rec). q .id) rs r (fresh 0))
@@ -56,7 +61,7 @@ column-first (suc n) k ws h =
     let w : k < length ws = omega arith in
     rw (drop-cons ws k 0 w) (ap (λ (l : List ℕ). getD ws k 0 ∷ l) (column-first n (suc k) ws (omega arith)))
 
-module _ (ws : List ℕ) (m s t : ℕ) (h : 4 * m ≤ length ws) where
+module _ (ws : List ℕ) (m s t : ℕ) (h : 16 * m ≤ length ws) where
   ids-are : map (λ (q : Rec). q .id) (view ws m s t) ≡ take m ws
   unfolding view recAt
   ids-are = map-tab m 0 (recAt ws m s t) (λ (q : Rec). q .id) ∙ column-first m 0 ws (omega arith)
@@ -67,6 +72,12 @@ module _ (ws : List ℕ) (m s t : ℕ) (h : 4 * m ≤ length ws) where
       let z : 3 * m + 0 ≡ 3 * m = omega arith in
       overs-are ws m s t m 0 ∙ ap nonzero (rw z at (column-is m 0 (3 * m) ws (omega arith)))
 
+  cuts-is : cuts (view ws m s t) ≡ nonzero (sec (15 * m) m ws)
+  unfolding view
+  cuts-is =
+      let z : 15 * m + 0 ≡ 15 * m = omega arith in
+      cuts-are ws m s t m 0 ∙ ap nonzero (rw z at (column-is m 0 (15 * m) ws (omega arith)))
+
   lives-are : live (view ws m s t) [] ≡ liveIds (take m ws) []
   lives-are = live-is (view ws m s t) [] ∙ ap (λ (q : List ℕ). liveIds q []) ids-are
 
@@ -74,9 +85,9 @@ module _ (ws : List ℕ) (m s t : ℕ) (h : 4 * m ≤ length ws) where
   unfolding renumber
   span-is r = rw (lives-are, id-at (view ws m s t) r, ids-are) refl
 
-  pub numbered-is : (ids : List ℕ) → numbered (view ws m s t) ids ≡ numberedBy (take m ws) (sec (3 * m) m ws) ids
+  pub numbered-is : (ids : List ℕ) → numbered (view ws m s t) ids ≡ numberedBy (take m ws) (sec (3 * m) m ws) (sec (15 * m) m ws) ids
   unfolding numbered numberedBy
-  numbered-is ids = regions-eq _ _ _ _ _ _ (map-same _ _ ids span-is) (ap length lives-are) overs-is
+  numbered-is ids = regions-eq _ _ _ _ _ _ _ _ (map-same _ _ ids span-is) (ap length lives-are) overs-is cuts-is
 
 module _ (ws ws′ : List ℕ) (m b : ℕ) (c : Column m b ws) (f : Frame b (b + m) ws ws′) where
   ids-kept : take m ws′ ≡ take m ws
@@ -85,13 +96,15 @@ module _ (ws ws′ : List ℕ) (m b : ℕ) (c : Column m b ws) (f : Frame b (b +
   pub marked-after : (k : ℕ) → Numbers m b ws′ (liveIds (take m ws) []) k → Marked m b ws′ (liveIds (take m ws′) [])
   marked-after k n = rw ids-kept (record { marks = n .marks })
 
-pub number-done : (ws ws′ ids ids′ : List ℕ) (m k o : ℕ) → Column m (5 * m) ws → Frame (5 * m) (5 * m + m) ws ws′
+pub number-done : (ws ws′ ids ids′ : List ℕ) (m k o u : ℕ) → Column m (5 * m) ws → 16 * m ≤ length ws → Frame (5 * m) (5 * m + m) ws ws′
     → Numbers m (5 * m) ws′ (liveIds (take m ws) []) k → ids′ ≡ map (renumber (take m ws′)) ids
-    → o ≡ nonzero (take ((3 * m + m) - 3 * m) (drop (3 * m) ws′)) → _≡_ {A = Regions} (record { ids = ids′; most = k; over = o }) (numbered (recsOf ws m) ids)
+    → o ≡ nonzero (take ((3 * m + m) - 3 * m) (drop (3 * m) ws′)) → u ≡ nonzero (take ((15 * m + m) - 15 * m) (drop (15 * m) ws′))
+    → _≡_ {A = Regions} (record { ids = ids′; most = k; over = o; cut = u }) (numbered (recsOf ws m) ids)
 unfolding numberedBy recsOf
-number-done ws ws′ ids ids′ m k o c f n e q =
+number-done ws ws′ ids ids′ m k o u c g f n e q t =
     let w : (3 * m + m) - 3 * m ≡ m = omega arith in
-    let g : 4 * m ≤ length ws = omega (arith, c .room) in
-    regions-eq _ _ _ _ _ _ (rw (ids-kept ws ws′ m (5 * m) c f) at e) (n .many)
+    let v : (15 * m + m) - 15 * m ≡ m = omega arith in
+    regions-eq _ _ _ _ _ _ _ _ (rw (ids-kept ws ws′ m (5 * m) c f) at e) (n .many)
     (q ∙ ap (λ (j : ℕ). nonzero (take j (drop (3 * m) ws′))) w ∙ ap nonzero (sec-before (3 * m) m f (omega arith)))
+    (t ∙ ap (λ (j : ℕ). nonzero (take j (drop (15 * m) ws′))) v ∙ ap nonzero (sec-after (15 * m) m f (omega arith)))
     ∙ sym (numbered-is ws m (7 * m) (11 * m) g ids)

@@ -31,9 +31,9 @@ unfoldable pub nonzero : List ℕ → ℕ
 nonzero [] = 0
 nonzero (x ∷ l) = if eqb x 0 then nonzero l else suc (nonzero l)
 
-unfoldable pub numberedBy : List ℕ → List ℕ → List ℕ → Regions
-numberedBy rids overs ids =
-    record { ids = map (renumber rids) ids; most = length (liveIds rids []); over = nonzero overs }
+unfoldable pub numberedBy : List ℕ → List ℕ → List ℕ → List ℕ → Regions
+numberedBy rids overs marks ids =
+    record { ids = map (renumber rids) ids; most = length (liveIds rids []); over = nonzero overs; cut = nonzero marks }
 
 -- the k numbers given so far stand at b
 pub record Numbers (m b : ℕ) (ws l : List ℕ) (k : ℕ) : Type 0 where

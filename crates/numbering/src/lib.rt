@@ -1,6 +1,7 @@
 // Numbering: live ids are numbered from 1 by lowest record.
 use pool::many;
 use region::RegionId;
+use table::MARKS;
 use table::at;
 ghost use mathlib.Core.Path.{_≡_};
 ghost use mathlib.Core.List.{List, [], map};
@@ -84,10 +85,11 @@ fn nonzero(l: &[u16]) -> u16
     (l.len() - many(l, 0)) as u16
 }
 
-// The last number given, and how many records have overlap set.
+// The last number given, how many records have overlap set, and how many bear the mark of a contour cut short.
 pub struct Regions {
     pub max_region: u16,
     pub overlaps: u16,
+    pub cut: u16,
 }
 
 // Numbers the records, and writes each span's number.
@@ -95,17 +97,21 @@ pub fn number(ids: &mut [u16], ws: &mut [u16], m: usize) -> Regions
     requires { ⌜ Column m (5 * m) (now ws) ⌝ }
     requires { ⌜ Blank m (5 * m) (now ws) ⌝ }
     requires { ⌜ Spans m (now ids) ⌝ }
-    ensures { λ r. ⌜ (record { ids = now (ids .exit); most = r .«max_region»; over = r .overlaps }
+    requires { ⌜ 16 * m ≤ length (now ws) ⌝ }
+    ensures { λ r. ⌜ (record { ids = now (ids .exit); most = r .«max_region»; over = r .overlaps; cut = r .cut }
         ≡ numbered (recsOf (now (ws .entry)) m) (now (ids .entry))) ⌝ }
     ensures { λ _. ⌜ Frame (5 * m) (5 * m + m) (now (ws .entry)) (now (ws .exit)) ⌝ }
 {
     let a = 3 * m;
     let b = 5 * m;
+    let c = MARKS * m;
     let max_region = number_all(ws, m, b);
     new_ids(ids, ws, m, b);
     let overlaps = nonzero(&ws[a..a + m]);
+    let cut = nonzero(&ws[c..c + m]);
     Regions {
         max_region,
         overlaps,
+        cut,
     }
 }

@@ -31,5 +31,6 @@ pub map-same : (f g : ℕ → ℕ) (l : List ℕ) → ((x : ℕ) → f x ≡ g x
 map-same f g [] h = refl
 map-same f g (x ∷ l) h = rw (h x, map-same f g l h)
 
-pub regions-eq : (a a′ : List ℕ) (b b′ c c′ : ℕ) → a ≡ a′ → b ≡ b′ → c ≡ c′ → _≡_ {A = Regions} (record { ids = a; most = b; over = c }) (record { ids = a′; most = b′; over = c′ })
-regions-eq a a′ b b′ c c′ p q r = rw (p, q, r)
+pub regions-eq : (a a′ : List ℕ) (b b′ c c′ d d′ : ℕ) → a ≡ a′ → b ≡ b′ → c ≡ c′ → d ≡ d′
+    → _≡_ {A = Regions} (record { ids = a; most = b; over = c; cut = d }) (record { ids = a′; most = b′; over = c′; cut = d′ })
+regions-eq a a′ b b′ c c′ d d′ p q r t = rw (p, q, r, t)

@@ -15,7 +15,7 @@ use Rattle.rules.specs.Growth.{flagged}
 use Rattle.rules.specs.Contour.{trim}
 use Rattle.rules.specs.Records.{Rec, at, fresh, has, once, onceAll}
 use Rattle.rules.specs.Merge.{swapped, renamed, absorbed, emptied, suits, picked, Pick, mergeOne, Merge, merged, tidy, around, place}
-use Rattle.rules.specs.Numbering.{live, overlaps, numbered, numberOf}
+use Rattle.rules.specs.Numbering.{live, overlaps, cuts, numbered, numberOf}
 use Rattle.laws.proofs.Basics.{both, either, neither, if-ind, or-left, or-right}
 use Rattle.space.proofs.Laws.{cases}
 use Rattle.laws.specs.Squeeze.{squeeze}
@@ -171,6 +171,10 @@ module _ (o n : ℕ) (nz : o ≡ 0 → ⊥) (r : Rec) where
   unfolding renamed
   ren-overlap = if-ind (λ (z : Rec). z .overlap ≡ r .overlap) (eqb (r .id) 0) (λ _. refl) (λ _. refl)
 
+  ren-cut : renamed o n r .cut ≡ r .cut
+  unfolding renamed
+  ren-cut = if-ind (λ (z : Rec). z .cut ≡ r .cut) (eqb (r .id) 0) (λ _. refl) (λ _. refl)
+
   ren-floors : (r .id ≡ 0 → ⊥) → renamed o n r .floors ≡ swapped o n (r .floors)
   unfolding renamed
   ren-floors l = if-ind (λ (z : Rec). z .floors ≡ swapped o n (r .floors)) (eqb (r .id) 0) (λ e. absurd (l (eqb-true (r .id) 0 e))) (λ _. refl)
@@ -195,6 +199,10 @@ module _ (o n : ℕ) (nz : o ≡ 0 → ⊥) (r : Rec) where
   pub renF-overlap : renamedF o n r .overlap ≡ r .overlap
   unfolding renamedF
   renF-overlap = if-ind (λ (z : Rec). z .overlap ≡ r .overlap) (eqb (r .id) 0) (λ _. refl) (λ _. refl)
+
+  pub renF-cut : renamedF o n r .cut ≡ r .cut
+  unfolding renamedF
+  renF-cut = if-ind (λ (z : Rec). z .cut ≡ r .cut) (eqb (r .id) 0) (λ _. refl) (λ _. refl)
 
   pub renF-floors : renamedF o n r .floors ≡ r .floors
   unfolding renamedF
@@ -231,6 +239,7 @@ same-renamed o n z r r′ s = record {
   visited = ren-visited o n z r ∙ s .visited ∙ sym (renF-visited o n z r′);
   overlap = ren-overlap o n z r ∙ s .overlap ∙ sym (renF-overlap o n z r′);
   list = ren-newList o n r ∙ ap (λ (y : ℕ). newList o n y (r .list)) (s .id) ∙ ap (newList o n (r′ .id)) (s .list) ∙ sym (renF-newList o n r′);
+  cut = ren-cut o n z r ∙ s .cut ∙ sym (renF-cut o n z r′);
 }
 
 joinOf : List ℕ → ℕ → List ℕ → ℕ → List ℕ
@@ -246,11 +255,12 @@ same-absorbed b b′ a a′ s t = record {
   overlap = s .overlap;
   list = ap (λ (y : List ℕ). joinOf y (b .id) (a .list) (a .id)) (s .list) ∙ ap (λ (y : ℕ). joinOf (b′ .list) y (a .list) (a .id)) (s .id)
       ∙ ap (λ (y : List ℕ). joinOf (b′ .list) (b′ .id) y (a .id)) (t .list) ∙ ap (joinOf (b′ .list) (b′ .id) (a′ .list)) (t .id);
+  cut = ap (λ (y : Bool). y or a .cut) (s .cut) ∙ ap (λ (y : Bool). b′ .cut or y) (t .cut);
 }
 
 same-emptied : (a a′ : Rec) → Same a a′ → Same (emptied a) (emptied a′)
 unfolding emptied
-same-emptied a a′ s = record { id = s .id; count = refl; area = s .area; visited = s .visited; overlap = s .overlap; list = refl }
+same-emptied a a′ s = record { id = s .id; count = refl; area = s .area; visited = s .visited; overlap = s .overlap; list = refl; cut = refl }
 
 -- ---- the records after a merge
 
@@ -625,12 +635,20 @@ overs-same (r ∷ rs) [] n s = absurd (omega arith)
 overs-same (r ∷ rs) (f ∷ fs) n s =
     ap (λ (b : Bool). if b then suc (overlaps rs) else overlaps rs) (s 0 .overlap) ∙ ap (λ (y : ℕ). if f .overlap then suc y else y) (overs-same rs fs (omega arith) (λ x. s (suc x)))
 
+cuts-same : (rs fs : List Rec) → length rs ≡ length fs → ((x : ℕ) → Same (at rs x) (at fs x)) → cuts rs ≡ cuts fs
+unfolding cuts at
+cuts-same [] [] n s = refl
+cuts-same [] (f ∷ fs) n s = absurd (omega arith)
+cuts-same (r ∷ rs) [] n s = absurd (omega arith)
+cuts-same (r ∷ rs) (f ∷ fs) n s =
+    ap (λ (b : Bool). if b then suc (cuts rs) else cuts rs) (s 0 .cut) ∙ ap (λ (y : ℕ). if f .cut then suc y else y) (cuts-same rs fs (omega arith) (λ x. s (suc x)))
+
 pub numbered-alike : (rs fs : List Rec) → Alike rs fs → (ids : List ℕ) → numbered rs ids ≡ numbered fs ids
 unfolding numbered
 numbered-alike rs fs A ids =
     let l = lives-same rs fs (A .size) (A .same) [] in
-    regions-eq _ _ _ _ _ _ (map-same _ _ ids (λ r. ap (λ (q : List ℕ). if flagged r then r else numberOf q (at rs r .id)) l ∙ ap (λ (y : ℕ). if flagged r then r else numberOf (live fs []) y) (A .same r .id)))
-    (ap length l) (overs-same rs fs (A .size) (A .same))
+    regions-eq _ _ _ _ _ _ _ _ (map-same _ _ ids (λ r. ap (λ (q : List ℕ). if flagged r then r else numberOf q (at rs r .id)) l ∙ ap (λ (y : ℕ). if flagged r then r else numberOf (live fs []) y) (A .same r .id)))
+    (ap length l) (overs-same rs fs (A .size) (A .same)) (cuts-same rs fs (A .size) (A .same))
 
 -- ---- at the start: live records bear their own numbers
 pub record Fresh (rs : List Rec) : Type 0 where
@@ -639,7 +657,7 @@ pub record Fresh (rs : List Rec) : Type 0 where
 pub alike-start : (rs : List Rec) → Fresh rs → Alike rs rs
 alike-start rs f = record {
   size = refl;
-  same = λ x. record { id = refl; count = refl; area = refl; visited = refl; overlap = refl; list = refl };
+  same = λ x. record { id = refl; count = refl; area = refl; visited = refl; overlap = refl; list = refl; cut = refl };
   floors = floors-start rs (f .own);
   reps = record { own = λ x l _. f .own x l; listed = λ x _ r _ _ z. f .own r z };
 }

@@ -1,8 +1,9 @@
--- One merge is the rule's: the lists as `relist` leaves them, the counts added, the ids renamed; nothing else of the records changes.
+-- One merge is the rule's: the lists as `relist` leaves them, the counts added, the ids renamed, the marks carried; nothing else of the records changes.
 -- What is listed stays below m: an entry of a new list is one of the old ones, or the absorber.
 use Prim.Native.Nat.{ℕ, suc, _+_, _-_, _*_, _≤_, _<_}
 use native.Mathlib.Omega.{arith}
 use native.Mathlib.Decide.{ℕ-discrete}
+use native.Mathlib.Nat.{mul-le-mul-right}
 use mathlib.Core.Path.{_≡_, refl, sym, ap, _∙_}
 use mathlib.Core.Logic.{⊎-elim, _⊎_, inl, inr}
 use mathlib.Core.Bool.{true, not, false≢true}
@@ -12,7 +13,7 @@ use lib.Seq.{getD-set-same, getD-set-other}
 use lib.Dec.{eqb}
 use borrow.Author.Tests.{ne-eqb}
 use borrow.Rule.Slice.PartMut.{putMid, midOf, same-len-mid}
-use Rattle.rules.specs.Base.{if_then_else_, any}
+use Rattle.rules.specs.Base.{_or_, if_then_else_, any}
 use Rattle.rules.specs.Records.{Rec, at, has}
 use Rattle.rules.specs.Merge.{place, around, tidy, emptied}
 use Rattle.laws.proofs.Basics.{if-ind}
@@ -25,11 +26,12 @@ use Rattle.table.proofs.ViewLaws.{view-length, view-at, view-by, rec-eq, list-s
 use Rattle.pool.specs.Lists.{swapOne}
 use Rattle.pool.specs.Part.{renamedList}
 use Rattle.pool.specs.Fixed.{renamedF, absorbedF, mergedPair}
-use Rattle.pool.specs.Pool.{lenAt, countAt, newList, joinedList, Halves, Pool, Laid, Listed, Outside, Turned, Relisted}
+use Rattle.pool.specs.Pool.{lenAt, countAt, newList, joinedList, remarked, Halves, Pool, Laid, Listed, Outside, Turned, Relisted, Remarked}
 use Rattle.pool.proofs.FloorLaws.{swap-has, swap-old, swap-other, has-at}
-use Rattle.pool.proofs.MergeLaws.{has-some, tidy-has, append-has, around-has, renF-id, renF-count, renF-area, renF-visited, renF-overlap, renF-floors, renF-newList, renF-fresh, at-i, at-n, at-else}
+use Rattle.pool.proofs.MergeLaws.{has-some, tidy-has, append-has, around-has, renF-id, renF-count, renF-area, renF-visited, renF-overlap, renF-floors, renF-cut, renF-newList, renF-fresh, at-i, at-n, at-else}
 use Rattle.pool.proofs.OwnLaws.{halves-same, halves-turn}
 use Rattle.pool.proofs.SumLaws.{sum-split, sum-two}
+use Rattle.pool.proofs.MarkLaws.{remarked-is, marked-lists, marked-floors, marked-pool, marked-laid}
 
 -- ---- what is listed
 
@@ -73,14 +75,16 @@ none-under m = record { under = λ x h. absurd (omega arith) }
 
 -- ---- a record renamed, as it lies there
 
-rec-ext : (a b : Rec) → a .id ≡ b .id → a .count ≡ b .count → a .area ≡ b .area → a .visited ≡ b .visited → a .overlap ≡ b .overlap → a .list ≡ b .list → a .floors ≡ b .floors → a ≡ b
-rec-ext a b p₁ p₂ p₃ p₄ p₅ p₆ p₇ = rec-eq (a .id) (b .id) (a .count) (b .count) (a .area) (b .area) (a .visited) (b .visited) (a .overlap) (b .overlap) (a .list) (b .list) (a .floors) (b .floors) p₁ p₂ p₃ p₄ p₅ p₆ p₇
+rec-ext : (a b : Rec) → a .id ≡ b .id → a .count ≡ b .count → a .area ≡ b .area → a .visited ≡ b .visited → a .overlap ≡ b .overlap → a .list ≡ b .list → a .floors ≡ b .floors
+    → a .cut ≡ b .cut → a ≡ b
+rec-ext a b p₁ p₂ p₃ p₄ p₅ p₆ p₇ p₈ = rec-eq (a .id) (b .id) (a .count) (b .count) (a .area) (b .area) (a .visited) (b .visited) (a .overlap) (b .overlap) (a .list) (b .list) (a .floors) (b .floors) (a .cut) (b .cut)
+    p₁ p₂ p₃ p₄ p₅ p₆ p₇ p₈
 
 renamed-rec : (o n : ℕ) → (o ≡ 0 → ⊥) → (a r : Rec) → a .id ≡ swapOne o n (r .id) → a .count ≡ r .count → a .area ≡ r .area → a .visited ≡ r .visited → a .overlap ≡ r .overlap
-    → a .list ≡ newList o n (r .id) (r .list) → a .floors ≡ r .floors → a ≡ renamedF o n r
-renamed-rec o n z a r p₁ p₂ p₃ p₄ p₅ p₆ p₇ =
+    → a .list ≡ newList o n (r .id) (r .list) → a .floors ≡ r .floors → a .cut ≡ r .cut → a ≡ renamedF o n r
+renamed-rec o n z a r p₁ p₂ p₃ p₄ p₅ p₆ p₇ p₈ =
     rec-ext a (renamedF o n r) (p₁ ∙ sym (renF-id o n z r)) (p₂ ∙ sym (renF-count o n z r)) (p₃ ∙ sym (renF-area o n z r)) (p₄ ∙ sym (renF-visited o n z r)) (p₅ ∙ sym (renF-overlap o n z r))
-    (p₆ ∙ sym (renF-newList o n r)) (p₇ ∙ sym (renF-floors o n z r))
+    (p₆ ∙ sym (renF-newList o n r)) (p₇ ∙ sym (renF-floors o n z r)) (p₈ ∙ sym (renF-cut o n z r))
 
 -- ---- the workspace after the counts and the ids are written too
 
@@ -136,7 +140,7 @@ module _ (m p h o b c n k i j : ℕ) (ws ws₁ ws₃ : List ℕ) (P : Pool m p h
   lists-at : (x : ℕ) → x < m → listAt ws₃ m (7 * m) x ≡ listAt ws₁ m (7 * m) x
   lists-at x g = list-past m (7 * m) (R .parts) (A .frame) (omega arith) l₃ x g
 
-  high : (y : ℕ) → 11 * m ≤ y → y < 15 * m → getD ws₃ y 0 ≡ getD ws y 0
+  high : (y : ℕ) → 11 * m ≤ y → y < 16 * m → getD ws₃ y 0 ≡ getD ws y 0
   high y a b = kept y (omega arith) (inr a, inl (omega (arith, H .past))) (inl (omega (arith, H .past′)))
 
   start-f : (x : ℕ) → x < m → startOf ws₃ m (11 * m) x ≡ startOf ws m (11 * m) x
@@ -150,75 +154,7 @@ module _ (m p h o b c n k i j : ℕ) (ws ws₁ ws₃ : List ℕ) (P : Pool m p h
       list-same ws ws₃ m (11 * m) x (start-f x g) (stop-f x g) (P .held .floors .order x g) (P .held .floors .within x g) (l₃ ∙ l₁) (λ y a b.
       kept y (omega (arith, floor-past x g .0, H .past)) (inr (omega (arith, floor-past x g .0, H .past)), inr (omega (arith, floor-past x g .0))) (inr (omega (arith, floor-past x g .1))))
 
-  -- ---- the records
-
-  abbrev rs : List Rec
-  rs = view ws m (7 * m) (11 * m)
-
-  n-in : n < length rs
-  n-in = rw (view-length ws m (7 * m) (11 * m)) hn
-
-  i-in : i < length rs
-  i-in = rw (view-length ws m (7 * m) (11 * m)) hi
-
-  at-rs : (x : ℕ) → x < m → at rs x ≡ recAt ws m (7 * m) (11 * m) x
-  at-rs x g = view-at ws m (7 * m) (11 * m) x g
-
-  rec-else : (x : ℕ) → x < m → (x ≡ i → ⊥) → (x ≡ n → ⊥) → recAt ws₃ m (7 * m) (11 * m) x ≡ renamedF old n (recAt ws m (7 * m) (11 * m) x)
-  unfolding recAt
-  rec-else x g a b =
-      renamed-rec old n (L .live) _ _ (ids x g) (A .counts x g a b ∙ low (m + x) (omega arith)) (mid (2 * m + x) (omega arith) (omega arith))
-      (ap (λ (y : ℕ). not (eqb y 0)) (mid (4 * m + x) (omega arith) (omega arith))) (ap (λ (y : ℕ). not (eqb y 0)) (mid (3 * m + x) (omega arith) (omega arith)))
-      (lists-at x g ∙ R .others x g a b) (floors-at x g)
-
-  none-new : (id : ℕ) → [] ≡ newList old n id []
-  unfolding newList renamedList any if_then_else_
-  none-new id = if-ind (λ (l : List ℕ). [] ≡ l) (eqb id 0) (λ _. refl) (λ _. refl)
-
-  rec-i : recAt ws₃ m (7 * m) (11 * m) i ≡ renamedF old n (emptied (recAt ws m (7 * m) (11 * m) i))
-  unfolding recAt emptied
-  rec-i =
-      renamed-rec old n (L .live) _ _ (ids i hi) (A .none) (mid (2 * m + i) (omega arith) (omega arith))
-      (ap (λ (y : ℕ). not (eqb y 0)) (mid (4 * m + i) (omega arith) (omega arith))) (ap (λ (y : ℕ). not (eqb y 0)) (mid (3 * m + i) (omega arith) (omega arith)))
-      (lists-at i hi ∙ R .bare ∙ none-new old) (floors-at i hi)
-
-  joined-is : joinedList (listAt ws m (7 * m) n) (listAt ws m (7 * m) i) k j old n
-      ≡ newList old n (getD ws n 0) (tidy (around (listAt ws m (7 * m) n) (place (listAt ws m (7 * m) n) old) ++ around (listAt ws m (7 * m) i) (place (listAt ws m (7 * m) i) (getD ws n 0))))
-  unfolding joinedList newList if_then_else_
-  joined-is = rw (ne-eqb (getD ws n 0) 0 (L .live′), L .first, L .first′) refl
-
-  rec-n : recAt ws₃ m (7 * m) (11 * m) n ≡ renamedF old n (absorbedF (recAt ws m (7 * m) (11 * m) n) (recAt ws m (7 * m) (11 * m) i))
-  unfolding recAt absorbedF
-  rec-n =
-      renamed-rec old n (L .live) _ _ (ids n hn) (A .sum ∙ ap (λ (y : ℕ). y + getD ws₁ (m + i) 0) (low (m + n) (omega arith)) ∙ ap (λ (y : ℕ). getD ws (m + n) 0 + y) (low (m + i) (omega arith)))
-      (mid (2 * m + n) (omega arith) (omega arith))
-      (ap (λ (y : ℕ). not (eqb y 0)) (mid (4 * m + n) (omega arith) (omega arith))) (ap (λ (y : ℕ). not (eqb y 0)) (mid (3 * m + n) (omega arith) (omega arith)))
-      (lists-at n hn ∙ R .joined ∙ joined-is) (floors-at n hn)
-
-  pair-length : length (mergedPair rs i old n) ≡ m
-  unfolding mergedPair
-  pair-length =
-      length-map (set (set rs n (absorbedF (at rs n) (at rs i))) i (emptied (at rs i))) (renamedF old n) ∙ length-set (set rs n (absorbedF (at rs n) (at rs i))) i (emptied (at rs i))
-      ∙ length-set rs n (absorbedF (at rs n) (at rs i)) ∙ view-length ws m (7 * m) (11 * m)
-
-  pair-at : (x : ℕ) → x < m → recAt ws₃ m (7 * m) (11 * m) x ≡ at (mergedPair rs i old n) x
-  unfolding mergedPair
-  pair-at x g =
-      sym (at-map (renamedF old n) (renF-fresh old n) (set (set rs n (absorbedF (at rs n) (at rs i))) i (emptied (at rs i))) x ∙ ap (renamedF old n) refl
-      ∙ sym (elim (ℕ-discrete x i) [
-        | yes e ↦ rw e (rec-i ∙ ap (renamedF old n) (ap emptied (sym (at-rs i hi)) ∙ sym (at-i rs i n (absorbedF (at rs n) (at rs i)) (emptied (at rs i)) i-in n-in ne)))
-        | no e ↦ elim (ℕ-discrete x n) [
-          | yes d ↦ rw d (rec-n ∙ ap (renamedF old n) (ap (λ (y : Rec). absorbedF y (recAt ws m (7 * m) (11 * m) i)) (sym (at-rs n hn)) ∙ ap (absorbedF (at rs n)) (sym (at-rs i hi))
-              ∙ sym (at-n rs i n (absorbedF (at rs n) (at rs i)) (emptied (at rs i)) i-in n-in ne)))
-          | no d ↦ rec-else x g e d ∙ ap (renamedF old n) (sym (at-rs x g) ∙ sym (at-else rs i n (absorbedF (at rs n) (at rs i)) (emptied (at rs i)) i-in n-in ne x e d))
-        ]
-      ]))
-
-  pub merged-recs : recsOf ws₃ m ≡ mergedPair (recsOf ws m) i old n
-  unfolding recsOf
-  merged-recs = view-by ws₃ m (7 * m) (11 * m) (mergedPair rs i old n) pair-length pair-at
-
-  -- ---- and the pool is in order
+  -- ---- the pool is in order
 
   parts₃ : Parts m (7 * m) ws₃
   parts₃ = parts-past m (7 * m) (R .parts) (A .frame) (omega arith) l₃
@@ -291,6 +227,95 @@ module _ (m p h o b c n k i j : ℕ) (ws ws₁ ws₃ : List ℕ) (P : Pool m p h
     };
   }
 
+  -- ---- the records, with the marks carried too
+
+  mark : (x : ℕ) → x < m → getD ws₃ (15 * m + x) 0 ≡ getD ws (15 * m + x) 0
+  mark x g = high (15 * m + x) (omega arith) (omega arith)
+
+  module _ (ws₄ : List ℕ) (M : Remarked m n i ws₃ ws₄) where
+    four : (y : ℕ) → y < 15 * m → getD ws₄ y 0 ≡ getD ws₃ y 0
+    four y g = M .kept y (inl g)
+
+    -- a column from the third on
+    kept₄ : (k x : ℕ) → 2 ≤ k → k ≤ 4 → x < m → getD ws₄ (k * m + x) 0 ≡ getD ws (k * m + x) 0
+    kept₄ k x a b g =
+        let lo : 2 * m ≤ k * m = mul-le-mul-right m a in
+        let hi : k * m ≤ 4 * m = mul-le-mul-right m b in
+        four (k * m + x) (omega arith) ∙ mid (k * m + x) (omega arith) (omega arith)
+
+    lists₄ : (x : ℕ) → x < m → listAt ws₄ m (7 * m) x ≡ listAt ws₃ m (7 * m) x
+    lists₄ = marked-lists m n i ws₃ ws₄ M p b c merged-pool
+
+    floors₄ : (x : ℕ) → x < m → listAt ws₄ m (11 * m) x ≡ listAt ws₃ m (11 * m) x
+    floors₄ = marked-floors m n i ws₃ ws₄ M p b c merged-pool
+
+    abbrev rs : List Rec
+    rs = view ws m (7 * m) (11 * m)
+
+    n-in : n < length rs
+    n-in = rw (view-length ws m (7 * m) (11 * m)) hn
+
+    i-in : i < length rs
+    i-in = rw (view-length ws m (7 * m) (11 * m)) hi
+
+    at-rs : (x : ℕ) → x < m → at rs x ≡ recAt ws m (7 * m) (11 * m) x
+    at-rs x g = view-at ws m (7 * m) (11 * m) x g
+
+    rec-else : (x : ℕ) → x < m → (x ≡ i → ⊥) → (x ≡ n → ⊥) → recAt ws₄ m (7 * m) (11 * m) x ≡ renamedF old n (recAt ws m (7 * m) (11 * m) x)
+    unfolding recAt
+    rec-else x g a b =
+        renamed-rec old n (L .live) _ _ (four x (omega arith) ∙ ids x g) (four (m + x) (omega arith) ∙ A .counts x g a b ∙ low (m + x) (omega arith)) (kept₄ 2 x (omega arith) (omega arith) g)
+        (ap (λ (y : ℕ). not (eqb y 0)) (kept₄ 4 x (omega arith) (omega arith) g)) (ap (λ (y : ℕ). not (eqb y 0)) (kept₄ 3 x (omega arith) (omega arith) g))
+        (lists₄ x g ∙ lists-at x g ∙ R .others x g a b) (floors₄ x g ∙ floors-at x g) (ap (λ (y : ℕ). not (eqb y 0)) (M .others x g a b ∙ mark x g))
+
+    none-new : (id : ℕ) → [] ≡ newList old n id []
+    unfolding newList renamedList any if_then_else_
+    none-new id = if-ind (λ (l : List ℕ). [] ≡ l) (eqb id 0) (λ _. refl) (λ _. refl)
+
+    rec-i : recAt ws₄ m (7 * m) (11 * m) i ≡ renamedF old n (emptied (recAt ws m (7 * m) (11 * m) i))
+    unfolding recAt emptied
+    rec-i =
+        renamed-rec old n (L .live) _ _ (four i (omega arith) ∙ ids i hi) (four (m + i) (omega arith) ∙ A .none) (kept₄ 2 i (omega arith) (omega arith) hi)
+        (ap (λ (y : ℕ). not (eqb y 0)) (kept₄ 4 i (omega arith) (omega arith) hi)) (ap (λ (y : ℕ). not (eqb y 0)) (kept₄ 3 i (omega arith) (omega arith) hi))
+        (lists₄ i hi ∙ lists-at i hi ∙ R .bare ∙ none-new old) (floors₄ i hi ∙ floors-at i hi) (ap (λ (y : ℕ). not (eqb y 0)) (M .bare))
+
+    joined-is : joinedList (listAt ws m (7 * m) n) (listAt ws m (7 * m) i) k j old n
+        ≡ newList old n (getD ws n 0) (tidy (around (listAt ws m (7 * m) n) (place (listAt ws m (7 * m) n) old) ++ around (listAt ws m (7 * m) i) (place (listAt ws m (7 * m) i) (getD ws n 0))))
+    unfolding joinedList newList if_then_else_
+    joined-is = rw (ne-eqb (getD ws n 0) 0 (L .live′), L .first, L .first′) refl
+
+    rec-n : recAt ws₄ m (7 * m) (11 * m) n ≡ renamedF old n (absorbedF (recAt ws m (7 * m) (11 * m) n) (recAt ws m (7 * m) (11 * m) i))
+    unfolding recAt absorbedF
+    rec-n =
+        renamed-rec old n (L .live) _ _ (four n (omega arith) ∙ ids n hn) (four (m + n) (omega arith) ∙ A .sum ∙ ap (λ (y : ℕ). y + getD ws₁ (m + i) 0) (low (m + n) (omega arith)) ∙ ap (λ (y : ℕ). getD ws (m + n) 0 + y) (low (m + i) (omega arith)))
+        (kept₄ 2 n (omega arith) (omega arith) hn)
+        (ap (λ (y : ℕ). not (eqb y 0)) (kept₄ 4 n (omega arith) (omega arith) hn)) (ap (λ (y : ℕ). not (eqb y 0)) (kept₄ 3 n (omega arith) (omega arith) hn))
+        (lists₄ n hn ∙ lists-at n hn ∙ R .joined ∙ joined-is) (floors₄ n hn ∙ floors-at n hn)
+        (M .both ∙ ap (λ (y : ℕ). not (eqb y 0) or not (eqb (getD ws₃ (15 * m + i) 0) 0)) (mark n hn) ∙ ap (λ (y : ℕ). not (eqb (getD ws (15 * m + n) 0) 0) or not (eqb y 0)) (mark i hi))
+
+    pair-length : length (mergedPair rs i old n) ≡ m
+    unfolding mergedPair
+    pair-length =
+        length-map (set (set rs n (absorbedF (at rs n) (at rs i))) i (emptied (at rs i))) (renamedF old n) ∙ length-set (set rs n (absorbedF (at rs n) (at rs i))) i (emptied (at rs i))
+        ∙ length-set rs n (absorbedF (at rs n) (at rs i)) ∙ view-length ws m (7 * m) (11 * m)
+
+    pair-at : (x : ℕ) → x < m → recAt ws₄ m (7 * m) (11 * m) x ≡ at (mergedPair rs i old n) x
+    unfolding mergedPair
+    pair-at x g =
+        sym (at-map (renamedF old n) (renF-fresh old n) (set (set rs n (absorbedF (at rs n) (at rs i))) i (emptied (at rs i))) x ∙ ap (renamedF old n) refl
+        ∙ sym (elim (ℕ-discrete x i) [
+          | yes e ↦ rw e (rec-i ∙ ap (renamedF old n) (ap emptied (sym (at-rs i hi)) ∙ sym (at-i rs i n (absorbedF (at rs n) (at rs i)) (emptied (at rs i)) i-in n-in ne)))
+          | no e ↦ elim (ℕ-discrete x n) [
+            | yes d ↦ rw d (rec-n ∙ ap (renamedF old n) (ap (λ (y : Rec). absorbedF y (recAt ws m (7 * m) (11 * m) i)) (sym (at-rs n hn)) ∙ ap (absorbedF (at rs n)) (sym (at-rs i hi))
+                ∙ sym (at-n rs i n (absorbedF (at rs n) (at rs i)) (emptied (at rs i)) i-in n-in ne)))
+            | no d ↦ rec-else x g e d ∙ ap (renamedF old n) (sym (at-rs x g) ∙ sym (at-else rs i n (absorbedF (at rs n) (at rs i)) (emptied (at rs i)) i-in n-in ne x e d))
+          ]
+        ]))
+
+    pub merged-recs : recsOf ws₄ m ≡ mergedPair (recsOf ws m) i old n
+    unfolding recsOf
+    merged-recs = view-by ws₄ m (7 * m) (11 * m) (mergedPair rs i old n) pair-length pair-at
+
 -- ---- the counts and the ids, as the code writes them
 
 module _ (m n i old : ℕ) (ws₁ ws₂ ys : List ℕ) (hn : n < m) (hi : i < m) (ne : i ≡ n → ⊥) (z : old ≡ 0 → ⊥) (room : 2 * m ≤ length ws₁)
@@ -350,7 +375,7 @@ module _ (m p h o n k i j : ℕ) (ws ws₁ : List ℕ) (P : Pool m p h o ws) (L 
 module _ (m p h o b c n k i j : ℕ) (ws ws₁ ws₂ ys : List ℕ) (P : Pool m p h o ws) (L : Listed m n k i j ws) (W : Turned h o b c) (R : Relisted m p n k i j (getD ws i 0) n b c ws ws₁)
     (l₁ : length ws₁ ≡ length ws)
     (e : ws₂ ≡ set (set ws₁ (m + n) (getD ws₁ (m + n) 0 + getD ws₁ (m + i) 0)) (m + i) 0) (l₂ : length ws₂ ≡ length ws₁) (y : ys ≡ map (swapOne (getD ws i 0) n) (midOf 0 (m - 0) ws₂))
-    (ly : length ys ≡ length (midOf 0 (m - 0) ws₂)) where
+    (ly : length ys ≡ length (midOf 0 (m - 0) ws₂)) (ws₄ : List ℕ) (e₄ : ws₄ ≡ remarked m n i (putMid 0 (m - 0) ws₂ ys)) where
   after : After m n i (getD ws i 0) ws₁ (putMid 0 (m - 0) ws₂ ys)
   after =
       after-is m n i (getD ws i 0) ws₁ ws₂ ys (L .pair .first) (L .pair .second) (L .pair .apart) (L .live) (columns-in m p h o n k i j ws ws₁ P L l₁) e y
@@ -358,14 +383,26 @@ module _ (m p h o b c n k i j : ℕ) (ws ws₁ ws₂ ys : List ℕ) (P : Pool m 
   l₃ : length (putMid 0 (m - 0) ws₂ ys) ≡ length ws₁
   l₃ = same-len-mid 0 (m - 0) ws₂ ys ly ∙ l₂
 
-  pub region-recs : recsOf (putMid 0 (m - 0) ws₂ ys) m ≡ mergedPair (recsOf ws m) i (getD ws i 0) n
-  region-recs = merged-recs m p h o b c n k i j ws ws₁ (putMid 0 (m - 0) ws₂ ys) P W L R after l₁ l₃
+  pool₃ : Pool m p b c (putMid 0 (m - 0) ws₂ ys)
+  pool₃ = merged-pool m p h o b c n k i j ws ws₁ (putMid 0 (m - 0) ws₂ ys) P W L R after l₁ l₃
 
-  pub region-pool : Pool m p b c (putMid 0 (m - 0) ws₂ ys)
-  region-pool = merged-pool m p h o b c n k i j ws ws₁ (putMid 0 (m - 0) ws₂ ys) P W L R after l₁ l₃
+  marked : Remarked m n i (putMid 0 (m - 0) ws₂ ys) ws₄
+  marked = rw e₄ (remarked-is m n i (putMid 0 (m - 0) ws₂ ys) (L .pair .first) (L .pair .second) (L .pair .apart) (omega (arith, pool₃ .halves .into, pool₃ .halves .past)))
 
-  pub region-laid : (top : ℕ) → Laid m p b c top ws₁ → Laid m p b c top (putMid 0 (m - 0) ws₂ ys)
-  region-laid = merged-laid m p h o b c n k i j ws ws₁ (putMid 0 (m - 0) ws₂ ys) P W L R after l₁ l₃
+  pub region-recs : recsOf ws₄ m ≡ mergedPair (recsOf ws m) i (getD ws i 0) n
+  region-recs = merged-recs m p h o b c n k i j ws ws₁ (putMid 0 (m - 0) ws₂ ys) P W L R after l₁ l₃ ws₄ marked
+
+  pub region-pool : Pool m p b c ws₄
+  region-pool = marked-pool m n i (putMid 0 (m - 0) ws₂ ys) ws₄ marked p b c pool₃
+
+  pub region-laid : (top : ℕ) → Laid m p b c top ws₁ → Laid m p b c top ws₄
+  region-laid top D =
+      marked-laid m n i (putMid 0 (m - 0) ws₂ ys) ws₄ marked p b c pool₃ top
+      (merged-laid m p h o b c n k i j ws ws₁ (putMid 0 (m - 0) ws₂ ys) P W L R after l₁ l₃ top D)
+
+-- the marks lie in the workspace
+pub marks-in : (m p h o : ℕ) (ws ws′ : List ℕ) → Pool m p h o ws → length ws′ ≡ length ws → 16 * m ≤ length ws′
+marks-in m p h o ws ws′ P l = omega (arith, P .halves .into, P .halves .past)
 
 pub recount-in : (ws : List ℕ) (m n i v : ℕ) → 2 * m ≤ length ws → i < m → m + i < length (set ws (m + n) v)
 recount-in ws m n i v h g = rw (length-set ws (m + n) v) (omega arith)

@@ -31,6 +31,7 @@ pub record Same (a b : Rec) : Type 0 where
   pub visited : a .visited ≡ b .visited
   pub overlap : a .overlap ≡ b .overlap
   pub list : a .list ≡ b .list
+  pub cut : a .cut ≡ b .cut
 
 -- a live record with spans bears its own number, and what a live record lists is dead or does so
 pub record Reps (fs : List Rec) : Type 0 where

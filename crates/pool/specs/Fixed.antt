@@ -45,6 +45,7 @@ absorbedF a b = record {
   overlap = a .overlap;
   list = tidy (around (a .list) (place (a .list) (b .id)) ++ around (b .list) (place (b .list) (a .id)));
   floors = a .floors;
+  cut = a .cut or b .cut;
 }
 
 unfoldable pub renamedF : ℕ → ℕ → Rec → Rec
@@ -58,6 +59,7 @@ renamedF old new r =
       overlap = r .overlap;
       list = if has (r .list) old then tidy (swapped old new (r .list)) else r .list;
       floors = r .floors;
+      cut = r .cut;
     }
 
 -- record n absorbs record i, whose id old is renamed

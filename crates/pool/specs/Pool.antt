@@ -5,14 +5,15 @@
 use Prim.Native.Nat.{ℕ, _+_, _-_, _*_, _≤_, _<_}
 use mathlib.Core.Path.{_≡_}
 use mathlib.Core.Logic.{_⊎_}
+use mathlib.Core.Bool.{not}
 use mathlib.Core.List.{List, [], _++_}
-use lib.ListN.{length, getD}
+use lib.ListN.{length, getD, set}
 use lib.Dec.{eqb}
-use Rattle.rules.specs.Base.{if_then_else_}
+use Rattle.rules.specs.Base.{_or_, if_then_else_}
 use Rattle.rules.specs.Merge.{place, around, tidy}
 use Rattle.laws.specs.Sums.{sumTo}
 use Rattle.space.specs.Space.{Frame}
-use Rattle.table.specs.View.{part, startOf, endOf, listAt, Parts, Held}
+use Rattle.table.specs.View.{part, startOf, endOf, listAt, marksAt, Parts, Held}
 use Rattle.pool.specs.Part.{Clear, renamedList}
 
 -- f with 0 at i
@@ -36,8 +37,8 @@ newList old new id l = if eqb id 0 then l else renamedList old new l
 
 -- the two halves lie apart, past the tables
 pub record Halves (m p h o : ℕ) (ws : List ℕ) : Type 0 where
-  pub past : 15 * m ≤ h
-  pub past′ : 15 * m ≤ o
+  pub past : 16 * m ≤ h
+  pub past′ : 16 * m ≤ o
   pub apart : (h + p ≤ o) ⊎ (o + p ≤ h)
   pub into : h + p ≤ length ws
   pub into′ : o + p ≤ length ws
@@ -254,3 +255,15 @@ pub record Listed (m n k i j : ℕ) (ws : List ℕ) : Type 0 where
   pub other : getD ws i 0 ≡ n → ⊥
   pub first : k ≡ place (listAt ws m (7 * m) n) (getD ws i 0)
   pub first′ : j ≡ place (listAt ws m (7 * m) i) (getD ws n 0)
+
+-- the marks of n and i: n bears what either bore, and i none
+unfoldable pub remarked : ℕ → ℕ → ℕ → List ℕ → List ℕ
+remarked m n i ws = if eqb (getD ws (marksAt m + i) 0) 0 then ws else set (set ws (marksAt m + n) 1) (marksAt m + i) 0
+
+-- what that leaves
+pub record Remarked (m n i : ℕ) (ws ws′ : List ℕ) : Type 0 where
+  pub size : length ws′ ≡ length ws
+  pub kept : (y : ℕ) → (y < marksAt m) ⊎ (marksAt m + m ≤ y) → getD ws′ y 0 ≡ getD ws y 0
+  pub others : (x : ℕ) → x < m → (x ≡ i → ⊥) → (x ≡ n → ⊥) → getD ws′ (marksAt m + x) 0 ≡ getD ws (marksAt m + x) 0
+  pub bare : getD ws′ (marksAt m + i) 0 ≡ 0
+  pub both : not (eqb (getD ws′ (marksAt m + n) 0) 0) ≡ (not (eqb (getD ws (marksAt m + n) 0) 0) or not (eqb (getD ws (marksAt m + i) 0) 0))

@@ -2,12 +2,13 @@
 use crate::lists::swap;
 use crate::relist::Half;
 use crate::relist::relist;
+use table::MARKS;
 ghost use mathlib.Core.Path.{_≡_};
 ghost use Prim.Native.Nat.{_+_, _*_, _≤_, _<_};
 ghost use lib.ListN.{length, getD, set};
 ghost use Rattle.table.specs.View.{recsOf};
 ghost use Rattle.pool.specs.Fixed.{mergedPair};
-ghost use Rattle.pool.specs.Pool.{Pool, Laid, Listed};
+ghost use Rattle.pool.specs.Pool.{remarked, Pool, Laid, Listed};
 
 // Record n has the spans of both.
 fn recount(ws: &mut [u16], m: usize, n: usize, i: usize)
@@ -22,7 +23,21 @@ fn recount(ws: &mut [u16], m: usize, n: usize, i: usize)
     ws[m + i] = 0;
 }
 
-// The neighbour n absorbs record i, which keeps count 0 and no list; i's id is renamed everywhere.
+// Record n bears the mark that either bore, and record i none.
+fn carry_mark(ws: &mut [u16], m: usize, n: usize, i: usize)
+    requires { ⌜ 16 * m ≤ length (now ws) ⌝ }
+    requires { ⌜ n < m ⌝ }
+    requires { ⌜ i < m ⌝ }
+    ensures { λ _. ⌜ now (ws .exit) ≡ remarked m n i (now (ws .entry)) ⌝ }
+{
+    if ws[MARKS * m + i] == 0 {
+        return;
+    }
+    ws[MARKS * m + n] = 1;
+    ws[MARKS * m + i] = 0;
+}
+
+// The neighbour n absorbs record i, which keeps count 0, no list and no mark; i's id is renamed everywhere.
 pub fn merge_regions(
     ws: &mut [u16],
     m: usize,
@@ -47,5 +62,6 @@ pub fn merge_regions(
     let g = relist(ws, m, n, k, i, j, old, new, h, o, p, top);
     recount(ws, m, n, i);
     swap(&mut ws[0..m], old, new);
+    carry_mark(ws, m, n, i);
     g
 }

@@ -15,7 +15,7 @@ use Rattle.rules.specs.Base.{_and_, _or_, if_then_else_, upto, tab}
 use Rattle.rules.specs.Field.{Field, spans, cellOf}
 use Rattle.rules.specs.Net.{Net, netOf}
 use Rattle.rules.specs.Growth.{plain}
-use Rattle.rules.specs.Contour.{firstSolid, contour}
+use Rattle.rules.specs.Contour.{firstSolid, contour, cutShort}
 use Rattle.rules.specs.Records.{Rec, fresh, at, has, others, onceAll, counted, addSpan, records}
 use Rattle.rules.specs.Refusals.{mostSpans}
 use Rattle.laws.proofs.Basics.{upto-next, tab-at, length-tab}
@@ -33,7 +33,7 @@ use Rattle.contour.proofs.WalkLaws.{ways-same}
 use Rattle.table.specs.View.{part, startOf, endOf, listAt, recAt, recsOf, Held}
 use Rattle.table.proofs.ViewLaws.{view-by, part-none, rec-eq, recs-at}
 use Rattle.records.specs.Cell.{twins, othersFrom}
-use Rattle.records.specs.Rows.{mine, Row, Keeping, Step, plusOne, overlaid, floored, celled, contoured, traced}
+use Rattle.records.specs.Rows.{mine, Row, Keeping, Step, plusOne, overlaid, floored, celled, contoured, traced, tracedCut}
 use Rattle.records.specs.Fresh.{Renewed}
 use Rattle.records.specs.Stock.{Given, Reach, Blank, Built}
 use Rattle.records.specs.Build.{added, Standing, Added, Entering, Entered}
@@ -57,19 +57,26 @@ unfolding traced if_then_else_ _and_
 list-is N ids l s true e = rw (no-list l e) refl
 list-is N ids l s false e = refl
 
+mark-is : (N : Net) (ids : List ℕ) (s : ℕ) (c b : Bool) → (c or (b and tracedCut N ids s))
+    ≡ (c or (b and ltb (firstSolid N ids s) 4 and cutShort N ids s (firstSolid N ids s)))
+unfolding tracedCut _and_
+mark-is N ids s c true = refl
+mark-is N ids s c false = refl
+
 counted-is : (F : Field) (ids : List ℕ) (s n t : ℕ) (x : Rec) → plain (getD ids s 0) ≡ true → n ≡ getD (F .count) (cellOf (F .count) s) 0 → t ≡ getD (F .index) (cellOf (F .count) s) 0
     → contoured (netOf F) ids s (celled ids s n t x) ≡ counted F ids s x
 unfolding contoured celled floored overlaid plusOne counted othersFrom
 counted-is F ids s n t x pl en et =
     let o : others F ids s ≡ othersFrom ids s n t = others-from F ids s ∙ sym (rw (en, et) refl) in
     let v : has (others F ids s) (getD ids s 0) ≡ twins ids s (getD ids s 0) n t = ap (λ (l : List ℕ). has l (getD ids s 0)) o ∙ any-twins ids s (getD ids s 0) pl n t in
-    rec-eq _ _ _ _ _ _ _ _ _ _ _ _ _ _ refl refl refl refl (ap (λ (b : Bool). x .overlap or b) (sym v)) (list-is (netOf F) ids (x .list) s (eqb (length (x .list)) 0) refl) (ap (onceAll (x .floors)) (sym o))
+    rec-eq _ _ _ _ _ _ _ _ _ _ _ _ _ _ _ _ refl refl refl refl (ap (λ (b : Bool). x .overlap or b) (sym v)) (list-is (netOf F) ids (x .list) s (eqb (length (x .list)) 0) refl) (ap (onceAll (x .floors)) (sym o))
+    (mark-is (netOf F) ids s (x .cut) (eqb (length (x .list)) 0))
 
 -- ---------------------------------------------------------------- a span
 
 -- where the part past the records stays, so does the net
-net-past : (plan : Plan) (ar ids : List ℕ) (ws ws′ : List ℕ) → 15 * plan .records + 70 * length ids ≤ plan .table → plan .table + 4 * length ar ≤ length ws → length ws′ ≡ length ws
-    → ((j : ℕ) → 15 * plan .records + 70 * length ids ≤ j → getD ws′ j 0 ≡ getD ws j 0) → netAt (plan .table) ar ws′ ≡ netAt (plan .table) ar ws
+net-past : (plan : Plan) (ar ids : List ℕ) (ws ws′ : List ℕ) → 16 * plan .records + 70 * length ids ≤ plan .table → plan .table + 4 * length ar ≤ length ws → length ws′ ≡ length ws
+    → ((j : ℕ) → 16 * plan .records + 70 * length ids ≤ j → getD ws′ j 0 ≡ getD ws j 0) → netAt (plan .table) ar ws′ ≡ netAt (plan .table) ar ws
 net-past plan ar ids ws ws′ p r e f = net-same (plan .table) ar ws ws′ r e (λ i h. f i (omega arith))
 
 -- the rule's span, with its cell at hand
@@ -218,7 +225,7 @@ pub record Running (F : Field) (ids : List ℕ) (m top c : ℕ) (ws₀ ws : List
   pub keeping : Keeping ids m top (firstOf (F .count) c) ws
   pub same : recsOf ws m ≡ upto (firstOf (F .count) c) (addSpan F ids) (tab m 0 fresh)
   pub size : length ws ≡ length ws₀
-  pub after : (j : ℕ) → 15 * m + 70 * length ids ≤ j → getD ws j 0 ≡ getD ws₀ j 0
+  pub after : (j : ℕ) → 16 * m + 70 * length ids ≤ j → getD ws j 0 ≡ getD ws₀ j 0
 
 module _ (F : Field) (ids : List ℕ) (m : ℕ) (ws₀ : List ℕ) (B : Blank ids m ws₀) (ws : List ℕ) (N : Renewed ids m m ws₀ ws) where
   new-row : (i : ℕ) → i < m → Row ids m 0 0 i ws
@@ -256,10 +263,11 @@ module _ (F : Field) (ids : List ℕ) (m : ℕ) (ws₀ : List ℕ) (B : Blank id
       let a : part (startOf ws m (7 * m) i) (endOf ws m (7 * m) i) ws ≡ [] = part-none _ _ ws (omega (arith, l .0, l .1)) in
       let c : part (startOf ws m (11 * m) i) (endOf ws m (11 * m) i) ws ≡ [] = part-none _ _ ws (omega (arith, f .0, f .1)) in
       let e : getD (tab m 0 fresh) i (fresh 0) ≡ fresh i = rw y at (tab-at m 0 fresh i (fresh 0) h) in
-      rec-eq _ _ _ _ _ _ _ _ _ _ _ _ _ _
+      rec-eq _ _ _ _ _ _ _ _ _ _ _ _ _ _ _ _
       (N .names i h) (N .empty i h) (N .columns (2 * m + i) (omega arith) (omega arith))
       (ap (λ (x : ℕ). not (eqb x 0)) (N .columns (4 * m + i) (omega arith) (omega arith)))
-      (ap (λ (x : ℕ). not (eqb x 0)) (N .columns (3 * m + i) (omega arith) (omega arith))) a c ∙ sym e
+      (ap (λ (x : ℕ). not (eqb x 0)) (N .columns (3 * m + i) (omega arith) (omega arith))) a c
+      (ap (λ (x : ℕ). not (eqb x 0)) (N .pool (15 * m + i) (omega arith) (omega arith))) ∙ sym e
 
   pub run-start : Running F ids m 0 0 ws ws
   unfolding upto recsOf firstOf
@@ -289,7 +297,7 @@ unfolding upto
 upto-same f g zero x h = refl
 upto-same f g (suc k) x h = rw (upto-same f g k x (λ i y l. h i y (omega arith))) (h k (upto k g x) (omega arith))
 
-module _ (F : Field) (ids : List ℕ) (plan : Plan) (ws₀ p : List ℕ) (g : Given F ids (plan .table) ws₀) (past : 15 * plan .records + 70 * length ids ≤ plan .table)
+module _ (F : Field) (ids : List ℕ) (plan : Plan) (ws₀ p : List ℕ) (g : Given F ids (plan .table) ws₀) (past : 16 * plan .records + 70 * length ids ≤ plan .table)
     (N : Renewed ids (plan .records) (plan .records) ws₀ p) where
   ok : Celled F
   ok = sound-reached F (g .sound) .celled
@@ -298,7 +306,7 @@ module _ (F : Field) (ids : List ℕ) (plan : Plan) (ws₀ p : List ℕ) (g : Gi
     same-size : length ws ≡ length ws₀
     same-size = R .size ∙ N .size
 
-    same-past : (j : ℕ) → 15 * plan .records + 70 * length ids ≤ j → getD ws j 0 ≡ getD ws₀ j 0
+    same-past : (j : ℕ) → 16 * plan .records + 70 * length ids ≤ j → getD ws j 0 ≡ getD ws₀ j 0
     same-past j h = R .after j h ∙ N .after j h
 
     net-here : netAt (plan .table) (F .area) ws ≡ netOf F

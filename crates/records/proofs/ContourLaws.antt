@@ -3,28 +3,28 @@
 use Prim.Native.Nat.{ℕ, suc, _+_, _*_, _-_, _≤_, _<_}
 use native.Mathlib.Omega.{arith}
 use mathlib.Core.Path.{_≡_, refl, sym, ap, _∙_}
-use mathlib.Core.Bool.{Bool, true, false}
+use mathlib.Core.Bool.{Bool, true, false, not}
 use mathlib.Core.List.{List}
 use lib.ListN.{length, getD, set, length-set}
 use lib.Seq.{getD-set-same, getD-set-other}
 use lib.Dec.{eqb}
 use borrow.Author.Tests.{eq-eqb, ne-eqb}
-use Rattle.rules.specs.Base.{if_then_else_}
+use Rattle.rules.specs.Base.{_and_, if_then_else_}
 use Rattle.rules.specs.Net.{Net, areaOf}
 use Rattle.rules.specs.Contour.{firstSolid}
 use Rattle.rules.specs.Growth.{plain}
 use Rattle.rules.specs.Records.{Rec, at, fresh, onceAll}
-use Rattle.laws.proofs.Basics.{many-le}
+use Rattle.laws.proofs.Basics.{many-le, or-no}
 use Rattle.space.specs.Space.{sec}
 use Rattle.net.specs.Table.{netAt}
 use Rattle.net.proofs.Tables.{area-at, net-same}
 use Rattle.contour.specs.Pool.{Start}
-use Rattle.contour.proofs.Areas.{first-areas, contour-areas}
+use Rattle.contour.proofs.Areas.{first-areas, contour-areas, cut-areas}
 use Rattle.contour.proofs.WalkLaws.{ways-same}
 use Rattle.table.specs.View.{startOf, endOf, listAt, recAt, view, recsOf}
 use Rattle.table.proofs.ViewLaws.{list-length, view-at, view-length, recs-at}
 use Rattle.records.specs.Cell.{twins, othersFrom}
-use Rattle.records.specs.Rows.{Keeping, Step, Slack, traced, marked, plusOne, overlaid, floored, celled, withArea, withList, contoured}
+use Rattle.records.specs.Rows.{Keeping, Step, Slack, traced, tracedCut, marked, plusOne, overlaid, floored, celled, withArea, withList, withCut, withContour, contoured}
 use Rattle.records.specs.Map.{poolIn}
 use Rattle.records.specs.Stock.{Reach}
 use Rattle.records.proofs.CellLaws.{twins-alone, others-alone}
@@ -38,6 +38,12 @@ unfolding netAt traced
 traced-areas table ar ids ws s e =
     let l = sec table (4 * length ar) ws in
     rw (e, first-areas l ids ar ids s, contour-areas l ids ar ids s (firstSolid (record { neighbours = l; areas = ar }) ids s)) refl
+
+cut-traced-areas : (table : ℕ) (ar ids ws : List ℕ) (s : ℕ) → length ids ≡ length ar → tracedCut (netAt table ids ws) ids s ≡ tracedCut (netAt table ar ws) ids s
+unfolding netAt tracedCut
+cut-traced-areas table ar ids ws s e =
+    let l = sec table (4 * length ar) ws in
+    rw (e, first-areas l ids ar ids s, cut-areas l ids ar ids s (firstSolid (record { neighbours = l; areas = ar }) ids s)) refl
 
 -- a step under another name
 step-as : (f g : Rec → Rec) (ids : List ℕ) (m r top k : ℕ) (ws ws′ : List ℕ) → f (at (recsOf ws m) r) ≡ g (at (recsOf ws m) r) → Step f ids m r top k ws ws′ → Step g ids m r top k ws ws′
@@ -57,10 +63,10 @@ module _ (ids : List ℕ) (m top k : ℕ) (ws : List ℕ) (K : Keeping ids m top
 
   -- a record that has a list stays
   pub contour-there : a < e → (N : Net) (s : ℕ) → Step (contoured N ids s) ids m r top k ws ws
-  unfolding contoured recAt if_then_else_
+  unfolding contoured recAt _and_ if_then_else_
   contour-there g N s =
       let n : eqb (length (listAt ws m (7 * m) r)) 0 ≡ false = ne-eqb (length (listAt ws m (7 * m) r)) 0 (λ (z : length (listAt ws m (7 * m) r) ≡ 0). omega (arith, long)) in
-      step-none (contoured N ids s) ids m r top k ws K (rw (recs-at ws m r h, n))
+      step-none (contoured N ids s) ids m r top k ws K (rw (recs-at ws m r h, n, or-no (not (eqb (getD ws (15 * m + r) 0) 0))))
 
   module _ (g : e ≤ a) where
     pub none-yet : endOf ws m (7 * m) r ≤ startOf ws m (7 * m) r
@@ -92,17 +98,19 @@ module _ (ids : List ℕ) (m top k : ℕ) (ws : List ℕ) (K : Keeping ids m top
           (ways-same table cs ids ws (set ws (2 * m + r) v) (length-set ws (2 * m + r) v) net-left (R .ways)) (R .span) (R .past)
 
       pub contour-taken : (t : ℕ) → v ≡ getD ar s 0 → (ws′ : List ℕ)
-          → Step (withList (traced (netAt table ids (set ws (2 * m + r) v)) ids s)) ids m r t k (set ws (2 * m + r) v) ws′
+          → (let M = netAt table ids (set ws (2 * m + r) v) in Step (withContour (traced M ids s) (tracedCut M ids s)) ids m r t k (set ws (2 * m + r) v) ws′)
           → Step (contoured (netAt table ar ws) ids s) ids m r t k ws ws′
-      unfolding contoured withList withArea recAt if_then_else_
+      unfolding contoured withContour withCut withList withArea recAt _and_ if_then_else_
       contour-taken t ev ws′ q =
           let N = netAt table ar ws in
           let l : traced (netAt table ids (set ws (2 * m + r) v)) ids s ≡ traced N ids s =
           ap (λ (x : Net). traced x ids s) net-left ∙ traced-areas table ar ids ws s (R .sized) in
+          let c : tracedCut (netAt table ids (set ws (2 * m + r) v)) ids s ≡ tracedCut N ids s =
+          ap (λ (x : Net). tracedCut x ids s) net-left ∙ cut-traced-areas table ar ids ws s (R .sized) in
           let ar-is : areaOf N s ≡ v = area-at table ar ws s (omega (arith, R .span, R .sized)) ∙ sym ev in
-          let p : Step (withList (traced N ids s)) ids m r t k (set ws (2 * m + r) v) ws′ = rw (← l) q in
-          step-as (λ x. withList (traced N ids s) (withArea v x)) (contoured N ids s) ids m r t k ws ws′ (rw (recs-at ws m r h, empty, ar-is))
-          (step-then (withArea v) (withList (traced N ids s)) ids m r top t k k ws (set ws (2 * m + r) v) ws′ h (step-area ids m top k ws K r h v) p)
+          let p : Step (withContour (traced N ids s) (tracedCut N ids s)) ids m r t k (set ws (2 * m + r) v) ws′ = rw (← l, ← c) q in
+          step-as (λ x. withContour (traced N ids s) (tracedCut N ids s) (withArea v x)) (contoured N ids s) ids m r t k ws ws′ (rw (recs-at ws m r h, empty, ar-is))
+          (step-then (withArea v) (withContour (traced N ids s) (tracedCut N ids s)) ids m r top t k k ws (set ws (2 * m + r) v) ws′ h (step-area ids m top k ws K r h v) p)
 
 -- ---------------------------------------------------------------- the cell
 

@@ -1,21 +1,22 @@
--- What the rule's records come to: each bears its own number and counts the spans of its id, its list has at most 4 ids a span and its floors 62.
+-- What the rule's records come to: each bears its own number and counts the spans of its id, its list has at most 4 ids a span and its floors 62,
+-- and a record of at most 10,000 spans bears no mark of a contour cut short.
 -- It holds after each span: one span counts for one record, a contour lists at most four ids a span of its region, and a cell has at most 62 others.
 use Prim.Native.Nat.{ℕ, zero, suc, _+_, _*_, _≤_, _<_}
 use native.Mathlib.Omega.{arith}
 use native.Mathlib.Numerals.{add-one}
 use native.Mathlib.Decide.{ℕ-discrete}
 use mathlib.Core.Path.{_≡_, refl, sym, ap, _∙_}
-use mathlib.Core.Bool.{true, false, not, false≢true}
+use mathlib.Core.Bool.{Bool, true, false, not, false≢true}
 use mathlib.Core.List.{List, [], _∷_, map}
 use lib.ListN.{length, getD, set, take, length-set, length-append, length-map}
 use lib.Seq.{getD-set-same, getD-set-other}
 use lib.Dec.{eqb, ltb}
 use borrow.Author.Tests.{eq-eqb, ne-eqb, ltb-true, not-true}
-use Rattle.rules.specs.Base.{_and_, keep, tab, many}
+use Rattle.rules.specs.Base.{_and_, _or_, keep, tab, many}
 use Rattle.rules.specs.Field.{Field, spans, cellOf}
 use Rattle.rules.specs.Net.{netOf}
 use Rattle.rules.specs.Growth.{plain}
-use Rattle.rules.specs.Contour.{firstSolid}
+use Rattle.rules.specs.Contour.{firstSolid, cutShort}
 use Rattle.rules.specs.Records.{Rec, fresh, at, has, once, onceAll, others, counted, addSpan, records}
 use Rattle.laws.specs.Sums.{sumTo}
 use Rattle.laws.proofs.Basics.{both, if-ind, upto-ind, many-le, keep-length, tab-at, length-tab}
@@ -23,7 +24,7 @@ use Rattle.laws.proofs.Sums.{sum-le, sum-times}
 use Rattle.laws.proofs.Cells.{Passed, passed, cellOf-in, cell-of, sum-of, before}
 use Rattle.laws.proofs.Strides.{answered}
 use Rattle.field.specs.Lent.{Sound}
-use Rattle.contour.proofs.Room.{contour-room}
+use Rattle.contour.proofs.Room.{contour-room, never-cut}
 use Rattle.records.specs.Rows.{slot, mine}
 use Rattle.records.proofs.CountLaws.{many-same, many-counts, many-passes, many-all, many-none, mine-yes, mine-other, mine-not, mine-le, slot-first, slot-next}
 use Rattle.records.proofs.NameLaws.{own-name}
@@ -53,6 +54,12 @@ onceAll-length : (l o : List ℕ) → length (onceAll l o) ≤ length l + length
 unfolding onceAll
 onceAll-length l [] = omega arith
 onceAll-length l (r ∷ o) = omega (arith, onceAll-length (once l r) o, once-length l r)
+
+-- b does not hold where a does
+unless : (a b : Bool) → (a ≡ true → b ≡ false) → a and b ≡ false
+unfolding _and_
+unless true b h = h refl
+unless false b h = refl
 
 -- ---------------------------------------------------------------- the spans of an id
 
@@ -100,6 +107,7 @@ module _ (F : Field) (sound : Sound F) (ids : List ℕ) (size : length ids ≡ s
       count : at rs i .count ≡ many (mine i) (take k ids)
       list : length (at rs i .list) ≤ 4 * many (mine i) ids
       floors : length (at rs i .floors) ≤ 62 * at rs i .count
+      cut : many (mine i) ids ≤ 10000 → at rs i .cut ≡ false
 
     new-filled : Filled 0 (tab (suc next) 0 fresh)
     unfolding at fresh
@@ -110,6 +118,7 @@ module _ (F : Field) (sound : Sound F) (ids : List ℕ) (size : length ids ≡ s
           count = ap (λ (x : Rec). x .count) e ∙ sym (many-none (mine i) ids);
           list = rw e (omega arith);
           floors = rw e (omega arith);
+          cut = λ _. ap (λ (x : Rec). x .cut) e;
         }
 
     counted-list : (k : ℕ) (x : Rec) → k < spans F → plain i ≡ true → getD ids k 0 ≡ i → length (x .list) ≤ 4 * many (mine i) ids → length (counted F ids k x .list) ≤ 4 * many (mine i) ids
@@ -124,6 +133,16 @@ module _ (F : Field) (sound : Sound F) (ids : List ℕ) (size : length ids ≡ s
     counted-floors : (k : ℕ) (x : Rec) → k < spans F → length (x .floors) ≤ 62 * x .count → length (counted F ids k x .floors) ≤ 62 * counted F ids k x .count
     unfolding counted
     counted-floors k x g l = omega (arith, onceAll-length (x .floors) (others F ids k), others-few k g)
+
+    counted-cut : (k : ℕ) (x : Rec) → k < spans F → plain i ≡ true → getD ids k 0 ≡ i → many (mine i) ids ≤ 10000 → x .cut ≡ false → counted F ids k x .cut ≡ false
+    unfolding counted _or_ _and_
+    counted-cut k x g pl e few c =
+        let d = firstSolid (netOf F) ids k in
+        let none : (eqb (length (x .list)) 0 and ltb d 4) and cutShort (netOf F) ids k d ≡ false =
+        unless (eqb (length (x .list)) 0 and ltb d 4) (cutShort (netOf F) ids k d) (λ t.
+        never-cut (netOf F) (answered F [] ok) ids size i (λ z. false≢true (rw z at pl)) k d g (ltb-true _ _ (both (eqb (length (x .list)) 0) (ltb d 4) t .1)) e
+        (omega (arith, many-same (eqb i) (mine i) ids (mine-plain i pl)))) in
+        rw c none
 
     counted-count : (k : ℕ) (x : Rec) → counted F ids k x .count ≡ x .count + 1
     unfolding counted
@@ -151,6 +170,7 @@ module _ (F : Field) (sound : Sound F) (ids : List ℕ) (size : length ids ≡ s
                     ∙ ap (λ (j : ℕ). j + 1) (f .count) ∙ sym (counts k g (rw (← z) (mine-yes i (rw z pl))));
                 list = rw (e, o) (counted-list k (getD rs i (fresh 0)) g (rw z pl) (sym z) (f .list));
                 floors = rw (e, o) (counted-floors k (getD rs i (fresh 0)) g (f .floors));
+                cut = λ few. rw (e, o) (counted-cut k (getD rs i (fresh 0)) g (rw z pl) (sym z) few (f .cut few));
               }
           | no z ↦
               let e : getD (set rs r x) i (fresh 0) ≡ getD rs i (fresh 0) = getD-set-other rs r i x (fresh 0) z in
@@ -159,9 +179,10 @@ module _ (F : Field) (sound : Sound F) (ids : List ℕ) (size : length ids ≡ s
                 count = ap (λ (y : Rec). y .count) e ∙ f .count ∙ sym (passes k g (mine-other i r z));
                 list = rw e (f .list);
                 floors = rw e (f .floors);
+                cut = λ few. rw e (f .cut few);
               }
         ])
-        (λ pl. record { many′ = f .many′; count = f .count ∙ sym (passes k g (mine-not i r pl)); list = f .list; floors = f .floors })
+        (λ pl. record { many′ = f .many′; count = f .count ∙ sym (passes k g (mine-not i r pl)); list = f .list; floors = f .floors; cut = f .cut })
 
     filled : Filled (spans F) (records F ids next)
     unfolding records
@@ -176,6 +197,10 @@ module _ (F : Field) (sound : Sound F) (ids : List ℕ) (size : length ids ≡ s
 
     pub floor-fits : length (at (records F ids next) i .floors) ≤ 62 * at (records F ids next) i .count
     floor-fits = filled .floors
+
+    -- a region of at most 10,000 spans is not marked
+    pub never-marked : many (mine i) ids ≤ 10000 → at (records F ids next) i .cut ≡ false
+    never-marked = filled .cut
 
     pub own-number : ((x : ℕ) → plain (getD ids x 0) ≡ true → getD ids x 0 < next + 1) → at (records F ids next) i .id ≡ i
     unfolding records

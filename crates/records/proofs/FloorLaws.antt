@@ -30,10 +30,10 @@ module _ (ids : List ℕ) (m top k : ℕ) (ws : List ℕ) (K : Keeping ids m top
   pub room-long : e ≤ z
   room-long = omega (arith, K .rows r h .till′)
 
-  pub room-past : 15 * m + 8 * length ids ≤ a
+  pub room-past : 16 * m + 8 * length ids ≤ a
   room-past = omega (arith, floors-past ids m top k ws K r h)
 
-  pub room-inside : z ≤ 15 * m + 70 * length ids
+  pub room-inside : z ≤ 16 * m + 70 * length ids
   room-inside = omega (arith, floors-inside ids m top k ws K r h)
 
   mid-length : length (midOf a (z - a) ws) ≡ z - a
@@ -136,6 +136,7 @@ module _ (ids : List ℕ) (m top k : ℕ) (ws : List ℕ) (K : Keeping ids m top
         stops′ = stop-other;
         lists = λ x g n. list-kept x g;
         floors = floor-other;
+        cuts = λ x g n. kept-pool (15 * m + x) (omega arith) (omega (arith, room-past));
         spare = λ x g. kept (5 * m + x) (omega arith);
       }
 
@@ -180,14 +181,15 @@ module _ (ids : List ℕ) (m top k : ℕ) (ws : List ℕ) (K : Keeping ids m top
             (rw (many-same (walked m ws) (walked m ws₂) ids walked-kept) (K .used))
             (λ j g l. kept-pool j (omega arith) (omega (arith, room-past)) ∙ K .blank j g l);
         same = change-recs m r ws ws₂ change _ h (
-            rec-eq _ _ _ _ _ _ _ _ _ _ _ _ _ _
+            rec-eq _ _ _ _ _ _ _ _ _ _ _ _ _ _ _ _
             (kept r (omega arith))
             (kept (m + r) (omega arith))
             (kept (2 * m + r) (omega arith))
             (ap (λ (x : ℕ). not (eqb x 0)) (kept (4 * m + r) (omega arith)))
             (ap (λ (x : ℕ). not (eqb x 0)) (kept (3 * m + r) (omega arith)))
             (list-kept r h)
-            new)
+            new
+            (ap (λ (x : ℕ). not (eqb x 0)) (kept-pool (15 * m + r) (omega arith) (omega (arith, room-past)))))
             ∙ ap (λ (x : Rec). set (recsOf ws m) r (floored o x)) (sym (recs-at ws m r h));
         size = l₂ ∙ len₁;
         after = λ j g. kept-past j (omega (arith, room-inside));

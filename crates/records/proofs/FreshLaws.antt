@@ -90,8 +90,8 @@ renewed-here ids m i ws₀ ws R = record { low = R .low; size = refl; names = R 
 pub renewed-then : (ids : List ℕ) (m i j : ℕ) (ws₀ ws ws′ : List ℕ) → Renewed ids m i ws₀ ws → Renewed ids m j ws ws′ → Renewed ids m j ws₀ ws′
 renewed-then ids m i j ws₀ ws ws′ P R = record { low = R .low; size = R .size ∙ P .size; names = R .names; empty = R .empty; counts = R .counts; lists = R .lists; floors = R .floors; columns = R .columns; pool = R .pool; after = λ x h. R .after x h ∙ P .after x h }
 
-module _ (ids : List ℕ) (m i : ℕ) (ws : List ℕ) (R : Renewed ids m i ws ws) (h : i < m) (q before : ℕ) (eb : before ≡ slot ids i) (eq : q ≡ 15 * m + 8 * length ids + 62 * before)
-    (few : m < 32768) (spans : length ids ≤ mostSpans) (room : 15 * m + 70 * length ids ≤ length ws) where
+module _ (ids : List ℕ) (m i : ℕ) (ws : List ℕ) (R : Renewed ids m i ws ws) (h : i < m) (q before : ℕ) (eb : before ≡ slot ids i) (eq : q ≡ 16 * m + 8 * length ids + 62 * before)
+    (few : m < 32768) (spans : length ids ≤ mostSpans) (room : 16 * m + 70 * length ids ≤ length ws) where
   at-floors : q ≡ floorsAt ids m i
   unfolding floorsAt
   at-floors = rw (eq, eb)
@@ -99,7 +99,7 @@ module _ (ids : List ℕ) (m i : ℕ) (ws : List ℕ) (R : Renewed ids m i ws ws
   pub floors-fit : q < 4294967296
   floors-fit = omega (arith, slot-room ids i)
 
-  module _ (ws₁ ws₂ ws₃ : List ℕ) (e₁ : ws₁ ≡ set (set ws i i) (m + i) 0) (P : Placed m (7 * m) i (15 * m) (15 * m) ws₁ ws₂) (l₂ : length ws₂ ≡ length ws₁)
+  module _ (ws₁ ws₂ ws₃ : List ℕ) (e₁ : ws₁ ≡ set (set ws i i) (m + i) 0) (P : Placed m (7 * m) i (16 * m) (16 * m) ws₁ ws₂) (l₂ : length ws₂ ≡ length ws₁)
       (Q : Placed m (11 * m) i q q ws₂ ws₃) (l₃ : length ws₃ ≡ length ws₂) where
     len₁ : length ws₁ ≡ length ws
     len₁ = rw e₁ (length-set (set ws i i) (m + i) 0 ∙ length-set ws i i)

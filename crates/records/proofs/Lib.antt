@@ -3,6 +3,7 @@ pub mod JoinLaws
 pub mod CountLaws
 pub mod RowLaws
 pub mod StepLaws
+pub mod MarkLaws
 pub mod FloorLaws
 pub mod TraceLaws
 pub mod ContourLaws

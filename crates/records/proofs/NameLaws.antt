@@ -12,7 +12,7 @@ use Rattle.rules.specs.Base.{keep, tab, upto}
 use Rattle.rules.specs.Field.{Field, cellOf}
 use Rattle.rules.specs.Net.{Net, netOf}
 use Rattle.rules.specs.Growth.{plain}
-use Rattle.rules.specs.Contour.{across, solid, firstSolid, Walker, stride, walk, trim, contour}
+use Rattle.rules.specs.Contour.{across, solid, firstSolid, Walker, stride, walk, trim, walkFrom, contour}
 use Rattle.rules.specs.Records.{Rec, fresh, at, has, once, onceAll, others, counted, addSpan}
 use Rattle.laws.proofs.Basics.{All, append-all, if-ind, upto-ind, store-cases, tab-at, length-tab, all-at, take-all}
 use Rattle.laws.proofs.Plain.{plain-yes}
@@ -54,7 +54,7 @@ module _ (ids : List ℕ) (m : ℕ) (some : 0 < m) (below : (x : ℕ) → plain 
         if-ind (λ (x : Walker). All (λ x. x < 32768 → x < m) (x .listed)) _ (λ _. b) (λ _. walk-under s d f (stride N ids v) b)
 
     contour-under : (s d : ℕ) → All (λ x. x < 32768 → x < m) (contour N ids s d)
-    unfolding contour trim across
+    unfolding contour walkFrom trim across
     contour-under s d =
         let l = walk N ids s d 40000 (record { span = s; dir = d; last = across N ids s d; listed = across N ids s d ∷ [] }) .listed in
         let a : All (λ x. x < 32768 → x < m) l = walk-under s d 40000 _ (id-under _, tt) in

@@ -28,11 +28,11 @@ module _ (ids : List ℕ) (m top k : ℕ) (ws : List ℕ) (K : Keeping ids m top
   count-room i h = omega (arith, K .rows i h .tally, many-take-le (mine i) ids k, mine-le i ids)
 
   -- record i's floors lie in the workspace, past the pool
-  pub floors-past : (i : ℕ) → i < m → 15 * m + 8 * length ids ≤ startOf ws m (11 * m) i
+  pub floors-past : (i : ℕ) → i < m → 16 * m + 8 * length ids ≤ startOf ws m (11 * m) i
   unfolding floorsAt
   floors-past i h = omega (arith, K .rows i h .floors)
 
-  pub floors-inside : (i : ℕ) → i < m → startOf ws m (11 * m) i + 62 * getD ws (m + i) 0 ≤ 15 * m + 70 * length ids
+  pub floors-inside : (i : ℕ) → i < m → startOf ws m (11 * m) i + 62 * getD ws (m + i) 0 ≤ 16 * m + 70 * length ids
   unfolding floorsAt
   floors-inside i h = omega (arith, K .rows i h .floors, count-room i h, slot-room ids i)
 
@@ -65,6 +65,7 @@ module _ (m r : ℕ) (ws ws′ : List ℕ) (C : Change m r ws ws′) where
   rec-other : (x : ℕ) → x < m → (x ≡ r → ⊥) → recAt ws′ m (7 * m) (11 * m) x ≡ recAt ws m (7 * m) (11 * m) x
   rec-other x h n =
       rec-same ws ws′ m (7 * m) (11 * m) x (C .names x h n) (C .counts x h n) (C .areas x h n) (C .overlaps x h n) (C .visits x h n) (C .lists x h n) (C .floors x h n)
+      (C .cuts x h n)
 
   pub change-recs : (y : Rec) → r < m → recAt ws′ m (7 * m) (11 * m) r ≡ y → recsOf ws′ m ≡ set (recsOf ws m) r y
   unfolding recsOf
@@ -94,7 +95,7 @@ module _ (m r : ℕ) (ws ws′ : List ℕ) (C : Change m r ws ws′) where
         }
 
     pub change-keeping : Row ids m top′ k′ r ws′ → top′ ≤ 4 * many (walked m ws′) ids
-        → ((j : ℕ) → 15 * m + top′ ≤ j → j < 15 * m + 8 * length ids → getD ws′ j 0 ≡ 0) → Keeping ids m top′ k′ ws′
+        → ((j : ℕ) → 16 * m + top′ ≤ j → j < 16 * m + 8 * length ids → getD ws′ j 0 ≡ 0) → Keeping ids m top′ k′ ws′
     change-keeping row us bl = record {
       few = K .few;
       spans = K .spans;
@@ -152,6 +153,7 @@ module _ (ids : List ℕ) (m top k : ℕ) (ws : List ℕ) (K : Keeping ids m top
     stops′ = λ x h n. store-end (11 * m) x (omega arith);
     lists = λ x h n. store-list (7 * m) x h (list-parts ids m top k ws K);
     floors = λ x h n. store-list (11 * m) x h (floor-parts ids m top k ws K);
+    cuts = λ x h n. past-set (15 * m + x) (omega arith);
     spare = λ x h. past-set (5 * m + x) (omega arith);
   }
 
@@ -159,8 +161,8 @@ module _ (ids : List ℕ) (m top k : ℕ) (ws : List ℕ) (K : Keeping ids m top
   unfolding walked
   store-walked x = rw (store-start (7 * m) x (omega arith), store-end (7 * m) x (omega arith))
 
-  pub store-blank : (j : ℕ) → 15 * m + top ≤ j → j < 15 * m + 8 * length ids → getD (set ws q v) j 0 ≡ 0
+  pub store-blank : (j : ℕ) → 16 * m + top ≤ j → j < 16 * m + 8 * length ids → getD (set ws q v) j 0 ≡ 0
   store-blank j a b = past-set j (omega arith) ∙ K .blank j a b
 
-  pub store-after : (j : ℕ) → 15 * m + 70 * length ids ≤ j → getD (set ws q v) j 0 ≡ getD ws j 0
+  pub store-after : (j : ℕ) → 16 * m + 70 * length ids ≤ j → getD (set ws q v) j 0 ≡ getD ws j 0
   store-after j a = past-set j (omega arith)

@@ -76,14 +76,15 @@ module _ (ids : List ℕ) (m top k : ℕ) (ws : List ℕ) (K : Keeping ids m top
       record {
         keeping = store-keeping (k + 1) q v low C (λ x n. many-passes (mine x) ids k g (mine-other x (getD ids k 0) (λ z. n (z ∙ sym e)))) (omega arith) (omega (arith, K .rows r h .tally));
         same = change-recs m r ws (set ws q v) C _ h (
-            rec-eq _ _ _ _ _ _ _ _ _ _ _ _ _ _
+            rec-eq _ _ _ _ _ _ _ _ _ _ _ _ _ _ _ _
             (getD-set-other ws q r v 0 (λ z. omega arith))
             (here ∙ add-one (getD ws q 0))
             (getD-set-other ws q (2 * m + r) v 0 (λ z. omega arith))
             (ap (λ (x : ℕ). not (eqb x 0)) (getD-set-other ws q (4 * m + r) v 0 (λ z. omega arith)))
             (ap (λ (x : ℕ). not (eqb x 0)) (getD-set-other ws q (3 * m + r) v 0 (λ z. omega arith)))
             (store-list ids m top k ws K q v low (7 * m) r h (list-parts ids m top k ws K))
-            (store-list ids m top k ws K q v low (11 * m) r h (floor-parts ids m top k ws K)))
+            (store-list ids m top k ws K q v low (11 * m) r h (floor-parts ids m top k ws K))
+            (ap (λ (x : ℕ). not (eqb x 0)) (getD-set-other ws q (15 * m + r) v 0 (λ z. omega arith))))
             ∙ ap (λ (x : Rec). set (recsOf ws m) r (plusOne x)) (sym (recs-at ws m r h));
         size = C .size;
         after = store-after ids m top k ws K q v low;
@@ -101,14 +102,15 @@ module _ (ids : List ℕ) (m top k : ℕ) (ws : List ℕ) (K : Keeping ids m top
       record {
         keeping = store-keeping k q 1 low C (λ x n. refl) (omega arith) (cnt ∙ K .rows r h .tally);
         same = change-recs m r ws (set ws q 1) C _ h (
-            rec-eq _ _ _ _ _ _ _ _ _ _ _ _ _ _
+            rec-eq _ _ _ _ _ _ _ _ _ _ _ _ _ _ _ _
             (getD-set-other ws q r 1 0 (λ z. omega arith))
             cnt
             (getD-set-other ws q (2 * m + r) 1 0 (λ z. omega arith))
             (ap (λ (x : ℕ). not (eqb x 0)) (getD-set-other ws q (4 * m + r) 1 0 (λ z. omega arith)))
             (ap (λ (x : ℕ). not (eqb x 0)) here ∙ sym (or-yes (not (eqb (getD ws q 0) 0))))
             (store-list ids m top k ws K q 1 low (7 * m) r h (list-parts ids m top k ws K))
-            (store-list ids m top k ws K q 1 low (11 * m) r h (floor-parts ids m top k ws K)))
+            (store-list ids m top k ws K q 1 low (11 * m) r h (floor-parts ids m top k ws K))
+            (ap (λ (x : ℕ). not (eqb x 0)) (getD-set-other ws q (15 * m + r) 1 0 (λ z. omega arith))))
             ∙ ap (λ (x : Rec). set (recsOf ws m) r (overlaid true x)) (sym (recs-at ws m r h));
         size = C .size;
         after = store-after ids m top k ws K q 1 low;
@@ -129,14 +131,15 @@ module _ (ids : List ℕ) (m top k : ℕ) (ws : List ℕ) (K : Keeping ids m top
       record {
         keeping = store-keeping k q a low C (λ x n. refl) (omega arith) (cnt ∙ K .rows r h .tally);
         same = change-recs m r ws (set ws q a) C _ h (
-            rec-eq _ _ _ _ _ _ _ _ _ _ _ _ _ _
+            rec-eq _ _ _ _ _ _ _ _ _ _ _ _ _ _ _ _
             (getD-set-other ws q r a 0 (λ z. omega arith))
             cnt
             here
             (ap (λ (x : ℕ). not (eqb x 0)) (getD-set-other ws q (4 * m + r) a 0 (λ z. omega arith)))
             (ap (λ (x : ℕ). not (eqb x 0)) (getD-set-other ws q (3 * m + r) a 0 (λ z. omega arith)))
             (store-list ids m top k ws K q a low (7 * m) r h (list-parts ids m top k ws K))
-            (store-list ids m top k ws K q a low (11 * m) r h (floor-parts ids m top k ws K)))
+            (store-list ids m top k ws K q a low (11 * m) r h (floor-parts ids m top k ws K))
+            (ap (λ (x : ℕ). not (eqb x 0)) (getD-set-other ws q (15 * m + r) a 0 (λ z. omega arith))))
             ∙ ap (λ (x : Rec). set (recsOf ws m) r (withArea a x)) (sym (recs-at ws m r h));
         size = C .size;
         after = store-after ids m top k ws K q a low;

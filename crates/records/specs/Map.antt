@@ -1,5 +1,6 @@
 -- Where the records lie in the workspace, m of them, of n spans, on the map of crate `table`: seven columns, the tables of the lists' and of the
--- floors' parts, the pool's two halves, 4n each, and then the floors, 62 numbers for each span. Past them stands the table of neighbours.
+-- floors' parts, the column of the marks, the pool's two halves, 4n each, and then the floors, 62 numbers for each span. Past them stands the
+-- table of neighbours.
 use Prim.Native.Nat.{ℕ, _+_, _*_}
 use Rattle.contour.specs.declared.walk.Pool.{Pool}
 use Rattle.records.specs.declared.grow.Plan.{Plan}
@@ -17,7 +18,7 @@ abbrev pub floorPartsAt : ℕ → ℕ
 floorPartsAt m = 11 * m
 
 abbrev pub poolAt : ℕ → ℕ
-poolAt m = 15 * m
+poolAt m = 16 * m
 
 -- where the floors begin
 abbrev pub floorsFrom : ℕ → ℕ → ℕ
@@ -28,7 +29,7 @@ abbrev pub floorRoom : ℕ
 floorRoom = 62
 
 abbrev pub recordsEnd : ℕ → ℕ → ℕ
-recordsEnd m n = 15 * m + 70 * n
+recordsEnd m n = 16 * m + 70 * n
 
 -- the pool, and the table of neighbours
 abbrev pub poolIn : Plan → Pool

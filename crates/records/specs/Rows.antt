@@ -8,11 +8,11 @@ use lib.Dec.{eqb, ltb}
 use Rattle.rules.specs.Base.{_and_, _or_, if_then_else_, many}
 use Rattle.rules.specs.Net.{Net, areaOf}
 use Rattle.rules.specs.Growth.{plain}
-use Rattle.rules.specs.Contour.{firstSolid, contour}
+use Rattle.rules.specs.Contour.{firstSolid, contour, cutShort}
 use Rattle.rules.specs.Records.{Rec, at, onceAll}
 use Rattle.rules.specs.Refusals.{mostSpans}
 use Rattle.contour.specs.Pool.{pooled}
-use Rattle.table.specs.View.{startOf, endOf, listAt, recsOf}
+use Rattle.table.specs.View.{startOf, endOf, listAt, marksAt, recsOf}
 use Rattle.records.specs.Map.{listsAt, floorPartsAt, poolAt, floorsFrom, floorRoom, recordsEnd, border}
 use Rattle.records.specs.Cell.{twins, othersFrom}
 
@@ -67,6 +67,7 @@ pub record Change (m r : ℕ) (ws ws′ : List ℕ) : Type 0 where
   pub stops′ : (x : ℕ) → x < m → (x ≡ r → ⊥) → endOf ws′ m (floorPartsAt m) x ≡ endOf ws m (floorPartsAt m) x
   pub lists : (x : ℕ) → x < m → (x ≡ r → ⊥) → listAt ws′ m (listsAt m) x ≡ listAt ws m (listsAt m) x
   pub floors : (x : ℕ) → x < m → (x ≡ r → ⊥) → listAt ws′ m (floorPartsAt m) x ≡ listAt ws m (floorPartsAt m) x
+  pub cuts : (x : ℕ) → x < m → (x ≡ r → ⊥) → getD ws′ (marksAt m + x) 0 ≡ getD ws (marksAt m + x) 0
   pub spare : (x : ℕ) → x < 2 * m → getD ws′ (5 * m + x) 0 ≡ getD ws (5 * m + x) 0
 
 -- one span more is counted in record r than has given its floors
@@ -81,27 +82,42 @@ pub record Traced (l : List ℕ) (ids : List ℕ) (base top : ℕ) (ws ws′ : L
 -- ---- the rule's `counted`, part by part
 
 unfoldable pub plusOne : Rec → Rec
-plusOne r = record { id = r .id; count = suc (r .count); area = r .area; visited = r .visited; overlap = r .overlap; list = r .list; floors = r .floors }
+plusOne r = record { id = r .id; count = suc (r .count); area = r .area; visited = r .visited; overlap = r .overlap; list = r .list; floors = r .floors; cut = r .cut }
 
 unfoldable pub overlaid : Bool → Rec → Rec
-overlaid b r = record { id = r .id; count = r .count; area = r .area; visited = r .visited; overlap = r .overlap or b; list = r .list; floors = r .floors }
+overlaid b r = record { id = r .id; count = r .count; area = r .area; visited = r .visited; overlap = r .overlap or b; list = r .list; floors = r .floors; cut = r .cut }
 
 -- overlap as it is set
 unfoldable pub marked : ℕ → ℕ → Bool → List ℕ → List ℕ
 marked m r b ws = if b then set ws (3 * m + r) 1 else ws
 
 unfoldable pub floored : List ℕ → Rec → Rec
-floored o r = record { id = r .id; count = r .count; area = r .area; visited = r .visited; overlap = r .overlap; list = r .list; floors = onceAll (r .floors) o }
+floored o r = record { id = r .id; count = r .count; area = r .area; visited = r .visited; overlap = r .overlap; list = r .list; floors = onceAll (r .floors) o; cut = r .cut }
 
 -- the list that a span gives: that of its contour, if it has a solid edge
 unfoldable pub traced : Net → List ℕ → ℕ → List ℕ
 traced N ids s = if ltb (firstSolid N ids s) 4 then contour N ids s (firstSolid N ids s) else []
 
 unfoldable pub withArea : ℕ → Rec → Rec
-withArea a r = record { id = r .id; count = r .count; area = a; visited = r .visited; overlap = r .overlap; list = r .list; floors = r .floors }
+withArea a r = record { id = r .id; count = r .count; area = a; visited = r .visited; overlap = r .overlap; list = r .list; floors = r .floors; cut = r .cut }
 
 unfoldable pub withList : List ℕ → Rec → Rec
-withList l r = record { id = r .id; count = r .count; area = r .area; visited = r .visited; overlap = r .overlap; list = l; floors = r .floors }
+withList l r = record { id = r .id; count = r .count; area = r .area; visited = r .visited; overlap = r .overlap; list = l; floors = r .floors; cut = r .cut }
+
+-- was the walk of that contour cut short?
+unfoldable pub tracedCut : Net → List ℕ → ℕ → Bool
+tracedCut N ids s = ltb (firstSolid N ids s) 4 and cutShort N ids s (firstSolid N ids s)
+
+unfoldable pub withCut : Bool → Rec → Rec
+withCut b r = record { id = r .id; count = r .count; area = r .area; visited = r .visited; overlap = r .overlap; list = r .list; floors = r .floors; cut = r .cut or b }
+
+-- the mark as it is set
+unfoldable pub cutMarked : ℕ → ℕ → Bool → List ℕ → List ℕ
+cutMarked m r b ws = if b then set ws (marksAt m + r) 1 else ws
+
+-- the list, and the mark where its walk was cut short
+unfoldable pub withContour : List ℕ → Bool → Rec → Rec
+withContour l b r = withCut b (withList l r)
 
 -- while the list is empty, the record takes the span's area and contour
 unfoldable pub contoured : Net → List ℕ → ℕ → Rec → Rec
@@ -115,6 +131,7 @@ contoured N ids s r =
       overlap = r .overlap;
       list = if empty then traced N ids s else r .list;
       floors = r .floors;
+      cut = r .cut or (empty and tracedCut N ids s);
     }
 
 -- what a span takes from its cell, the n spans from t on

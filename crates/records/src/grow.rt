@@ -7,11 +7,13 @@ use crate::map::LISTS;
 use crate::map::POOL;
 use contour::edge::Edge;
 use contour::edge::first_solid;
+use contour::walk::Contour;
 use contour::walk::Pool;
 use contour::walk::walk_contour;
 use field::place::SpanIx;
 use field::place::connections;
 use field::read::at8;
+use table::MARKS;
 use table::at;
 use table::end_of;
 use table::set_part;
@@ -26,7 +28,7 @@ ghost use Rattle.contour.specs.Pool.{Start};
 ghost use Rattle.table.specs.View.{startOf, endOf};
 ghost use Rattle.records.specs.Map.{poolIn, listsAt};
 ghost use Rattle.records.specs.Cell.{twins, othersFrom, Within};
-ghost use Rattle.records.specs.Rows.{Keeping, Step, Slack, Traced, traced, marked, floored, withList, contoured, celled};
+ghost use Rattle.records.specs.Rows.{Keeping, Step, Slack, Traced, traced, tracedCut, marked, cutMarked, floored, withContour, contoured, celled};
 ghost use Rattle.records.specs.Stock.{Reach};
 
 // Overlap is set where another span of a cell has the id r too.
@@ -69,16 +71,20 @@ fn add_floors(
     taken.twin
 }
 
-// The contour from the span is listed in the pool from top on, if the span has a solid edge. Gives the end.
-fn trace(con: &[u8], ids: &[u16], ws: &mut [u16], pool: Pool, span: SpanIx, top: usize) -> usize
+// The contour from the span is listed in the pool from top on, if the span has a solid edge.
+fn trace(con: &[u8], ids: &[u16], ws: &mut [u16], pool: Pool, span: SpanIx, top: usize) -> Contour
     requires { ⌜ Start pool (now con) (now ids) (span .0) top (now ws) ⌝ }
     ensures { λ r. ⌜ (let list = traced (netAt (pool .table) (now (ids .entry)) (now (ws .entry))) (now (ids .entry)) (span .0) in
-        Traced list (now (ids .entry)) (pool .at) top (now (ws .entry)) (now (ws .exit)) r) ⌝ }
+        Traced list (now (ids .entry)) (pool .at) top (now (ws .entry)) (now (ws .exit)) (r .end)) ⌝ }
+    ensures { λ r. ⌜ r .cut ≡ tracedCut (netAt (pool .table) (now (ids .entry)) (now (ws .entry))) (now (ids .entry)) (span .0) ⌝ }
 {
     let cons = connections(con, span);
     match first_solid(ids, ws, pool.table, cons, span) {
         Edge::At(d) => walk_contour(con, ids, ws, pool, span, d, top),
-        Edge::Nowhere => top,
+        Edge::Nowhere => Contour {
+            end: top,
+            cut: false,
+        },
     }
 }
 
@@ -88,7 +94,17 @@ pub struct Plan {
     pub table: usize,
 }
 
-// Record r takes the contour from the span as its list. Gives the pool's new end.
+// The mark of record r is set where its contour was cut short.
+fn add_cut(ws: &mut [u16], m: usize, r: usize, cut: bool)
+    requires { ⌜ (r < m) × (16 * m ≤ length (now ws)) ⌝ }
+    ensures { λ _. ⌜ now (ws .exit) ≡ cutMarked m r cut (now (ws .entry)) ⌝ }
+{
+    if cut {
+        ws[MARKS * m + r] = 1;
+    }
+}
+
+// Record r takes the contour from the span as its list, with its mark. Gives the pool's new end.
 fn add_list(
     con: &[u8],
     ids: &[u16],
@@ -102,16 +118,20 @@ fn add_list(
     requires { ⌜ Keeping (now ids) (plan .records) top (span .0 + 1) (now ws) × (r ≡ getD (now ids) (span .0) 0) × (r < plan .records) ⌝ }
     requires { ⌜ (let m = plan .records in
         endOf (now ws) m (listsAt m) r ≤ startOf (now ws) m (listsAt m) r) ⌝ }
-    ensures { λ t. ⌜ (let list = traced (netAt (plan .table) (now (ids .entry)) (now (ws .entry))) (now (ids .entry)) (span .0) in
-        Step (withList list) (now (ids .entry)) (plan .records) r t (span .0 + 1) (now (ws .entry)) (now (ws .exit))) ⌝ }
+    ensures { λ t. ⌜ (let net = netAt (plan .table) (now (ids .entry)) (now (ws .entry)) in
+        let f = withContour (traced net (now (ids .entry)) (span .0)) (tracedCut net (now (ids .entry)) (span .0)) in
+        Step f (now (ids .entry)) (plan .records) r t (span .0 + 1) (now (ws .entry)) (now (ws .exit))) ⌝ }
 {
     let m = plan.records;
     let pool = Pool {
         at: POOL * m,
         table: plan.table,
     };
-    let end = trace(con, ids, ws, pool, span, top);
+    let c = trace(con, ids, ws, pool, span, top);
+    let end = c.end;
+    let cut = c.cut;
     set_part(ws, m, LISTS * m, r, POOL * m + top, POOL * m + end);
+    add_cut(ws, m, r, cut);
     end
 }
 

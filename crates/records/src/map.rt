@@ -9,7 +9,7 @@ pub(crate) const LISTS: usize = 7;
 
 pub(crate) const FLOORS: usize = 11;
 
-pub(crate) const POOL: usize = 15;
+pub(crate) const POOL: usize = 16;
 
 // What the pool's two halves take: numbers a span.
 pub(crate) const HALVES: usize = 8;

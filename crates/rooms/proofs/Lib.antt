@@ -11,3 +11,4 @@ pub mod Numbering
 pub mod Rooms
 pub mod Entry
 pub mod FailedFlood
+pub mod Bare

@@ -14,7 +14,7 @@ use Rattle.rules.specs.Base.{if_then_else_, upto, tab}
 use Rattle.rules.specs.Field.{Field}
 use Rattle.rules.specs.Net.{Net, netOf, spans, near, areaOf}
 use Rattle.rules.specs.Growth.{plain}
-use Rattle.rules.specs.Contour.{across, solid, Walker, stride, walk, trim, contour}
+use Rattle.rules.specs.Contour.{across, solid, Walker, stride, walk, trim, walkFrom, contour}
 use Rattle.rules.specs.Records.{Rec, fresh, at, counted, addSpan, records}
 use Rattle.laws.proofs.Basics.{both, if-ind, upto-ind, All, All-map, nonzero-in, tab-at, tab-each, length-tab, append-all, take-all}
 use Rattle.rooms.specs.Rooms.{Plain, Bears}
@@ -83,7 +83,7 @@ module _ (N : Net) (ids : List ℕ) (j : ℕ) (some : j ≡ 0 → ⊥) where
   trim-all P l h = if-ind (All P) _ (λ _. take-all P (length l - 1) l h) (λ _. h)
 
   contour-list : (s d : ℕ) → Bears ids j s → d < 4 → All (Listed N ids j) (contour N ids s d)
-  unfolding contour across
+  unfolding contour walkFrom across
   contour-list s d o h =
       trim-all (Listed N ids j) _
       (walk-walks s d 40000 _ (record { own = o; four = h; list = (edge s d o h, tt) }) .list)

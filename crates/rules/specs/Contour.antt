@@ -49,8 +49,15 @@ walk N ids s d (suc k) v =
 unfoldable pub trim : List ℕ → List ℕ
 trim l = let n = length l in if ltb 1 n and eqb (getD l 0 0) (getD l (n - 1) 0) then take (n - 1) l else l
 
--- "The id across the starting edge is listed."
-unfoldable pub contour : Net → List ℕ → ℕ → ℕ → List ℕ
-contour N ids s d =
+-- "The id across the starting edge is listed.": the walker at the end of the walk from edge d of span s
+unfoldable pub walkFrom : Net → List ℕ → ℕ → ℕ → Walker
+walkFrom N ids s d =
     let r = across N ids s d in
-    trim (walk N ids s d 40000 (record { span = s; dir = d; last = r; listed = r ∷ [] }) .listed)
+    walk N ids s d 40000 (record { span = s; dir = d; last = r; listed = r ∷ [] })
+
+unfoldable pub contour : Net → List ℕ → ℕ → ℕ → List ℕ
+contour N ids s d = trim (walkFrom N ids s d .listed)
+
+-- "use up the 40,000 steps without coming back to its start": the walker is not back where its walk ends
+unfoldable pub cutShort : Net → List ℕ → ℕ → ℕ → Bool
+cutShort N ids s d = let v = walkFrom N ids s d in not (eqb (v .span) s and eqb (v .dir) d)

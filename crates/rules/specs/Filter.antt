@@ -9,11 +9,11 @@ use Rattle.rules.specs.Growth.{flagged}
 use Rattle.rules.specs.Records.{Rec, at}
 
 unfoldable pub seen : Rec → Rec
-seen r = record { id = r .id; count = r .count; area = r .area; visited = true; overlap = r .overlap; list = r .list; floors = r .floors }
+seen r = record { id = r .id; count = r .count; area = r .area; visited = true; overlap = r .overlap; list = r .list; floors = r .floors; cut = r .cut }
 
 -- "gets id 0 and count 0"
 unfoldable pub removed : Rec → Rec
-removed r = record { id = 0; count = 0; area = r .area; visited = r .visited; overlap = r .overlap; list = r .list; floors = r .floors }
+removed r = record { id = 0; count = 0; area = r .area; visited = r .visited; overlap = r .overlap; list = r .list; floors = r .floors; cut = r .cut }
 
 -- a group under way
 pub record Gather : Type 0 where

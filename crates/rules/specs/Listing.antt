@@ -45,10 +45,11 @@ unfoldable pub rowsText : Field → List ℕ → ℕ → ℕ → List ℕ
 rowsText F ids zero z = []
 rowsText F ids (suc k) z = rowText F ids z ++ rowsText F ids k (suc z)
 
--- the first line, then the rows
+-- the first line, which "ends with `cut` and that number", then the rows
 unfoldable pub listing : Field → ℕ → RegionOutcome → List ℕ
 listing F most r =
-    text "max_distance " ++ (decimal most ++ (text " max_region " ++ (decimal (r .most) ++ (text " overlaps " ++ (decimal (r .over) ++ (10 ∷ []))))))
+    text "max_distance " ++ (decimal most ++ (text " max_region " ++ (decimal (r .most) ++ (text " overlaps " ++ (decimal (r .over)
+    ++ (text " cut " ++ (decimal (r .cut) ++ (10 ∷ []))))))))
     ++ rowsText F (r .ids) (F .h) 0
 
 -- "A refused run prints the one line `refused` and its number."

@@ -1,6 +1,6 @@
 -- The merge, in the Rust's steps `can_merge_with`, `merge_regions`, `remove_adjacent_neighbours` and `replace_neighbour`.
 use Prim.Native.Nat.{ℕ, zero, suc, _+_, _%_}
-use mathlib.Core.Bool.{Bool, not}
+use mathlib.Core.Bool.{Bool, false, not}
 use mathlib.Core.List.{List, [], _∷_, _++_, map}
 use lib.ListN.{length, getD, set, take, drop}
 use lib.Dec.{leb, ltb, eqb}
@@ -46,7 +46,7 @@ dedup (suc k) i l =
 unfoldable pub tidy : List ℕ → List ℕ
 tidy l = dedup (suc (length l)) 0 l
 
--- `merge_regions`: "the neighbour absorbs the record", a absorbs b
+-- `merge_regions`: "the neighbour absorbs the record", a absorbs b; the mark is "carried into the record that absorbs it on a merge"
 unfoldable pub absorbed : Rec → Rec → Rec
 absorbed a b = record {
   id = a .id;
@@ -56,11 +56,12 @@ absorbed a b = record {
   overlap = a .overlap;
   list = tidy (around (a .list) (place (a .list) (b .id)) ++ around (b .list) (place (b .list) (a .id)));
   floors = onceAll (a .floors) (b .floors);
+  cut = a .cut or b .cut;
 }
 
--- "the record keeps count 0 and no list"
+-- "the record keeps count 0 and no list", and its mark counts in its absorber alone
 unfoldable pub emptied : Rec → Rec
-emptied r = record { id = r .id; count = 0; area = r .area; visited = r .visited; overlap = r .overlap; list = []; floors = r .floors }
+emptied r = record { id = r .id; count = 0; area = r .area; visited = r .visited; overlap = r .overlap; list = []; floors = r .floors; cut = false }
 
 abbrev pub swapped : ℕ → ℕ → List ℕ → List ℕ
 swapped old new l = map (λ r. if eqb r old then new else r) l
@@ -77,6 +78,7 @@ renamed old new r =
       overlap = r .overlap;
       list = if has (r .list) old then tidy (swapped old new (r .list)) else r .list;
       floors = swapped old new (r .floors);
+      cut = r .cut;
     }
 
 pub record Merge : Type 0 where

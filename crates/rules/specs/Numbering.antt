@@ -24,17 +24,23 @@ unfoldable pub overlaps : List Rec → ℕ
 overlaps [] = 0
 overlaps (r ∷ rs) = if r .overlap then suc (overlaps rs) else overlaps rs
 
--- most is max_region, over the overlap count
+-- "the number of unmerged records that bear it, removed ones included": a record that another absorbed bears no mark
+unfoldable pub cuts : List Rec → ℕ
+cuts [] = 0
+cuts (r ∷ rs) = if r .cut then suc (cuts rs) else cuts rs
+
+-- most is max_region, over the overlap count, cut the number of records whose contour was cut short
 pub record Regions : Type 0 where
   pub ids : List ℕ
   pub most : ℕ
   pub over : ℕ
+  pub cut : ℕ
 
 -- "max_region is the last number given. Flagged ids stay."
 unfoldable pub numbered : List Rec → List ℕ → Regions
 numbered rs ids =
     let l = live rs [] in
-    record { ids = map (λ r. if flagged r then r else numberOf l (at rs r .id)) ids; most = length l; over = overlaps rs }
+    record { ids = map (λ r. if flagged r then r else numberOf l (at rs r .id)) ids; most = length l; over = overlaps rs; cut = cuts rs }
 
 -- records, filter, merge, numbering, of grown ids and the next id
 unfoldable pub regions : Field → ℕ → ℕ → List ℕ → ℕ → Regions

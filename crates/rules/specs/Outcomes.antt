@@ -33,11 +33,12 @@ pub record Sizes : Type 0 where
   pub least : ℕ
   pub merge : ℕ
 
--- "It gives max_region and the overlap count": most is max_region, over the overlap count
+-- "It gives max_region and the overlap count": most is max_region, over the overlap count; cut is the number of records cut short
 pub record RegionOutcome : Type 0 where
   pub refused : ℕ
   pub most : ℕ
   pub over : ℕ
+  pub cut : ℕ
   pub workspace : List ℕ
   pub ids : List ℕ
 
@@ -50,6 +51,6 @@ regionOutcome F dist most z work₀ ids₀ =
     let stop = stops F dist most (z .border) in
     let g = grown F dist most (z .border) in
     let v = regions F (z .least) (z .merge) (g .ids) (g .next) in
-    if not (eqb r 0) then record { refused = r; most = 0; over = 0; workspace = work₀; ids = ids₀ } else
-    if not (eqb stop 0) then record { refused = stop; most = 0; over = 0; workspace = replicate (length work₀) 0; ids = ids₀ } else
-    record { refused = 0; most = v .most; over = v .over; workspace = replicate (length work₀) 0; ids = v .ids }
+    if not (eqb r 0) then record { refused = r; most = 0; over = 0; cut = 0; workspace = work₀; ids = ids₀ } else
+    if not (eqb stop 0) then record { refused = stop; most = 0; over = 0; cut = 0; workspace = replicate (length work₀) 0; ids = ids₀ } else
+    record { refused = 0; most = v .most; over = v .over; cut = v .cut; workspace = replicate (length work₀) 0; ids = v .ids }

@@ -8,9 +8,9 @@ use Rattle.rules.specs.Base.{_or_, _and_, if_then_else_, upto, tab, keep
 use Rattle.rules.specs.Field.{Field, spans, cellOf}
 use Rattle.rules.specs.Net.{netOf, areaOf}
 use Rattle.rules.specs.Growth.{plain}
-use Rattle.rules.specs.Contour.{firstSolid, contour}
+use Rattle.rules.specs.Contour.{firstSolid, contour, cutShort}
 
--- a record: list is its neighbour list, floors its floor list
+-- a record: list is its neighbour list, floors its floor list, cut the mark of a contour that was cut short
 pub record Rec : Type 0 where
   pub id : ℕ
   pub count : ℕ
@@ -19,9 +19,10 @@ pub record Rec : Type 0 where
   pub overlap : Bool
   pub list : List ℕ
   pub floors : List ℕ
+  pub cut : Bool
 
 unfoldable pub fresh : ℕ → Rec
-fresh i = record { id = i; count = 0; area = 0; visited = false; overlap = false; list = []; floors = [] }
+fresh i = record { id = i; count = 0; area = 0; visited = false; overlap = false; list = []; floors = []; cut = false }
 
 unfoldable pub at : List Rec → ℕ → Rec
 at rs i = getD rs i (fresh 0)
@@ -45,7 +46,7 @@ others F ids s =
 
 -- "each span .. adds one to its record. Unflagged nonzero ids below or above it in the cell join the floor list once; its own id there
 -- sets overlap. While the neighbour list is empty, the record takes the area, and the contour is walked from the span if it has a
--- solid edge, starting at the first solid direction of four, or none."
+-- solid edge, starting at the first solid direction of four, or none." "Every region record gets a mark" for a contour cut short.
 unfoldable pub counted : Field → List ℕ → ℕ → Rec → Rec
 counted F ids s r =
     let o = others F ids s in
@@ -59,6 +60,7 @@ counted F ids s r =
       overlap = r .overlap or has o (getD ids s 0);
       list = if empty and ltb d 4 then contour (netOf F) ids s d else r .list;
       floors = onceAll (r .floors) o;
+      cut = r .cut or (empty and ltb d 4 and cutShort (netOf F) ids s d);
     }
 
 -- "each span with an unflagged nonzero id adds one to its record"

@@ -1,5 +1,6 @@
 -- The records as they lie in the workspace: m records, seven columns of m numbers from 0 on (id, count, area, overlap, visited, two to spare),
--- and two tables of parts, four columns each: lists at s, floors at t. Starts and ends are places in the workspace, past the columns.
+-- two tables of parts, four columns each: lists at s, floors at t, and the column of the marks `cut` at 15m. Starts and ends are places in the
+-- workspace, past the columns.
 use Prim.Native.Nat.{ℕ, _+_, _-_, _*_, _≤_, _<_}
 use mathlib.Core.Path.{_≡_}
 use mathlib.Core.Bool.{not}
@@ -28,6 +29,10 @@ endOf ws m s r = wide ws m (s + 2 * m + r)
 unfoldable pub listAt : List ℕ → ℕ → ℕ → ℕ → List ℕ
 listAt ws m s r = part (startOf ws m s r) (endOf ws m s r) ws
 
+-- the column of the marks `cut`
+abbrev pub marksAt : ℕ → ℕ
+marksAt m = 15 * m
+
 unfoldable pub recAt : List ℕ → ℕ → ℕ → ℕ → ℕ → Rec
 recAt ws m s t r = record {
   id = getD ws r 0;
@@ -37,6 +42,7 @@ recAt ws m s t r = record {
   visited = not (eqb (getD ws (4 * m + r) 0) 0);
   list = listAt ws m s r;
   floors = listAt ws m t r;
+  cut = not (eqb (getD ws (marksAt m + r) 0) 0);
 }
 
 unfoldable pub view : List ℕ → ℕ → ℕ → ℕ → List Rec

@@ -9,6 +9,9 @@ ghost use Prim.Native.Nat.{_+_, _*_, _/_, _%_, _≤_, _<_};
 ghost use lib.ListN.{length, getD, set};
 ghost use Rattle.table.specs.View.{wide, startOf, endOf, listAt, Parts, Placed};
 
+// Where the column of the marks `cut` begins: numbers a record.
+pub const MARKS: usize = 15;
+
 // Entry i.
 pub fn at(l: &[u16], i: usize) -> usize
     requires { ⌜ i < length (now l) ⌝ }

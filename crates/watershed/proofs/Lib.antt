@@ -5,3 +5,4 @@ pub mod Outcome
 pub mod RegionOutcome
 pub mod Rooms
 pub mod StageLaws
+pub mod Cuts

@@ -21,7 +21,7 @@ use Rattle.checker.specs.declared.Verdict.the-variants as verdict
 use Rattle.field.proofs.Passed.{sound-of, own-lengths}
 use Rattle.watershed.specs.declared.regions.RegionAnswer.{RegionAnswer}
 use Rattle.watershed.specs.declared.regions.RegionAnswer.the-variants.{Refused, Done}
-use Rattle.watershed.specs.Answer.{regionsRefusedBy, maxRegionIn, overlapsIn, AnswersRegions}
+use Rattle.watershed.specs.Answer.{regionsRefusedBy, maxRegionIn, overlapsIn, cutIn, AnswersRegions}
 use Rattle.watershed.specs.Stages.{Admitted}
 use Rattle.watershed.proofs.FarLaws.{short-seven}
 use Rattle.checker.proofs.Numbers.{number-pos, number-same}
@@ -42,7 +42,7 @@ module _ (F : Field) (dist : List ℕ) (most : ℕ) (ws ids : List ℕ) (v : Ver
   regions-refused z r y =
       let n : numberOf r ≡ regionRefusal F (length dist ∷ length ids ∷ []) (length ws) dist most = ap verdictNumber (sym y) ∙ e in
       let f = ne-eqb (regionRefusal F (length dist ∷ length ids ∷ []) (length ws) dist most) 0 (λ k. omega (arith, number-pos r)) in
-      record { refused = rw f n; most = rw f; over = rw f; workspace = rw f; ids = rw f }
+      record { refused = rw f n; most = rw f; over = rw f; cut = rw f; workspace = rw f; ids = rw f }
 
   module _ (y : v ≡ verdict.Sound) where
     none : regionRefusal F (length dist ∷ length ids ∷ []) (length ws) dist most ≡ 0
@@ -59,32 +59,33 @@ module _ (F : Field) (dist : List ℕ) (most : ℕ) (ws ids : List ℕ) (v : Ver
           room = roomy F (length dist ∷ length ids ∷ []) (length ws) dist most none;
         }
 
-    pub regions-done : (z : Sizes) (k o : ℕ) (ws′ ids′ : List ℕ)
-        → record { ids = ids′; most = k; over = o } ≡ regions F (z .least) (z .merge) (grown F dist most (z .border) .ids) (grown F dist most (z .border) .next)
-        → ws′ ≡ replicate (length ws) 0 → AnswersRegions (regionOutcome F dist most z ws ids) (Done k o) ws′ ids′
+    pub regions-done : (z : Sizes) (k o u : ℕ) (ws′ ids′ : List ℕ)
+        → record { ids = ids′; most = k; over = o; cut = u } ≡ regions F (z .least) (z .merge) (grown F dist most (z .border) .ids) (grown F dist most (z .border) .next)
+        → ws′ ≡ replicate (length ws) 0 → AnswersRegions (regionOutcome F dist most z ws ids) (Done k o u) ws′ ids′
     unfolding regionOutcome if_then_else_
-    regions-done z k o ws′ ids′ p q =
+    regions-done z k o u ws′ ids′ p q =
         let f = eq-eqb (regionRefusal F (length dist ∷ length ids ∷ []) (length ws) dist most) 0 none in
         record {
           refused = rw f;
           most = rw f (ap (λ (g : Regions). g .most) p);
           over = rw f (ap (λ (g : Regions). g .over) p);
+          cut = rw f (ap (λ (g : Regions). g .cut) p);
           workspace = rw f q;
           ids = rw f (ap (λ (g : Regions). g .ids) p);
         }
 
 -- ---------------------------------------------------------------- one answer
 
-answer-same : (a b : RegionAnswer) → regionsRefusedBy a ≡ regionsRefusedBy b → maxRegionIn a ≡ maxRegionIn b → overlapsIn a ≡ overlapsIn b → a ≡ b
-answer-same (Refused r) (Refused s) e f g = ap Refused (number-same r s e)
-answer-same (Refused r) (Done k o) e f g = absurd (omega (arith, number-pos r))
-answer-same (Done k o) (Refused s) e f g = absurd (omega (arith, number-pos s))
-answer-same (Done k o) (Done j p) e f g = rw (f, g)
+answer-same : (a b : RegionAnswer) → regionsRefusedBy a ≡ regionsRefusedBy b → maxRegionIn a ≡ maxRegionIn b → overlapsIn a ≡ overlapsIn b → cutIn a ≡ cutIn b → a ≡ b
+answer-same (Refused r) (Refused s) e f g h = ap Refused (number-same r s e)
+answer-same (Refused r) (Done k o u) e f g h = absurd (omega (arith, number-pos r))
+answer-same (Done k o u) (Refused s) e f g h = absurd (omega (arith, number-pos s))
+answer-same (Done k o u) (Done j p v) e f g h = rw (f, g, h)
 
 -- two results that satisfy the promise of `build_regions` coincide
 pub one-region-answer : (o : RegionOutcome) (a b : RegionAnswer) (l m x y : List ℕ) → AnswersRegions o a l m → AnswersRegions o b x y → (a ≡ b) × (l ≡ x) × (m ≡ y)
 one-region-answer o a b l m x y p q = (
-  answer-same a b (p .refused ∙ sym (q .refused)) (p .most ∙ sym (q .most)) (p .over ∙ sym (q .over)),
+  answer-same a b (p .refused ∙ sym (q .refused)) (p .most ∙ sym (q .most)) (p .over ∙ sym (q .over)) (p .cut ∙ sym (q .cut)),
   p .workspace ∙ sym (q .workspace),
   p .ids ∙ sym (q .ids),
 )

@@ -33,8 +33,8 @@ call-gives-rooms F dist most z ws ids r ws′ ids′ bytes a =
 -- as the code's second way out has it
 pub done-gives-rooms : (F : Field) (dist : List ℕ) (most : ℕ) (ws ids : List ℕ) (v : Verdict)
     → verdictNumber v ≡ regionRefusal F (length dist ∷ length ids ∷ []) (length ws) dist most → v ≡ verdict.Sound
-    → (z : Sizes) (k o : ℕ) (ws′ ids′ : List ℕ)
-    → record { ids = ids′; most = k; over = o } ≡ regions F (z .least) (z .merge) (grown F dist most (z .border) .ids) (grown F dist most (z .border) .next)
-    → ws′ ≡ replicate (length ws) 0 → Bytes F → GivesRooms F (z .border) (Done k o) ids′
-done-gives-rooms F dist most ws ids v e y z k o ws′ ids′ p q bytes =
-    call-gives-rooms F dist most z ws ids (Done k o) ws′ ids′ bytes (regions-done F dist most ws ids v e y z k o ws′ ids′ p q)
+    → (z : Sizes) (k o u : ℕ) (ws′ ids′ : List ℕ)
+    → record { ids = ids′; most = k; over = o; cut = u } ≡ regions F (z .least) (z .merge) (grown F dist most (z .border) .ids) (grown F dist most (z .border) .next)
+    → ws′ ≡ replicate (length ws) 0 → Bytes F → GivesRooms F (z .border) (Done k o u) ids′
+done-gives-rooms F dist most ws ids v e y z k o u ws′ ids′ p q bytes =
+    call-gives-rooms F dist most z ws ids (Done k o u) ws′ ids′ bytes (regions-done F dist most ws ids v e y z k o u ws′ ids′ p q)

@@ -29,24 +29,29 @@ pub record Answers (o : DistanceOutcome) (r : DistanceAnswer) (l m : List ℕ) :
   pub raw : l ≡ o .raw
   pub blurred : m ≡ o .blurred
 
--- the same of the region entry's answer: the refusal number, max_region, the overlap count
+-- the same of the region entry's answer: the refusal number, max_region, the overlap count, the number of records cut short
 abbrev pub regionsRefusedBy : RegionAnswer → ℕ
 regionsRefusedBy (region.Refused r) = numberOf r
-regionsRefusedBy (region.Done m o) = 0
+regionsRefusedBy (region.Done m o u) = 0
 
 abbrev pub maxRegionIn : RegionAnswer → ℕ
 maxRegionIn (region.Refused r) = 0
-maxRegionIn (region.Done m o) = m
+maxRegionIn (region.Done m o u) = m
 
 abbrev pub overlapsIn : RegionAnswer → ℕ
 overlapsIn (region.Refused r) = 0
-overlapsIn (region.Done m o) = o
+overlapsIn (region.Done m o u) = o
+
+abbrev pub cutIn : RegionAnswer → ℕ
+cutIn (region.Refused r) = 0
+cutIn (region.Done m o u) = u
 
 -- an answer, with ws the workspace and l the ids at exit, is the outcome
 pub record AnswersRegions (o : RegionOutcome) (r : RegionAnswer) (ws l : List ℕ) : Type 0 where
   pub refused : regionsRefusedBy r ≡ o .refused
   pub most : maxRegionIn r ≡ o .most
   pub over : overlapsIn r ≡ o .over
+  pub cut : cutIn r ≡ o .cut
   pub workspace : ws ≡ o .workspace
   pub ids : l ≡ o .ids
 

@@ -25,10 +25,10 @@ ghost use Rattle.checker.specs.Answer.{verdictNumber};
 ghost use Rattle.watershed.specs.Answer.{AnswersRegions, GivesRooms};
 ghost use Rattle.watershed.specs.Stages.{Admitted, ownRefusal};
 
-// What the region entry gives: the refusal, or max_region and the overlap count.
+// What the region entry gives: the refusal, or max_region, the overlap count, and the number of records cut short.
 pub enum RegionAnswer {
     Refused(Refusal),
-    Done(u16, u16),
+    Done(u16, u16, u16),
 }
 
 // Refusal 8.
@@ -102,7 +102,7 @@ fn find_regions(
     requires { ⌜ Admitted (lent w h (now index) (now count) (now area) (now con)) (now dist) (now ws) (now ids) ⌝ }
     ensures { λ r. ⌜ (let F = lent w h (now (index .entry)) (now (count .entry)) (now (area .entry)) (now (con .entry)) in
         let g = grown F (now (dist .entry)) «max_distance» «border_size» in
-        record { ids = now (ids .exit); most = r .«max_region»; over = r .overlaps }
+        record { ids = now (ids .exit); most = r .«max_region»; over = r .overlaps; cut = r .cut }
         ≡ regions F «min_region_area» «merge_region_area» (g .ids) (g .next)) ⌝ }
     ensures { λ _. ⌜ now (ws .exit) ≡ replicate (length (now (ws .entry))) 0 ⌝ }
     ensures bytes { λ _. ⌜ Bytes (lent w h (now (index .entry)) (now (count .entry)) (now (area .entry)) (now (con .entry))) ⌝ }
@@ -186,7 +186,7 @@ pub fn build_regions(
                 workspace,
                 ids,
             );
-            RegionAnswer::Done(r.max_region, r.overlaps)
+            RegionAnswer::Done(r.max_region, r.overlaps, r.cut)
         }
     }
 }

@@ -95,11 +95,13 @@ impl Call {
                 refusal: 0,
                 max_region: done.max_region,
                 overlaps: u16::try_from(done.overlaps).map_err(|_| "too many overlaps")?,
+                cut: u16::try_from(done.cut).map_err(|_| "too many contours cut short")?,
             },
             Err(refusal) => RegionAnswer {
                 refusal: *refusal as u16,
                 max_region: 0,
                 overlaps: 0,
+                cut: 0,
             },
         };
         same(answer, numbers)?;
@@ -113,7 +115,12 @@ impl Call {
                 } else {
                     ""
                 };
-                Ok(format!("regions{overlaps}"))
+                let cut = if done.cut > 0 {
+                    format!(", {} cut short", done.cut)
+                } else {
+                    String::new()
+                };
+                Ok(format!("regions{overlaps}{cut}"))
             }
             Err(refusal) => {
                 ids.is_kept("ids")?;
@@ -123,7 +130,8 @@ impl Call {
         }
     }
 
-    fn regions(&self) -> Result<run::Regions, Refusal> {
+    /// What the Rust answers, and the model beside it.
+    pub fn regions(&self) -> Result<run::Regions, Refusal> {
         refusals::region_entry(
             &self.field,
             &self.distances,

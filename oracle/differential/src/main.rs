@@ -9,8 +9,10 @@ mod lent;
 mod library;
 mod small;
 mod tally;
+mod winding;
 
 use std::{env, path::PathBuf, process::ExitCode};
+use tally::Tally;
 
 /// One file is mended by the program for so many edited fields.
 const FILES_IN: u64 = 7;
@@ -46,6 +48,14 @@ fn run() -> Result<bool, String> {
     if large.fields > 0 {
         print!("calls on large fields by kind, and their answers:\n{large}");
     }
+    let winding = if order.large > 0 {
+        winding::compare()
+    } else {
+        Tally::default()
+    };
+    if winding.fields > 0 {
+        print!("winding corridors, and their answers:\n{winding}");
+    }
     let edited = edited::compare(seed, order.edited);
     if edited.fields > 0 {
         print!("mendings of edited fields by edit, and their answers:\n{edited}");
@@ -55,17 +65,23 @@ fn run() -> Result<bool, String> {
     if files.fields > 0 {
         print!("files mended by kind, and their answers:\n{files}");
     }
-    if [&small, &large, &edited, &files]
+    if [&small, &large, &winding, &edited, &files]
         .iter()
         .any(|tally| tally.is_enough())
     {
         println!("{ended}");
     }
-    let differences =
-        small.differences + large.differences + edited.differences + files.differences;
+    let differences = small.differences
+        + large.differences
+        + winding.differences
+        + edited.differences
+        + files.differences;
     println!(
         "compared {} small, {} large, {} edited fields, {} files mended: {differences} differences",
-        small.fields, large.fields, edited.fields, files.fields
+        small.fields,
+        large.fields + winding.fields,
+        edited.fields,
+        files.fields
     );
     Ok(differences == 0)
 }

@@ -195,7 +195,7 @@ fn label(answer: &str) -> &str {
     let first = answer.lines().next().unwrap_or_default();
     if !first.starts_with("max_distance") {
         first
-    } else if first.ends_with(" overlaps 0") {
+    } else if first.ends_with(" overlaps 0 cut 0") {
         "listing"
     } else {
         "listing with overlaps"

@@ -53,12 +53,12 @@ impl fmt::Display for Tally {
     fn fmt(&self, f: &mut fmt::Formatter) -> fmt::Result {
         let mut sums: BTreeMap<&str, usize> = BTreeMap::new();
         for (kind, answers) in &self.counts {
-            writeln!(f, "  {kind:16}{}", row(answers.iter()))?;
+            writeln!(f, "  {kind:15} {}", row(answers.iter()))?;
             for (answer, count) in answers {
                 *sums.entry(answer).or_default() += count;
             }
         }
-        writeln!(f, "  {:16}{}", "in all", row(sums.iter()))
+        writeln!(f, "  {:15} {}", "in all", row(sums.iter()))
     }
 }
 

@@ -23,10 +23,12 @@ pub fn listing(field: &Field, max_distance: u16, regions: &Regions) -> String {
     let Regions {
         max_region,
         overlaps,
+        cut,
         ..
     } = regions;
-    let mut text =
-        format!("max_distance {max_distance} max_region {max_region} overlaps {overlaps}\n");
+    let mut text = format!(
+        "max_distance {max_distance} max_region {max_region} overlaps {overlaps} cut {cut}\n"
+    );
     for z in 0..field.h {
         let row: Vec<_> = (0..field.w)
             .map(|x| cell_text(field, field.cell_at(x, z), &regions.ids))

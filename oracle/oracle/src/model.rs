@@ -54,6 +54,8 @@ pub struct Regions {
     pub max_region: u16,
     /// How many records have overlap set.
     pub overlaps: usize,
+    /// How many records bear the mark of a contour cut short (request A8).
+    pub cut: usize,
 }
 
 impl Model {

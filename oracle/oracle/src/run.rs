@@ -2,6 +2,7 @@
 
 use crate::{
     field::{Field, Settings},
+    model::Model,
     refusals::{self, Refusal},
 };
 use rerecast::{AreaType, CompactCell, CompactHeightfield, CompactSpan, RegionId};
@@ -26,6 +27,8 @@ pub struct Regions {
     pub max_region: u16,
     /// How many records have overlap set.
     pub overlaps: usize,
+    /// How many records bear the mark of a contour cut short (request A8).
+    pub cut: usize,
 }
 
 /// The distance entry.
@@ -62,15 +65,31 @@ pub fn regions(
             settings.merge_area,
         )
         .expect("ids don't run out below 32,001 spans");
+    let ids: Vec<_> = heightfield
+        .spans
+        .iter()
+        .map(|span| span.region.bits())
+        .collect();
     Ok(Regions {
-        ids: heightfield
-            .spans
-            .iter()
-            .map(|span| span.region.bits())
-            .collect(),
         max_region: heightfield.max_region.bits(),
         overlaps: tracing::take_len().unwrap_or(0),
+        cut: cut(field, distances, max_distance, settings, &ids),
+        ids,
     })
+}
+
+/// The number that the unchanged Rust does not tell: how many contours were cut short. The model walks them again; it
+/// counts only where its ids are the Rust's.
+fn cut(
+    field: &Field,
+    distances: &[u16],
+    max_distance: u16,
+    settings: Settings,
+    ids: &[u16],
+) -> usize {
+    let modelled = Model::RIGHT.regions(field, distances, max_distance, settings);
+    assert_eq!(modelled.ids, ids, "the model and the unchanged Rust differ");
+    modelled.cut
 }
 
 /// Both entries in turn.

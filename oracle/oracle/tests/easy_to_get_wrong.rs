@@ -39,7 +39,7 @@ fn flagged_corner_objects_and_a_failed_flood_takes_no_number() {
         con: con.concat(),
     };
     let text = "\
-max_distance 2 max_region 7 overlaps 0
+max_distance 2 max_region 7 overlaps 0 cut 0
 - - -
 - 6/5 -
 32769 6 32770
@@ -70,7 +70,7 @@ fn flagged_neighbour_ends_the_looking() {
         con: con.concat(),
     };
     let text = "\
-max_distance 2 max_region 7 overlaps 0
+max_distance 2 max_region 7 overlaps 0 cut 0
 - - 32771 - -
 32769 5/6 5 5 -
 - - 5 - -

@@ -49,7 +49,8 @@ fn empty_field() {
             Regions {
                 ids: vec![],
                 max_region,
-                overlaps: 0
+                overlaps: 0,
+                cut: 0
             }
         );
     }
@@ -64,7 +65,8 @@ fn open_1_by_1() {
             Regions {
                 ids: vec![id],
                 max_region,
-                overlaps: 0
+                overlaps: 0,
+                cut: 0
             }
         );
     }
@@ -94,7 +96,8 @@ fn open_3_by_3() {
             Regions {
                 ids: vec![id; 9],
                 max_region,
-                overlaps: 0
+                overlaps: 0,
+                cut: 0
             }
         );
     }
@@ -112,7 +115,8 @@ fn area_0_3_by_3() {
         Regions {
             ids: vec![0; 9],
             max_region: 1,
-            overlaps: 0
+            overlaps: 0,
+            cut: 0
         }
     );
 }
@@ -159,7 +163,8 @@ fn open_5_by_5_with_border() {
         Regions {
             ids,
             max_region: 6,
-            overlaps: 0
+            overlaps: 0,
+            cut: 0
         }
     );
 }
@@ -183,7 +188,8 @@ fn two_areas_6_by_3() {
         Regions {
             ids,
             max_region: 3,
-            overlaps: 0
+            overlaps: 0,
+            cut: 0
         }
     );
 }

@@ -13,13 +13,13 @@ fn answer(field: Field, settings: Settings) -> String {
 
 #[test]
 fn example_of_document_01() {
-    let text = "max_distance 2 max_region 2 overlaps 0\n1 1 1\n1 1 1\n1 1 1\n";
+    let text = "max_distance 2 max_region 2 overlaps 0 cut 0\n1 1 1\n1 1 1\n1 1 1\n";
     assert_eq!(answer(Field::open(3, 3), Settings::default()), text);
 }
 
 #[test]
 fn rows_without_cells_are_empty_lines() {
-    let numbers = "max_distance 0 max_region 1 overlaps 0\n";
+    let numbers = "max_distance 0 max_region 1 overlaps 0 cut 0\n";
     assert_eq!(
         answer(Field::open(0, 3), Settings::default()),
         format!("{numbers}\n\n\n")
@@ -34,7 +34,7 @@ fn flagged_ids_are_decimal() {
         border_size: 1,
         ..Settings::default()
     };
-    let text = "max_distance 0 max_region 5 overlaps 0\n32771 32771\n32772 32772\n";
+    let text = "max_distance 0 max_region 5 overlaps 0 cut 0\n32771 32771\n32772 32772\n";
     assert_eq!(answer(Field::open(2, 2), settings), text);
 }
 
@@ -52,8 +52,9 @@ fn layers_are_joined_and_empty_cells_marked() {
         ids: vec![1, 0, 32_769, 4, 5, 6],
         max_region: 7,
         overlaps: 2,
+        cut: 0,
     };
-    let text = "max_distance 9 max_region 7 overlaps 2\n1/0/32769 - 4\n5/6 - -\n";
+    let text = "max_distance 9 max_region 7 overlaps 2 cut 0\n1/0/32769 - 4\n5/6 - -\n";
     assert_eq!(listing::listing(&field, 9, &regions), text);
 }
 
@@ -74,6 +75,6 @@ fn two_floors() {
             .collect(),
         ..floor
     };
-    let text = "max_distance 2 max_region 3 overlaps 0\n1/2 1/2 1/2\n1/2 1/2 1/2\n1/2 1/2 1/2\n";
+    let text = "max_distance 2 max_region 3 overlaps 0 cut 0\n1/2 1/2 1/2\n1/2 1/2 1/2\n1/2 1/2 1/2\n";
     assert_eq!(answer(field, Settings::default()), text);
 }

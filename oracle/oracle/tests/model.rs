@@ -32,6 +32,7 @@ fn check(name: &str, case: &Case, given: Option<(&[u16], u16)>) {
         "{name}: max_region"
     );
     assert_eq!(modelled.overlaps, regions.overlaps, "{name}: overlaps");
+    assert_eq!(modelled.cut, regions.cut, "{name}: cut");
 }
 
 #[test]

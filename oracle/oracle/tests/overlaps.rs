@@ -42,7 +42,8 @@ fn region_above_itself_counts() {
         Regions {
             ids: vec![1; 5],
             max_region: 2,
-            overlaps: 1
+            overlaps: 1,
+            cut: 0
         }
     );
 }
@@ -54,7 +55,8 @@ fn removed_region_counts() {
         Regions {
             ids: vec![0; 5],
             max_region: 1,
-            overlaps: 1
+            overlaps: 1,
+            cut: 0
         }
     );
 }

@@ -29,7 +29,7 @@ write-listing-requires : tie.Need-write-listing-requires
 write-listing-requires c κs =
     let t = c .before .before .before .before in
     let b = t .before .before .before .before .before .before .before in
-    listable _ _ _ _ _ _ _ _ _ _ _ _ _ _ (b .build-regions .result) _ _ (b .before .before .before .before .before .before .before .before .before .before .before .pre) (b .build-regions .ensures .0) (t .before .m .given .1) (b .build-regions .kept .1 .1 .1 .1 .1 .1 .1 .1 .1 .1 .1 .1 .0)
+    listable _ _ _ _ _ _ _ _ _ _ _ _ _ _ (b .build-regions .result) _ _ _ (b .before .before .before .before .before .before .before .before .before .before .before .pre) (b .build-regions .ensures .0) (t .before .m .given .1) (b .build-regions .kept .1 .1 .1 .1 .1 .1 .1 .1 .1 .1 .1 .1 .0)
 
 same-length : tie.Need-same-length
 same-length c = search needs

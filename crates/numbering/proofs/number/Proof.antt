@@ -1,4 +1,4 @@
--- `numbering::number` meets its contract. Three calls: the numbers, the spans, the overlap count: `number-done` puts them together.
+-- `numbering::number` meets its contract. Four calls: the numbers, the spans, the overlap count, the count of marks: `number-done` puts them together.
 use Rattle.numbering.proofs.NumberLaws.{column-kept}
 use Rattle.numbering.proofs.NumberedLaws.{marked-after, number-done}
 use borrow.Author.Needs.{needs}
@@ -10,6 +10,9 @@ mul-a c = search needs
 
 mul-b : tie.Need-mul-b
 mul-b c = search needs
+
+mul-c : tie.Need-mul-c
+mul-c c = search needs
 
 number-all-requires : tie.Need-number-all-requires
 number-all-requires c κs = search needs
@@ -35,6 +38,24 @@ part-nonzero-end c = search needs
 nonzero-requires : tie.Need-nonzero-requires
 nonzero-requires c κs = search needs
 
+add-nonzero-2 : tie.Need-add-nonzero-2
+add-nonzero-2 c = search needs
+
+mul-nonzero-2 : tie.Need-mul-nonzero-2
+mul-nonzero-2 c = search needs
+
+sub-nonzero-2 : tie.Need-sub-nonzero-2
+sub-nonzero-2 c = search needs
+
+part-nonzero-start-2 : tie.Need-part-nonzero-start-2
+part-nonzero-start-2 c = search needs
+
+part-nonzero-end-2 : tie.Need-part-nonzero-end-2
+part-nonzero-end-2 c = search needs
+
+nonzero-requires-2 : tie.Need-nonzero-requires-2
+nonzero-requires-2 c κs = search needs
+
 same-length : tie.Need-same-length
 same-length c = search needs
 
@@ -50,6 +71,7 @@ number-spec =
     (tie.spec
     mul-a
     mul-b
+    mul-c
     number-all-requires
     new-ids-requires
     add-nonzero
@@ -58,6 +80,12 @@ number-spec =
     part-nonzero-start
     part-nonzero-end
     nonzero-requires
+    add-nonzero-2
+    mul-nonzero-2
+    sub-nonzero-2
+    part-nonzero-start-2
+    part-nonzero-end-2
+    nonzero-requires-2
     same-length
     same-length-2
     returns)

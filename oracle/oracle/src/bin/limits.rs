@@ -87,7 +87,10 @@ fn region_answer(call: &RegionCall) -> String {
     .and_then(|()| run::regions(&field, call.distances, call.max_distance, settings));
     let (line, ids, workspace) = match result {
         Ok(done) => (
-            format!("max_region {} overlaps {}", done.max_region, done.overlaps),
+            format!(
+                "max_region {} overlaps {} cut {}",
+                done.max_region, done.overlaps, done.cut
+            ),
             done.ids,
             vec![0; call.workspace],
         ),

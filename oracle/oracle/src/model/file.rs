@@ -117,8 +117,8 @@ impl Rest<'_> {
 /// The numbers, then a line for each row.
 pub fn listing(model: Model, field: &Field, max_distance: u16, regions: &Regions) -> String {
     let mut text = format!(
-        "max_distance {max_distance} max_region {} overlaps {}\n",
-        regions.max_region, regions.overlaps
+        "max_distance {max_distance} max_region {} overlaps {} cut {}\n",
+        regions.max_region, regions.overlaps, regions.cut
     );
     let mut ids = regions.ids.iter();
     let mut counts = field.count.iter();

@@ -56,6 +56,7 @@ pub fn finish(
         ids,
         max_region,
         overlaps,
+        cut: table.records.iter().filter(|record| record.cut).count(),
     }
 }
 
@@ -299,6 +300,8 @@ impl Table {
         if !self.has(Mistake::MergeCountNotAdded) {
             self.records[neighbour].count += record.count;
         }
+        self.records[neighbour].cut |= record.cut;
+        self.records[i].cut = false;
         self.records[i].count = 0;
         if !self.has(Mistake::MergeKeepsList) {
             self.records[i].neighbours.clear();

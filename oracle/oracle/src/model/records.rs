@@ -16,6 +16,8 @@ pub struct Record {
     pub neighbours: Vec<u16>,
     /// The floor list: the ids below and above it.
     pub floors: Vec<u16>,
+    /// Whether its contour was cut short, or that of a record it absorbed (request A8).
+    pub cut: bool,
 }
 
 /// The records, from 0 to the next id.
@@ -98,7 +100,7 @@ fn add_contour(model: Model, spans: &Spans, ids: &[u16], span: usize, record: &m
         .into_iter()
         .find(|&d| contour.is_solid(Walker { span, d }));
     if let Some(d) = solid {
-        record.neighbours = contour.walk(Walker { span, d });
+        (record.neighbours, record.cut) = contour.walk(Walker { span, d });
     }
 }
 
@@ -135,8 +137,8 @@ impl Contour<'_> {
     }
 
     /// The ids listed on the way round from the start, or on the first 40,000 steps of it, each turn and each move
-    /// being one.
-    fn walk(&self, start: Walker) -> Vec<u16> {
+    /// being one; and whether those were used up before the walker was back.
+    fn walk(&self, start: Walker) -> (Vec<u16>, bool) {
         let steps = match self.model.mistake {
             Some(Mistake::WalkSteps39999) => 39_999,
             Some(Mistake::WalkSteps40001) => 40_001,
@@ -150,6 +152,7 @@ impl Contour<'_> {
             listed.clear();
         }
         let mut walker = start;
+        let mut cut = true;
         for _ in 0..steps {
             if self.is_solid(walker) {
                 let id = self.across(walker);
@@ -164,6 +167,7 @@ impl Contour<'_> {
             let is_back =
                 walker == start || (self.has(Mistake::WalkEndsAtSpan) && walker.span == start.span);
             if is_back {
+                cut = false;
                 break;
             }
         }
@@ -171,7 +175,7 @@ impl Contour<'_> {
         if droppable && listed.last() == listed.first() && !self.has(Mistake::WalkLastStays) {
             listed.pop();
         }
-        listed
+        (listed, cut)
     }
 
     /// At a solid edge, an id other than the last listed is listed.

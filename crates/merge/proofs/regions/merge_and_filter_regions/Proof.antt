@@ -2,6 +2,7 @@
 -- and the merge with floors that stay gives the rule's numbers (`numbered-top`).
 use Rattle.merge.proofs.TopLaws.{filtered-pool, filtered-joined, numbered-top, calm-column, calm-blank}
 use borrow.Author.Needs.{needs}
+use native.Mathlib.Omega.{arith}
 use Rattle.merge.proofs.regions.merge_and_filter_regions.Statement.{statement}
 use Rattle.merge.proofs.regions.merge_and_filter_regions.Tie as tie
 
@@ -24,7 +25,10 @@ merge-all-requires c κs = let f = c .before .before .before .filter in (
 )
 
 number-requires : tie.Need-number-requires
-number-requires c κs = (search calm-column, (search calm-blank, c .before .before .before .before .before .before .before .before .before .before .before .before .pre .named))
+number-requires c κs = let g = c .before .before .before .before in
+    let f = g .before .before .before .before in
+    let p = f .before .before .before .before .pre in
+    (search calm-column, (search calm-blank, (p .named, omega (arith, p .room, f .filter .kept .0, g .merge-all .kept .0))))
 
 same-length : tie.Need-same-length
 same-length c = search needs
@@ -34,7 +38,7 @@ same-length-2 c = search needs
 
 returns : tie.Need-returns
 returns c = let f = c .before .before .before .before .before .before .before .before .before .before .before .before .before .filter in
-    numbered-top _ _ _ _ (c .before .before .before .before .before .before .before .before .before .before .before .before .before .before .before .before .before .pre) _ _ (f .ensures .0) (f .ensures .1 .0) (f .ensures .1 .1) (f .kept .0) _ _ _ _ _ (c .before .before .before .before .before .before .before .before .before .merge-all .ensures .0) (c .before .before .before .before .number .ensures .0)
+    numbered-top _ _ _ _ (c .before .before .before .before .before .before .before .before .before .before .before .before .before .before .before .before .before .pre) _ _ (f .ensures .0) (f .ensures .1 .0) (f .ensures .1 .1) (f .kept .0) _ _ _ _ _ _ (c .before .before .before .before .before .before .before .before .before .merge-all .ensures .0) (c .before .before .before .before .number .ensures .0)
 
 pub merge-and-filter-regions-spec : {M : Type 1} → statement M
 merge-and-filter-regions-spec =

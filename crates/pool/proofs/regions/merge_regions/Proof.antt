@@ -1,6 +1,6 @@
--- `pool::regions::merge_regions` meets its contract. Lists, counts, ids, in this order: `region-recs` is the rule's outcome; counts and ids lie below
--- the table, so `region-pool` and `region-laid` follow from how `relist` leaves the lists.
-use Rattle.pool.proofs.RegionLaws.{spans-fit, columns-in, region-recs, region-pool, region-laid}
+-- `pool::regions::merge_regions` meets its contract. Lists, counts, ids, marks, in this order: `region-recs` is the rule's outcome; counts and ids lie below
+-- the table, the marks between table and pool, so `region-pool` and `region-laid` follow from how `relist` leaves the lists.
+use Rattle.pool.proofs.RegionLaws.{spans-fit, columns-in, marks-in, region-recs, region-pool, region-laid}
 use borrow.Author.Needs.{needs}
 use Rattle.pool.proofs.regions.merge_regions.Statement.{statement}
 use Rattle.pool.proofs.regions.merge_regions.Tie as tie
@@ -32,17 +32,22 @@ part-swap-end c = search needs
 swap-requires : tie.Need-swap-requires
 swap-requires c κs = search needs
 
+carry-mark-requires : tie.Need-carry-mark-requires
+carry-mark-requires c κs = (search (needs, marks-in), (search needs, search needs))
+
 same-length : tie.Need-same-length
 same-length c = search needs
 
 returns : tie.Need-returns
-returns c = let r = c .before .before .before .before .before .before .before .before .before .before .relist in
-    let k = c .before .before .before .before .before .before .recount in
-    let s = c .before .before .swap in (
-      region-recs _ _ _ _ _ _ _ _ _ _ _ _ _ _ (c .before .before .before .before .before .before .before .before .before .before .before .before .before .before .pre .0) (c .before .before .before .before .before .before .before .before .before .before .before .before .before .before .pre .1 .1) (r .ensures .0) (r .ensures .1 .0) (r .kept .0) (k .ensures) (k .kept .0) (s .ensures) (s .kept .0),
+returns c = let k = c .before .before in
+    let s = k .before .before .before .before in
+    let n = s .before .before .before .before in
+    let r = n .before .before .before .before in
+    let p = r .before .before .before .before .pre in (
+      region-recs _ _ _ _ _ _ _ _ _ _ _ _ _ _ (p .0) (p .1 .1) (r .relist .ensures .0) (r .relist .ensures .1 .0) (r .relist .kept .0) (n .recount .ensures) (n .recount .kept .0) (s .swap .ensures) (s .swap .kept .0) _ (k .carry-mark .ensures),
       (
-        region-pool _ _ _ _ _ _ _ _ _ _ _ _ _ _ (c .before .before .before .before .before .before .before .before .before .before .before .before .before .before .pre .0) (c .before .before .before .before .before .before .before .before .before .before .before .before .before .before .pre .1 .1) (r .ensures .0) (r .ensures .1 .0) (r .kept .0) (k .ensures) (k .kept .0) (s .ensures) (s .kept .0),
-        region-laid _ _ _ _ _ _ _ _ _ _ _ _ _ _ (c .before .before .before .before .before .before .before .before .before .before .before .before .before .before .pre .0) (c .before .before .before .before .before .before .before .before .before .before .before .before .before .before .pre .1 .1) (r .ensures .0) (r .ensures .1 .0) (r .kept .0) (k .ensures) (k .kept .0) (s .ensures) (s .kept .0) _ (r .ensures .1 .1),
+        region-pool _ _ _ _ _ _ _ _ _ _ _ _ _ _ (p .0) (p .1 .1) (r .relist .ensures .0) (r .relist .ensures .1 .0) (r .relist .kept .0) (n .recount .ensures) (n .recount .kept .0) (s .swap .ensures) (s .swap .kept .0) _ (k .carry-mark .ensures),
+        region-laid _ _ _ _ _ _ _ _ _ _ _ _ _ _ (p .0) (p .1 .1) (r .relist .ensures .0) (r .relist .ensures .1 .0) (r .relist .kept .0) (n .recount .ensures) (n .recount .kept .0) (s .swap .ensures) (s .swap .kept .0) _ (k .carry-mark .ensures) _ (r .relist .ensures .1 .1),
       ),
     )
 
@@ -59,5 +64,6 @@ merge-regions-spec =
     part-swap-start
     part-swap-end
     swap-requires
+    carry-mark-requires
     same-length
     returns)

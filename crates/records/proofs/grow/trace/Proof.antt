@@ -1,7 +1,7 @@
 -- `trace` leaves the rule's traced list in the pool: the contour from the first solid direction, or nothing.
--- The pool has zeros from top on.
+-- The pool has zeros from top on. No contour is not cut short.
 use Rattle.contour.proofs.PoolLaws.{start-con, start-at}
-use Rattle.records.proofs.TraceLaws.{trace-dir, trace-at, trace-none}
+use Rattle.records.proofs.TraceLaws.{trace-dir, trace-at, trace-cut-at, trace-none, trace-cut-none}
 use borrow.Author.Needs.{needs}
 use Rattle.records.proofs.grow.trace.Statement.{statement}
 use Rattle.records.proofs.grow.trace.Tie as tie
@@ -37,14 +37,21 @@ returns c = let k = c .before .before in
     let d = k .before .before .before in
     let f = d .before .before in
     let e = f .first-solid .ensures in
-    trace-at _ _ _ _ _ _ (S (f .before .before) .pre) _ (e .0) (e .1) _ (d .d .given .1) _ _ (k .walk-contour .ensures .0) (k .walk-contour .ensures .1)
+    let p = S (f .before .before) .pre in
+    let w = k .walk-contour .ensures in (
+      trace-at _ _ _ _ _ _ p _ (e .0) (e .1) _ (d .d .given .1) _ _ (w .0) (w .1 .0),
+      trace-cut-at _ _ _ _ _ _ p _ (e .0) (e .1) _ (d .d .given .1) _ (w .1 .1),
+    )
 
 same-length-2 : tie.Need-same-length-2
 same-length-2 c = search needs
 
 returns-2 : tie.Need-returns-2
 returns-2 c = let f = c .before .before in
-    trace-none _ _ _ _ _ _ (S (f .before .before) .pre) _ (f .first-solid .ensures .0) (c .enum-told .given .1)
+    let p = S (f .before .before) .pre in (
+      trace-none _ _ _ _ _ _ p _ (f .first-solid .ensures .0) (c .enum-told .given .1),
+      trace-cut-none _ _ _ _ _ _ p _ (f .first-solid .ensures .0) (c .enum-told .given .1),
+    )
 
 pub trace-spec : {M : Type 1} → statement M
 trace-spec =

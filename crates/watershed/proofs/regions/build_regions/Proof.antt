@@ -40,8 +40,8 @@ returns-2 c =
     let ids = now (s .args .ids) in
     let said = t .before .before .check-regions .ensures in
     let sound = t .enum-told .given .1 in (
-      regions-done _ _ _ ws ids _ said sound _ _ _ _ _ (e .0) (e .1 .0),
-      done-gives-rooms _ _ _ ws ids _ said sound _ _ _ _ _ (e .0) (e .1 .0) (e .1 .1),
+      regions-done _ _ _ ws ids _ said sound _ _ _ _ _ _ (e .0) (e .1 .0),
+      done-gives-rooms _ _ _ ws ids _ said sound _ _ _ _ _ _ (e .0) (e .1 .0) (e .1 .1),
     )
 
 pub build-regions-spec : {M : Type 1} → statement M

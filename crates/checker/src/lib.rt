@@ -16,7 +16,7 @@ ghost use Rattle.rules.specs.Refusals.{refusal, wrongLength, mostSpans};
 ghost use Rattle.field.specs.Lent.{lent};
 ghost use Rattle.checker.specs.Answer.{numberOf, verdictNumber};
 
-// Document 01's table of refusals. The last two are the region entry's.
+// The table of refusals of documents 01 and 02. The last four are the region entry's.
 pub enum Refusal {
     TooWide,
     TooMany,
@@ -26,9 +26,11 @@ pub enum Refusal {
     WrongBack,
     TooShort,
     TooFar,
+    NoIds,
+    NoSum,
 }
 
-// Document 01's number of a refusal.
+// The number of a refusal.
 pub fn refusal_number(r: Refusal) -> u16
     ensures { λ k. ⌜ k ≡ numberOf r ⌝ }
 {
@@ -41,6 +43,8 @@ pub fn refusal_number(r: Refusal) -> u16
         Refusal::WrongBack => 6,
         Refusal::TooShort => 7,
         Refusal::TooFar => 8,
+        Refusal::NoIds => 12,
+        Refusal::NoSum => 13,
     }
 }
 

@@ -20,7 +20,7 @@ use Rattle.net.specs.Table.{netAt, Mutual}
 use Rattle.net.proofs.Tables.{net-same}
 use Rattle.flood.specs.Stack.{marksAt}
 use Rattle.expand.specs.Layout.{listAt, vacant, pushAt, fillAt, Kept, Given, Filling, Last}
-use Rattle.expand.proofs.Lists.{listAt-cong, listAt-snoc, length-listAt, listAt-sec, seam, marks-same}
+use Rattle.expand.proofs.Lists.{listAt-cong, listAt-snoc, listAt-sec, seam, marks-same}
 use Rattle.expand.proofs.Ends.{sizes-kept}
 
 -- ---------------------------------------------------------------- one span

@@ -23,7 +23,8 @@ use Rattle.expand.specs.Layout.{fresh, listAt, changesAt, applied, Unhel
 use Rattle.expand.specs.Front.{Up, Entry, Queued, Found, FoundAt, Strayed, Moved, Beside, Writing, frontOf, Front}
 use Rattle.expand.proofs.Lists.{listAt-cong, marks-same}
 use Rattle.expand.proofs.Halves.{finds-used, wrote-yes}
-use Rattle.expand.proofs.Sources.{written-keeps, ok-round}
+use Rattle.expand.proofs.Sources.{ok-round}
+use Rattle.laws.proofs.Suffice.{written-keeps}
 use Rattle.expand.proofs.Waves.{has, has-nil, has-head, has-tail, has-split, keep-in, keep-out, any-in, any-out, changes, strays-used, still-nothing, still-calm, fresh-zero, fresh-some, round-fresh, wave-marks, round-left, rounds-on, rounds-off}
 
 -- ---------------------------------------------------------------- entries of the stack

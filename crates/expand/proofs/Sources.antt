@@ -1,26 +1,23 @@
 -- A round keeps what holds between rounds (`Ok`): an entry that found an id is used, and one that did not has none still.
 -- Assumes nothing.
-use mathlib.Core.Path.{_≡_, refl, sym, ap, _∙_}
-use mathlib.Core.Bool.{true, false, true≢false, false≢true}
-use mathlib.Core.Logic.{⊎-elim, _⊎_, inl, inr}
+use mathlib.Core.Path.{_≡_, refl, ap, _∙_}
+use mathlib.Core.Bool.{true, false}
+use mathlib.Core.Logic.{_⊎_, inl, inr}
 use mathlib.Core.List.{List, [], _∷_, map}
-use Prim.Native.Nat.{ℕ, _+_, _-_, _*_, _≤_, _<_}
-use native.Mathlib.Omega.{arith}
-use native.Mathlib.Nat.{le-refl}
-use lib.ListN.{length, getD, set, length-set}
-use lib.Seq.{getD-set-same, getD-set-other}
+use Prim.Native.Nat.{ℕ, _-_, _<_}
+use lib.ListN.{getD}
 use lib.Dec.{eqb}
-use borrow.Author.Tests.{eqb-true, eqb-false, not-true}
-use Rattle.rules.specs.Base.{_or_, any}
+use borrow.Author.Tests.{eqb-true}
+use Rattle.rules.specs.Base.{any}
 use Rattle.rules.specs.Field.{none}
 use Rattle.rules.specs.Net.{Net}
-use Rattle.rules.specs.Growth.{Marks, put, Taken, look, takes, finds, wrote, written, Spread, round}
-use Rattle.laws.proofs.Basics.{both, neither, if-ind, upto-ind, All, getD-set-cases, map-all}
+use Rattle.rules.specs.Growth.{Marks, finds, written, Spread, round}
+use Rattle.laws.proofs.Basics.{neither, if-ind, map-all}
 use Rattle.laws.proofs.Lengths.{written-length}
-use Rattle.laws.proofs.NextId.{zeros, zeros-le, zeros-down, zeros-lower}
-use Rattle.space.proofs.Laws.{cases, set-all}
+use Rattle.laws.proofs.Suffice.{written-keeps}
+use Rattle.space.proofs.Laws.{cases}
 use Rattle.expand.specs.Layout.{left, fresh, Unheld, Ok}
-use Rattle.expand.proofs.Halves.{left-yes, left-no, wrote-yes, wrote-no, finds-used, written-cons}
+use Rattle.expand.proofs.Halves.{left-yes, left-no, wrote-no}
 
 -- ---------------------------------------------------------------- entries
 
@@ -31,20 +28,6 @@ fresh-unheld n ids s h = if-ind (λ y. Unheld n ids y) (eqb (getD ids s 0) 0) (�
 -- ---------------------------------------------------------------- what a round writes
 
 module _ (N : Net) (m : Marks) where
-  pub finds-id : (s : ℕ) → finds N m s ≡ true → takes N m s .id ≡ 0 → ⊥
-  unfolding finds
-  finds-id s z = eqb-false _ _ (not-true _ (both _ _ z .1))
-
-  -- a span that finds nothing is not written
-  pub written-keeps : (x : ℕ) → finds N m x ≡ false → (es : List ℕ) (out : Marks) → getD (written N m es out .ids) x 0 ≡ getD (out .ids) x 0
-  unfolding written wrote put
-  written-keeps x z [] out = refl
-  written-keeps x z (s ∷ es) out =
-      written-keeps x z es (wrote N m s out)
-      ∙ if-ind (λ (r : Marks). getD (r .ids) x 0 ≡ getD (out .ids) x 0) (finds N m s)
-      (λ y. getD-set-other (out .ids) s x _ 0 (λ g. true≢false (sym y ∙ ap (finds N m) (sym g) ∙ z)))
-      (λ _. refl)
-
   pub written-none : (es : List ℕ) (out : Marks) → any (finds N m) es ≡ false → written N m es out ≡ out
   unfolding any written
   written-none [] out z = refl

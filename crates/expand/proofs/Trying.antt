@@ -1,14 +1,14 @@
 -- Tries, one after another (`Moved`): a flag falls only as its span is noted. The flags that are down are at least as many as the changes, so there is
 -- room to note a span whose flag is up. Assumes nothing.
 use mathlib.Core.Path.{_≡_, refl, sym, ap, _∙_}
-use mathlib.Core.Bool.{Bool, true, false, true≢false}
+use mathlib.Core.Bool.{Bool, true, false}
 use mathlib.Core.Logic.{⊎-elim, _⊎_, inl, inr}
 use mathlib.Core.List.{List}
 use Prim.Native.Nat.{ℕ, _+_, _*_, _≤_, _<_}
 use native.Mathlib.Omega.{arith}
 use native.Mathlib.Decide.{ℕ-discrete, decLt}
 use lib.ListN.{length, getD, set, take, length-set}
-use lib.Seq.{getD-take, getD-set-same, getD-set-other, take-set-le}
+use lib.Seq.{getD-set-same, getD-set-other, take-set-le}
 use Rattle.rules.specs.Base.{_or_}
 use Rattle.rules.specs.Field.{none}
 use Rattle.rules.specs.Net.{near}

@@ -19,7 +19,8 @@ use Rattle.laws.proofs.Basics.{both, neither, either, and-both, or-left, or-rig
 use Rattle.space.proofs.Laws.{cases}
 use Rattle.expand.specs.Layout.{left, fresh, Unheld, Ok}
 use Rattle.expand.proofs.Halves.{finds-used, left-yes, left-no, wrote-yes}
-use Rattle.expand.proofs.Sources.{finds-id, written-keeps, round-is}
+use Rattle.expand.proofs.Sources.{round-is}
+use Rattle.laws.proofs.Suffice.{finds-id, written-keeps}
 
 -- ---------------------------------------------------------------- membership
 

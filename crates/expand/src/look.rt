@@ -5,7 +5,7 @@ use field::read::at8;
 use net::neighbour;
 use region::RegionId;
 ghost use mathlib.Core.Path.{_≡_};
-ghost use Prim.Native.Nat.{_+_, _*_, _<_, _≤_};
+ghost use Prim.Native.Nat.{_+_, _<_, _≤_};
 ghost use lib.ListN.{length, getD};
 ghost use Rattle.rules.specs.Base.{_or_};
 ghost use Rattle.rules.specs.Growth.{look, takes, exceeds, strays};

@@ -1,5 +1,5 @@
 -- The floods from the turn's stack: what they ask is there (`Ready`), and afterwards all is there for the next turn, with the stacks as they were. Assumes nothing.
-use Prim.Native.Nat.{ℕ, _+_, _*_, _≤_, _<_}
+use Prim.Native.Nat.{ℕ, _+_, _*_, _≤_}
 use native.Mathlib.Omega.{arith}
 use mathlib.Core.Path.{_≡_}
 use mathlib.Core.List.{List}

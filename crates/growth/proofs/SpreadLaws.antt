@@ -1,7 +1,6 @@
 -- Expansion keeps the ids below the next, since an entry takes the id of a neighbour.
 -- Assumes nothing.
 use Prim.Native.Nat.{ℕ, zero, suc, _<_}
-use native.Mathlib.Omega.{arith}
 use mathlib.Core.Path.{_∙_}
 use mathlib.Core.List.{List, [], _∷_}
 use borrow.Author.Tests.{leb-false, not-true}

@@ -61,7 +61,7 @@ pub struct Growth {
 pub const GOES_ON: u16 = 0;
 
 // A successful flood would make the next id a flagged one.
-const IDS_RUN_OUT: u16 = 12;
+pub const IDS_RUN_OUT: u16 = 12;
 
 // A sum that expansion computes would exceed what a source distance can be.
 pub(crate) const TOO_FAR: u16 = 13;

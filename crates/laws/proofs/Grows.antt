@@ -5,6 +5,7 @@ use native.Mathlib.Omega.{arith}
 use native.Mathlib.Decide.{ℕ-discrete}
 use mathlib.Core.Path.{_≡_, refl, _∙_}
 use mathlib.Core.Bool.{Bool, true, false}
+use mathlib.Core.Logic.{_⊎_, inl, inr}
 use mathlib.Core.List.{List, [], _∷_}
 use lib.ListN.{length, getD, length-set}
 use lib.Dec.{eqb}
@@ -79,7 +80,7 @@ module _ (N : Net) where
     pub room : t .next + zeros (t .marks .ids) ≤ first + spans N
     pub inside : (j : ℕ) → All (Inside N) (getD (t .stacks) j [])
 
-  blank-inside : (ids : List ℕ) → All (Inside N) (blank (N .areas) ids)
+  pub blank-inside : (ids : List ℕ) → All (Inside N) (blank (N .areas) ids)
   unfolding blank
   blank-inside ids = keep-all (Inside N) _ _ (tab-all (Inside N) (spans N) 0 (λ i g _. omega arith))
 
@@ -176,3 +177,26 @@ grown-room F dist most b bytes o =
     (refl, record { size = size; some = first .0; plain = omega arith; room = omega (arith, zeros-le (painted F b .ids)); inside = λ j. tt })
     (λ k t g h. (rw (h .0) refl, turn-room N dist bytes (firstId b) top k t (rw (h .0) (go k g)) (h .1))) in
     (r .1 .plain, omega (arith, r .1 .room))
+
+-- ---------------------------------------------------------------- the numbers that stop it
+
+abbrev pub StopNumber : ℕ → Type 0
+StopNumber r = (r ≡ 0) ⊎ ((r ≡ 12) ⊎ (r ≡ 13))
+
+or-number : (a b : ℕ) → StopNumber a → StopNumber b → StopNumber (orElse a b)
+unfolding orElse
+or-number zero b p q = q
+or-number (suc a) b p q = p
+
+turn-number : (N : Net) (dist : List ℕ) (top k : ℕ) (t : Turn) → StopNumber (turnStops N dist top k t)
+unfolding turnStops
+turn-number N dist top k t = if-ind StopNumber _ (λ _. inr (inr refl)) (λ _. if-ind StopNumber _ (λ _. inr (inl refl)) (λ _. inl refl))
+
+turns-number : (N : Net) (dist : List ℕ) (top k : ℕ) (t : Turn) → StopNumber (turnsStop N dist top k t)
+unfolding turnsStop
+turns-number N dist top zero t = inl refl
+turns-number N dist top (suc k) t = or-number _ _ (turns-number N dist top k t) (turn-number N dist top k _)
+
+pub stop-number : (F : Field) (dist : List ℕ) (most b : ℕ) → StopNumber (stops F dist most b)
+unfolding stops
+stop-number F dist most b = or-number _ _ (turns-number (netOf F) dist _ _ _) (if-ind StopNumber _ (λ _. inr (inr refl)) (λ _. inl refl))

@@ -12,6 +12,7 @@ pub mod FloodEnds
 pub mod Settles
 pub mod NextId
 pub mod Grows
+pub mod Suffice
 pub mod Strides
 pub mod Tidy
 pub mod LiveRecords

@@ -213,6 +213,8 @@ fn past_cells(r: Refusal) -> bool
         Refusal::WrongBack => true,
         Refusal::TooShort => true,
         Refusal::TooFar => true,
+        Refusal::NoIds => true,
+        Refusal::NoSum => true,
     }
 }
 

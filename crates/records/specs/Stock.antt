@@ -34,7 +34,7 @@ pub record Reach (plan : Plan) (areas con ids ws : List ℕ) (s : ℕ) : Type 0 
 
 -- zeros, and room for m records of these ids
 pub record Blank (ids : List ℕ) (m : ℕ) (ws : List ℕ) : Type 0 where
-  pub few : m < border
+  pub few : m ≤ border
   pub spans : length ids ≤ mostSpans
   pub room : recordsEnd m (length ids) ≤ length ws
   pub below : (x : ℕ) → plain (getD ids x 0) ≡ true → getD ids x 0 < m

@@ -7,7 +7,7 @@ use mathlib.Core.Bool.{true, false, not, true≢false}
 use mathlib.Core.List.{List, [], _∷_, _++_, map}
 use lib.ListN.{length, getD, length-append}
 use lib.Dec.{eqb}
-use borrow.Author.Tests.{eqb-true, eqb-false, lt-leb, leb-true, ltb-false, not-false}
+use borrow.Author.Tests.{eqb-true, eqb-false, lt-leb, leb-true, not-false}
 use Rattle.rules.specs.Base.{if_then_else_, upto}
 use Rattle.rules.specs.Field.{Field, Bytes}
 use Rattle.rules.specs.Net.{Net, netOf, spans}

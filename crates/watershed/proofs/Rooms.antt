@@ -7,8 +7,6 @@ use mathlib.Core.List.{List, [], _∷_}
 use lib.ListN.{length, replicate}
 use Rattle.rules.specs.Field.{Field, Bytes}
 use Rattle.rules.specs.Refusals.{regionRefusal}
-use Rattle.rules.specs.Growth.{grown}
-use Rattle.rules.specs.Numbering.{regions}
 use Rattle.rules.specs.Outcomes.{Sizes, regionOutcome}
 use Rattle.rooms.proofs.Entry.{not-refused-gives-rooms}
 use Rattle.checker.specs.Answer.{verdictNumber}
@@ -16,10 +14,10 @@ use Rattle.checker.specs.declared.Refusal.{Refusal}
 use Rattle.checker.specs.declared.Verdict.{Verdict}
 use Rattle.checker.specs.declared.Verdict.the-variants as verdict
 use Rattle.watershed.specs.declared.regions.RegionAnswer.{RegionAnswer}
-use Rattle.watershed.specs.declared.regions.RegionAnswer.the-variants.{Refused, Done}
-use Rattle.watershed.specs.Answer.{AnswersRegions, GivesRooms}
+use Rattle.watershed.specs.declared.regions.RegionAnswer.the-variants.{Refused}
+use Rattle.watershed.specs.Answer.{AnswersRegions, GivesRooms, Finds}
 use Rattle.checker.proofs.Numbers.{number-pos}
-use Rattle.watershed.proofs.RegionOutcome.{regions-done}
+use Rattle.watershed.proofs.RegionOutcome.{regions-found}
 
 pub refused-no-rooms : (F : Field) (border : ℕ) (r : Refusal) (l : List ℕ) → GivesRooms F border (Refused r) l
 refused-no-rooms F border r l = record { rooms = λ e. absurd (omega (arith, number-pos r)) }
@@ -31,10 +29,8 @@ call-gives-rooms F dist most z ws ids r ws′ ids′ bytes a =
     record { rooms = λ e. rw (a .ids, a .most) (not-refused-gives-rooms F dist most z ws ids bytes (sym (a .refused) ∙ e)) }
 
 -- as the code's second way out has it
-pub done-gives-rooms : (F : Field) (dist : List ℕ) (most : ℕ) (ws ids : List ℕ) (v : Verdict)
+pub found-gives-rooms : (F : Field) (dist : List ℕ) (most : ℕ) (ws ids : List ℕ) (v : Verdict)
     → verdictNumber v ≡ regionRefusal F (length dist ∷ length ids ∷ []) (length ws) dist most → v ≡ verdict.Sound
-    → (z : Sizes) (k o u : ℕ) (ws′ ids′ : List ℕ)
-    → record { ids = ids′; most = k; over = o; cut = u } ≡ regions F (z .least) (z .merge) (grown F dist most (z .border) .ids) (grown F dist most (z .border) .next)
-    → ws′ ≡ replicate (length ws) 0 → Bytes F → GivesRooms F (z .border) (Done k o u) ids′
-done-gives-rooms F dist most ws ids v e y z k o u ws′ ids′ p q bytes =
-    call-gives-rooms F dist most z ws ids (Done k o u) ws′ ids′ bytes (regions-done F dist most ws ids v e y z k o u ws′ ids′ p q)
+    → (z : Sizes) (r : RegionAnswer) (ws′ ids′ : List ℕ) → Finds F dist most z ids r ids′ → ws′ ≡ replicate (length ws) 0 → Bytes F → GivesRooms F (z .border) r ids′
+found-gives-rooms F dist most ws ids v e y z r ws′ ids′ g q bytes =
+    call-gives-rooms F dist most z ws ids r ws′ ids′ bytes (regions-found F dist most ws ids v e y z r ws′ ids′ g q)

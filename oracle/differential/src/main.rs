@@ -8,6 +8,7 @@ mod large;
 mod lent;
 mod library;
 mod small;
+mod stops;
 mod tally;
 mod winding;
 
@@ -22,6 +23,7 @@ struct Order {
     small: u64,
     large: u64,
     edited: u64,
+    edges: u64,
     seed: u64,
 }
 
@@ -56,6 +58,10 @@ fn run() -> Result<bool, String> {
     if winding.fields > 0 {
         print!("winding corridors, and their answers:\n{winding}");
     }
+    let stops = stops::compare(order.edges);
+    if stops.fields > 0 {
+        print!("fields at the edges of ids and source distances, and their answers:\n{stops}");
+    }
     let edited = edited::compare(seed, order.edited);
     if edited.fields > 0 {
         print!("mendings of edited fields by edit, and their answers:\n{edited}");
@@ -65,7 +71,7 @@ fn run() -> Result<bool, String> {
     if files.fields > 0 {
         print!("files mended by kind, and their answers:\n{files}");
     }
-    if [&small, &large, &winding, &edited, &files]
+    if [&small, &large, &winding, &stops, &edited, &files]
         .iter()
         .any(|tally| tally.is_enough())
     {
@@ -74,12 +80,13 @@ fn run() -> Result<bool, String> {
     let differences = small.differences
         + large.differences
         + winding.differences
+        + stops.differences
         + edited.differences
         + files.differences;
     println!(
         "compared {} small, {} large, {} edited fields, {} files mended: {differences} differences",
         small.fields,
-        large.fields + winding.fields,
+        large.fields + winding.fields + stops.fields,
         edited.fields,
         files.fields
     );
@@ -95,6 +102,7 @@ fn order() -> Result<Order, String> {
         small: 20_000,
         large: 38,
         edited: 7_000,
+        edges: 2,
         seed: 0,
     };
     while let Some(option) = arguments.next() {
@@ -108,6 +116,7 @@ fn order() -> Result<Order, String> {
             "--small" => order.small = number,
             "--large" => order.large = number,
             "--edited" => order.edited = number,
+            "--edges" => order.edges = number,
             "--seed" => order.seed = number,
             _ => {
                 return Err(format!(

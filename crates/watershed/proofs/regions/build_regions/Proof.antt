@@ -1,48 +1,43 @@
--- The two arms are the two cases of the outcome. A sound verdict gives what the stages require; a refusal is given before anything is written.
--- Assumes nothing.
-use denote.Ref.{now}
-use Rattle.watershed.proofs.RegionOutcome.{regions-refused, admitted, regions-done}
-use Rattle.watershed.proofs.Rooms.{refused-no-rooms, done-gives-rooms}
+use native.Mathlib.Omega.{arith}
 use borrow.Author.Needs.{needs}
 use Rattle.watershed.proofs.regions.build_regions.Statement.{statement}
 use Rattle.watershed.proofs.regions.build_regions.Tie as tie
+use Rattle.watershed.proofs.regions.build_regions.Reads as reads
+use Rattle.watershed.proofs.regions.build_regions.Lts as lts
+use Rattle.watershed.proofs.regions.check_regions.Reads as check-regions-reads
+use Rattle.watershed.proofs.regions.find_regions.Reads as find-regions-reads
 
+-- src/regions.rt:220:11
 check-regions-requires : tie.Need-check-regions-requires
 check-regions-requires c κs = search needs
 
+-- src/regions.rt:232:26
 enum-known-r : tie.Need-enum-known-r
 enum-known-r c = search needs
 
+-- src/regions.rt:245:13
 enum-told : tie.Need-enum-told
 enum-told c = search needs
 
+-- src/regions.rt:233:27
 find-regions-requires : tie.Need-find-regions-requires
-find-regions-requires c κs =
-    let t = c .before .before in
-    admitted _ _ _ _ _ (t .before .before .check-regions .result) (t .before .before .check-regions .ensures) (t .enum-told .given .1)
+find-regions-requires c κs = search needs
 
+-- src/regions.rt:196:1
 returns : tie.Need-returns
-returns c = (search (needs, regions-refused), search (needs, refused-no-rooms))
+returns c = search needs
 
+-- src/regions.rt:196:1
 same-length : tie.Need-same-length
 same-length c = search needs
 
+-- src/regions.rt:196:1
 same-length-2 : tie.Need-same-length-2
 same-length-2 c = search needs
 
+-- src/regions.rt:196:1
 returns-2 : tie.Need-returns-2
-returns-2 c =
-    let f = c .before .before .before .before in
-    let t = f .before .before .before in
-    let e = f .find-regions .ensures in
-    let s = t .before .before .before .before .before .before .before .before .before .before in
-    let ws = now (s .args .workspace) in
-    let ids = now (s .args .ids) in
-    let said = t .before .before .check-regions .ensures in
-    let sound = t .enum-told .given .1 in (
-      regions-done _ _ _ ws ids _ said sound _ _ _ _ _ _ (e .0) (e .1 .0),
-      done-gives-rooms _ _ _ ws ids _ said sound _ _ _ _ _ _ (e .0) (e .1 .0) (e .1 .1),
-    )
+returns-2 c = search needs
 
 pub build-regions-spec : {M : Type 1} → statement M
 build-regions-spec =

@@ -1,129 +1,79 @@
--- `watershed::regions::find_regions` meets its contract: each stage leaves what the next asks (StageLaws), and the last clears the workspace.
--- Assumes nothing.
-use Prim.Native.Nat.{ℕ, _<_}
 use native.Mathlib.Omega.{arith}
-use mathlib.Core.Path.{_∙_, ap}
 use borrow.Author.Needs.{needs}
-use lib.ListN.{getD, replicate}
-use denote.Ref.{now}
-use Rattle.watershed.proofs.StageLaws.{areas-are-bytes, few, poised, given, fits, blank, ready, whole, all-clear}
 use Rattle.watershed.proofs.regions.find_regions.Statement.{statement}
 use Rattle.watershed.proofs.regions.find_regions.Tie as tie
+use Rattle.watershed.proofs.regions.find_regions.Reads as reads
+use Rattle.watershed.proofs.regions.find_regions.Lts as lts
+use Rattle.merge.proofs.merge_and_filter_regions.Reads as merge-and-filter-regions-reads
+use Rattle.records.proofs.build.build_records.Reads as build-records-reads
+use Rattle.records.proofs.map.records_end.Reads as records-end-reads
+use Rattle.space.proofs.clear_part.Reads as clear-part-reads
+use Rattle.watershed.proofs.regions.grow_regions.Reads as grow-regions-reads
+use Rattle.watershed.proofs.regions.stop_refusal.Reads as stop-refusal-reads
 
--- the place of the table, the entry, the cleared ids, the cleared part of the workspace, the growth, the records
-abbrev N : tie.After-clear-arg → tie.After-records-end
-N c = c .before
-
-abbrev S : tie.After-clear-arg → tie.Start
-S c = N c .before .before .before .before .before .before .before .before
-
-abbrev A : tie.After-clear-arg → tie.After-shared-slice-known3
-A c = N c .before .before .before .before .before
-
-abbrev I : tie.After-clear-part-arg → tie.After-clear
-I c = c .before .before .before
-
-abbrev P : tie.After-grow-arg2 → tie.After-clear-part
-P c = c .before .before .before .before
-
-abbrev G : tie.After-build-records-arg2 → tie.After-grow
-G c = c .before .before .before .before .before .before
-
-abbrev B : tie.After-merge-and-filter-regions-arg2 → tie.After-build-records
-B c = c .before .before .before .before
-
--- area codes are bytes, as their type says
-bytes : (c : tie.After-clear-arg) (j : ℕ) → getD (now (S c .args .area)) j 0 < 256
-bytes c j = omega (arith, A c .shared-slice-known3 .given j)
-
+-- src/regions.rt:168:29
 add-records-end : tie.Need-add-records-end
 add-records-end c = search needs
 
+-- src/regions.rt:168:9
 records-end-requires : tie.Need-records-end-requires
-records-end-requires c κs =
-    let n = few _ _ _ _ _ _ _ _ _ (c .before .before .before .before .before .before .before .pre) in
-    (omega (arith, n), n)
+records-end-requires c κs = search needs
 
-clear-requires : tie.Need-clear-requires
-clear-requires c κs = search needs
+-- src/regions.rt:169:9
+grow-regions-requires : tie.Need-grow-regions-requires
+grow-regions-requires c κs = search needs
 
+-- src/regions.rt:185:9
 clear-part-requires : tie.Need-clear-part-requires
 clear-part-requires c κs = search needs
 
-grow-requires : tie.Need-grow-requires
-grow-requires c κs =
-    let k = P c in
-    let i = I (k .before) in
-    let s = S (i .before) in
-    (poised _ _ _ _ _ _ _ _ _ (s .pre) _ (N (i .before) .records-end .ensures) _ _ (i .clear .ensures) (k .clear-part .kept .0) (k .clear-part .ensures .0), s .pre .distances)
+-- src/regions.rt:186:38
+stop-refusal-requires : tie.Need-stop-refusal-requires
+stop-refusal-requires c κs = search needs
 
-cast-next : tie.Need-cast-next
-cast-next c = search needs
-
-build-records-requires : tie.Need-build-records-requires
-build-records-requires c κs =
-    let g = G c in
-    let k = P (g .before) in
-    let i = I (k .before) in
-    let s = S (i .before) in (
-      given _ _ _ _ _ _ _ _ _ (s .pre) _ (N (i .before) .records-end .ensures) (bytes (i .before)) _ _ _ (k .clear-part .kept .0) _ _ _ (g .grow .ensures) (g .grow .kept .1 .1 .1 .1 .1 .1 .1 .1 .0),
-      (
-        blank _ _ _ _ _ _ _ _ _ (s .pre) _ (N (i .before) .records-end .ensures) (bytes (i .before)) _ _ _ (k .clear-part .kept .0) _ _ _ (g .grow .ensures) (g .grow .kept .1 .1 .1 .1 .1 .1 .1 .1 .0),
-        fits _ _ _ _ _ _ _ _ _ (s .pre) _ (N (i .before) .records-end .ensures) (bytes (i .before)) _ _ _ (k .clear-part .kept .0) _ _ _ (g .grow .ensures) (g .grow .kept .1 .1 .1 .1 .1 .1 .1 .1 .0),
-      ),
-    )
-
-add-merge-and-filter-regions : tie.Need-add-merge-and-filter-regions
-add-merge-and-filter-regions c = search needs
-
-merge-and-filter-regions-requires : tie.Need-merge-and-filter-regions-requires
-merge-and-filter-regions-requires c κs =
-    let r = B c in
-    let g = G (r .before) in
-    let k = P (g .before) in
-    let i = I (k .before) in
-    let s = S (i .before) in
-    ready _ _ _ _ _ _ _ _ _ (s .pre) _ (N (i .before) .records-end .ensures) (bytes (i .before)) _ _ _ (k .clear-part .kept .0) _ _ _ (g .grow .ensures) (g .grow .kept .1 .1 .1 .1 .1 .1 .1 .1 .0) _ (r .build-records .ensures)
-
-clear-part-requires-2 : tie.Need-clear-part-requires-2
-clear-part-requires-2 c κs =
-    let m = c .before .before .before .before .before in
-    let r = B (m .before) in
-    let g = G (r .before) in
-    let k = P (g .before) in
-    let s = S (I (k .before) .before) in (
-      omega arith,
-      omega
-          (arith, m .merge-and-filter-regions .kept .0, r .build-records .ensures .size, g .grow .kept .1 .1 .1 .1 .1 .1 .1 .1 .0, k .clear-part .kept .0, s .pre .room),
-    )
-
+-- src/regions.rt:186:9
 same-length : tie.Need-same-length
 same-length c = search needs
 
+-- src/regions.rt:186:9
 same-length-2 : tie.Need-same-length-2
-same-length-2 c =
-    let m = c .before .before .before .before .before .before .before .before in
-    let g = G (B (m .before) .before) in
-    let i = I (P (g .before) .before) in
-    m .merge-and-filter-regions .kept .1 .0 ∙ g .grow .kept .1 .1 .1 .1 .1 .1 .1 .0 ∙ i .clear .kept .0
+same-length-2 c = search needs
 
+-- src/regions.rt:186:9
 returns : tie.Need-returns
-returns c =
-    let x = c .before .before in
-    let m = x .before .before .before .before .before .before in
-    let r = B (m .before) in
-    let g = G (r .before) in
-    let k = P (g .before) in
-    let i = I (k .before) in
-    let s = S (i .before) in (
-      whole _ _ _ _ _ _ _ _ _ (s .pre) _ (N (i .before) .records-end .ensures) (bytes (i .before)) _ _ _ (k .clear-part .kept .0) _ _ _ (g .grow .ensures) (g .grow .kept .1 .1 .1 .1 .1 .1 .1 .1 .0) _ (r .build-records .ensures) _ _ _
-          (m .merge-and-filter-regions .ensures),
-      (
-        all-clear _ _ (x .clear-part2 .kept .0) (x .clear-part2 .ensures .0)
-            ∙ ap (λ (l : ℕ). replicate l 0) (m .merge-and-filter-regions .kept .0 ∙ r .build-records .ensures .size ∙ g .grow .kept .1 .1 .1 .1 .1 .1 .1 .1 .0 ∙ k .clear-part .kept .0),
-        areas-are-bytes _ _ _ _ _ _ (bytes (i .before)),
-      ),
-    )
+returns c = search needs
+
+-- src/regions.rt:188:16
+cast-next : tie.Need-cast-next
+cast-next c = search needs
+
+-- src/regions.rt:189:5
+build-records-requires : tie.Need-build-records-requires
+build-records-requires c κs = search needs
+
+-- src/regions.rt:190:47
+add-merge-and-filter-regions : tie.Need-add-merge-and-filter-regions
+add-merge-and-filter-regions c = search needs
+
+-- src/regions.rt:190:9
+merge-and-filter-regions-requires : tie.Need-merge-and-filter-regions-requires
+merge-and-filter-regions-requires c κs = search needs
+
+-- src/regions.rt:191:5
+clear-part-requires-2 : tie.Need-clear-part-requires-2
+clear-part-requires-2 c κs = search needs
+
+-- src/regions.rt:145:1
+same-length-3 : tie.Need-same-length-3
+same-length-3 c = search needs
+
+-- src/regions.rt:145:1
+same-length-4 : tie.Need-same-length-4
+same-length-4 c = search needs
+
+-- src/regions.rt:145:1
+returns-2 : tie.Need-returns-2
+returns-2 c = search needs
 
 pub find-regions-spec : {M : Type 1} → statement M
 find-regions-spec =
@@ -131,14 +81,17 @@ find-regions-spec =
     (tie.spec
     add-records-end
     records-end-requires
-    clear-requires
+    grow-regions-requires
     clear-part-requires
-    grow-requires
+    stop-refusal-requires
+    same-length
+    same-length-2
+    returns
     cast-next
     build-records-requires
     add-merge-and-filter-regions
     merge-and-filter-regions-requires
     clear-part-requires-2
-    same-length
-    same-length-2
-    returns)
+    same-length-3
+    same-length-4
+    returns-2)

@@ -13,7 +13,7 @@ use Rattle.rules.specs.Field.{Field, spans}
 use Rattle.rules.specs.Refusals.{refusal, regionRefusal}
 use Rattle.rules.specs.Distance.{raw as rawOf, greatest, blur}
 use Rattle.rules.specs.Growth.{grown}
-use Rattle.rules.specs.Numbering.{regions}
+use Rattle.rules.specs.Numbering.{dense, regions, formed}
 use Rattle.rules.specs.Outcomes.{Sizes, DistanceOutcome, RegionOutcome, distanceOutcome, regionOutcome}
 use Rattle.rules.specs.File.{refused, described, readFile}
 use Rattle.rules.specs.Listing.{rowText, rowsText, listing, refusedLine, ran, answered, printed}
@@ -51,28 +51,28 @@ listing-shown w h is ks ar cs most o = rw (rows-shown w h is ks ar cs (o .ids) h
 -- ---------------------------------------------------------------- the region entry's answer
 
 module _ (w h : ℕ) (is ks ar cs dist : List ℕ) (most : ℕ) (z : Sizes) (ws ids ws′ ids′ out out′ : List ℕ) (r : ℕ) where
-  pub second-refused : (x : RegionAnswer) → AnswersRegions (regionOutcome (lent w h is ks ar cs) dist most z ws ids) x ws′ ids′ → (k : Refusal) → x ≡ region.Refused k → (j : ℕ) → j ≡ numberOf k
+  pub second-refused : (x : RegionAnswer) → AnswersRegions (regionOutcome dense (lent w h is ks ar cs) dist most z ws ids) x ws′ ids′ → (k : Refusal) → x ≡ region.Refused k → (j : ℕ) → j ≡ numberOf k
       → Prints out (refusedLine j) r out′ → Prints out (second (lent w h is ks ar cs) dist most z ws ids) r out′
   unfolding second if_then_else_
   second-refused x b k y j e p =
-      let a : AnswersRegions (regionOutcome (lent w h is ks ar cs) dist most z ws ids) (region.Refused k) ws′ ids′ = rw (← y) b in
-      rw (ne-eqb (regionOutcome (lent w h is ks ar cs) dist most z ws ids .refused) 0 (λ v. omega (arith, a .refused, number-pos k)), ← a .refused, ← e) p
+      let a : AnswersRegions (regionOutcome dense (lent w h is ks ar cs) dist most z ws ids) (region.Refused k) ws′ ids′ = rw (← y) b in
+      rw (ne-eqb (regionOutcome dense (lent w h is ks ar cs) dist most z ws ids .refused) 0 (λ v. omega (arith, a .refused, number-pos k)), ← a .refused, ← e) p
 
-  pub second-done : (x : RegionAnswer) → AnswersRegions (regionOutcome (lent w h is ks ar cs) dist most z ws ids) x ws′ ids′ → (m o u : ℕ) → x ≡ region.Done m o u
+  pub second-done : (x : RegionAnswer) → AnswersRegions (regionOutcome dense (lent w h is ks ar cs) dist most z ws ids) x ws′ ids′ → (m o u : ℕ) → x ≡ region.Done m o u
       → Prints out (listing (shown w h is ks) most (numbered m o u ids′)) r out′ → Prints out (second (lent w h is ks ar cs) dist most z ws ids) r out′
   unfolding second if_then_else_
   second-done x b m o u y p =
-      let a : AnswersRegions (regionOutcome (lent w h is ks ar cs) dist most z ws ids) (region.Done m o u) ws′ ids′ = rw (← y) b in
+      let a : AnswersRegions (regionOutcome dense (lent w h is ks ar cs) dist most z ws ids) (region.Done m o u) ws′ ids′ = rw (← y) b in
       rw (
-        eq-eqb (regionOutcome (lent w h is ks ar cs) dist most z ws ids .refused) 0 (sym (a .refused)),
-        ← listing-shown w h is ks ar cs most (regionOutcome (lent w h is ks ar cs) dist most z ws ids),
+        eq-eqb (regionOutcome dense (lent w h is ks ar cs) dist most z ws ids .refused) 0 (sym (a .refused)),
+        ← listing-shown w h is ks ar cs most (regionOutcome dense (lent w h is ks ar cs) dist most z ws ids),
         ← a .most,
         ← a .over,
         ← a .cut,
         ← a .ids,
       ) p
 
-regions-accepted : (F : Field) (dist : List ℕ) (most : ℕ) (z : Sizes) (ws ids : List ℕ) → regionOutcome F dist most z ws ids .refused ≡ 0
+regions-accepted : (F : Field) (dist : List ℕ) (most : ℕ) (z : Sizes) (ws ids : List ℕ) → regionOutcome dense F dist most z ws ids .refused ≡ 0
     → refusal F (length dist ∷ length ids ∷ []) ≡ 0
 unfolding regionOutcome
 regions-accepted F dist most z ws ids =
@@ -82,9 +82,9 @@ regions-accepted F dist most z ws ids =
 
 -- the field is as the listing needs it
 pub listable : (w h : ℕ) (is ks ar cs dist : List ℕ) (most : ℕ) (z : Sizes) (ws ids ws′ ids′ out : List ℕ) (x : RegionAnswer) (m o u : ℕ) → Fitting w h ar ids out
-    → AnswersRegions (regionOutcome (lent w h is ks ar cs) dist most z ws ids) x ws′ ids′ → x ≡ region.Done m o u → length ids′ ≡ length ids → Listable w h is ks ids′ out
+    → AnswersRegions (regionOutcome dense (lent w h is ks ar cs) dist most z ws ids) x ws′ ids′ → x ≡ region.Done m o u → length ids′ ≡ length ids → Listable w h is ks ids′ out
 listable w h is ks ar cs dist most z ws ids ws′ ids′ out x m o u f b y n =
-    let a : AnswersRegions (regionOutcome (lent w h is ks ar cs) dist most z ws ids) (region.Done m o u) ws′ ids′ = rw (← y) b in
+    let a : AnswersRegions (regionOutcome dense (lent w h is ks ar cs) dist most z ws ids) (region.Done m o u) ws′ ids′ = rw (← y) b in
     let F : Field = lent w h is ks ar cs in
     let none = regions-accepted F dist most z ws ids (sym (a .refused)) in
     let c = reached-of F (length dist ∷ length ids ∷ []) none .celled in
@@ -116,13 +116,13 @@ module _ (F : Field) (raw bl : List ℕ) where
 
 module _ (F : Field) (z : Sizes) (dist : List ℕ) (most : ℕ) (ws ids : List ℕ) where
   second-listed : regionRefusal F (length dist ∷ length ids ∷ []) (length ws) dist most ≡ 0
-      → let v = regions F (z .least) (z .merge) (grown F dist most (z .border) .ids) (grown F dist most (z .border) .next) in
+      → let v = formed dense (regions F (z .least) (z .merge) (grown F dist most (z .border) .ids) (grown F dist most (z .border) .next)) in
       second F dist most z ws ids ≡ listing F most (record { refused = 0; most = v .most; over = v .over; cut = v .cut; workspace = replicate (length ws) 0; ids = v .ids })
   unfolding second regionOutcome if_then_else_
   second-listed e = rw (eq-eqb _ 0 e)
 
   region-number : (regionRefusal F (length dist ∷ length ids ∷ []) (length ws) dist most ≡ 0 → ⊥)
-      → regionOutcome F dist most z ws ids .refused ≡ regionRefusal F (length dist ∷ length ids ∷ []) (length ws) dist most
+      → regionOutcome dense F dist most z ws ids .refused ≡ regionRefusal F (length dist ∷ length ids ∷ []) (length ws) dist most
   unfolding regionOutcome if_then_else_
   region-number e = rw (ne-eqb _ 0 e)
 

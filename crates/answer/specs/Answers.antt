@@ -6,6 +6,7 @@ use lib.ListN.{length}
 use lib.Dec.{eqb}
 use Rattle.rules.specs.Base.{if_then_else_}
 use Rattle.rules.specs.Field.{Field}
+use Rattle.rules.specs.Numbering.{dense}
 use Rattle.rules.specs.Outcomes.{Sizes, regionOutcome}
 use Rattle.rules.specs.Listing.{listing, refusedLine}
 
@@ -33,5 +34,5 @@ pub record Own (area raw blurred workspace : List ℕ) : Type 0 where
 -- what the rule prints of the region entry's outcome
 unfoldable pub second : Field → List ℕ → ℕ → Sizes → List ℕ → List ℕ → List ℕ
 second F dist most z work ids =
-    let b = regionOutcome F dist most z work ids in
+    let b = regionOutcome dense F dist most z work ids in
     if eqb (b .refused) 0 then listing F most b else refusedLine (b .refused)

@@ -17,7 +17,7 @@ use Rattle.rules.specs.Contour.{across, solid, firstSolid, stride, walk, trim, 
 use Rattle.rules.specs.Records.{fresh, at, once, onceAll, others, counted, addSpan, records}
 use Rattle.rules.specs.Filter.{seen, removed, reach, gather, total, removeAll, filterOne, filtered}
 use Rattle.rules.specs.Merge.{suits, picked, place, around, dedup, tidy, absorbed, emptied, renamed, mergeOne, merged}
-use Rattle.rules.specs.Numbering.{live, numberOf, overlaps, cuts, numbered, regions}
+use Rattle.rules.specs.Numbering.{live, numberOf, overlaps, cuts, numbered, regions, Form, dense, compared, inUse, rank, condensed, formed}
 use Rattle.rules.specs.Outcomes.{Sizes, DistanceOutcome, RegionOutcome, distanceOutcome, regionOutcome}
 use Rattle.rules.specs.Open.{openCon, flat, openField}
 
@@ -31,6 +31,7 @@ pub data Claim : Type 0 where
   idsIn : ℕ → ℕ → ℕ → ℕ → ℕ → Claim
 
 pub record Case : Type 0 where
+  pub form : Form
   pub field : Field
   pub sizes : Sizes
   pub claims : List Claim
@@ -48,7 +49,7 @@ unfolding _and_ _or_ if_then_else_ upto tab every any keep many cellOf cellTo le
     walkable put paintOf painted firstId blank sorted remains look takes finds wrote written round rounds expand sees orElse objects pushed visit flow flood floods loaded turn grown
     across solid firstSolid stride walk trim walkFrom contour cutShort fresh at once onceAll others counted addSpan records
     seen removed reach gather total removeAll filterOne filtered
-    suits picked place around dedup tidy absorbed emptied renamed mergeOne merged live numberOf overlaps cuts numbered regions
+    suits picked place around dedup tidy absorbed emptied renamed mergeOne merged live numberOf overlaps cuts numbered regions inUse rank condensed formed
     distanceOutcome regionOutcome openCon flat openField
 run c =
     let F = c .field in
@@ -59,7 +60,7 @@ run c =
       wide = F .w;
       distances = a;
       flooded = turn (netOf F) (a .blurred) (2 * ((a .most + 1) / 2)) 0 (record { marks = painted F b; stacks = []; next = firstId b }) .marks .ids;
-      regions = regionOutcome F (a .blurred) (a .most) (c .sizes) (replicate (128 * spans F + 4096) 0) zeros;
+      regions = regionOutcome (c .form) F (a .blurred) (a .most) (c .sizes) (replicate (128 * spans F + 4096) 0) zeros;
     }
 
 unfoldable pub holds : Run → Claim → Bool
@@ -86,34 +87,57 @@ agrees (c ∷ cs) =
     eqb (o .distances .refused) 0 and eqb (o .regions .refused) 0 and allHold o (c .claims) and agrees cs
 
 -- "border size, least area and merge area are 0 if not named"
-abbrev pub case : Field → ℕ → ℕ → ℕ → List Claim → Case
-case F border least merge claims = record { field = F; sizes = record { border = border; least = least; merge = merge }; claims = claims }
+abbrev pub case : Form → Field → ℕ → ℕ → ℕ → List Claim → Case
+case form F border least merge claims =
+    record { form = form; field = F; sizes = record { border = border; least = least; merge = merge }; claims = claims }
 
-unfoldable pub figures : List Case
-figures =
+-- 6 by 3, areas 1 in columns 0 to 2 and 2 in 3 to 5
+abbrev pub halves : Field
+halves = flat 6 3 (λ c. if ltb (c % 6) 3 then 1 else 2)
+
+-- document 01's figures: those of the compared form
+unfoldable pub comparedFigures : List Case
+comparedFigures =
     -- "0 by 0: max_region 1. With border size 1: 5."
-    case (openField 0 0) 0 0 0 (maxRegion 1 ∷ []) ∷
-    case (openField 0 0) 1 0 0 (maxRegion 5 ∷ []) ∷
+    case compared (openField 0 0) 0 0 0 (maxRegion 1 ∷ []) ∷
+    case compared (openField 0 0) 1 0 0 (maxRegion 5 ∷ []) ∷
     -- "Open 1 by 1: id 0, max_region 1. Border size 1: id 0x8004, max_region 5."
-    case (openField 1 1) 0 0 0 (everyId 0 ∷ maxRegion 1 ∷ []) ∷
-    case (openField 1 1) 1 0 0 (everyId 0x8004 ∷ maxRegion 5 ∷ []) ∷
+    case compared (openField 1 1) 0 0 0 (everyId 0 ∷ maxRegion 1 ∷ []) ∷
+    case compared (openField 1 1) 1 0 0 (everyId 0x8004 ∷ maxRegion 5 ∷ []) ∷
     -- "Open 3 by 3: middle 2, ids 1. Least area 9: the same. Least area 10: ids 0, max_region 1."
-    case (openField 3 3) 0 0 0 (maxDistance 2 ∷ rawIs 1 1 2 ∷ blurredIs 1 1 2 ∷ everyId 1 ∷ maxRegion 2 ∷ overlapCount 0 ∷ cutCount 0 ∷ []) ∷
-    case (openField 3 3) 0 9 0 (maxDistance 2 ∷ rawIs 1 1 2 ∷ blurredIs 1 1 2 ∷ everyId 1 ∷ maxRegion 2 ∷ overlapCount 0 ∷ cutCount 0 ∷ []) ∷
-    case (openField 3 3) 0 10 0 (everyId 0 ∷ maxRegion 1 ∷ []) ∷
+    case compared (openField 3 3) 0 0 0 (maxDistance 2 ∷ rawIs 1 1 2 ∷ blurredIs 1 1 2 ∷ everyId 1 ∷ maxRegion 2 ∷ overlapCount 0 ∷ cutCount 0 ∷ []) ∷
+    case compared (openField 3 3) 0 9 0 (maxDistance 2 ∷ rawIs 1 1 2 ∷ blurredIs 1 1 2 ∷ everyId 1 ∷ maxRegion 2 ∷ overlapCount 0 ∷ cutCount 0 ∷ []) ∷
+    case compared (openField 3 3) 0 10 0 (everyId 0 ∷ maxRegion 1 ∷ []) ∷
     -- "3 by 3, area 0: middle 2, ids 0, max_region 1."
-    case (flat 3 3 (λ c. 0)) 0 0 0 (rawIs 1 1 2 ∷ blurredIs 1 1 2 ∷ everyId 0 ∷ maxRegion 1 ∷ []) ∷
+    case compared (flat 3 3 (λ c. 0)) 0 0 0 (rawIs 1 1 2 ∷ blurredIs 1 1 2 ∷ everyId 0 ∷ maxRegion 1 ∷ []) ∷
     -- "Open 5 by 5: max_distance 4, blurred middle 2. Open 7 by 7: 6, 4, and blurred (2,2) 3, (2,3) 4."
-    case (openField 5 5) 0 0 0 (maxDistance 4 ∷ blurredIs 2 2 2 ∷ []) ∷
-    case (openField 7 7) 0 0 0 (maxDistance 6 ∷ blurredIs 3 3 4 ∷ blurredIs 2 2 3 ∷ blurredIs 2 3 4 ∷ []) ∷
+    case compared (openField 5 5) 0 0 0 (maxDistance 4 ∷ blurredIs 2 2 2 ∷ []) ∷
+    case compared (openField 7 7) 0 0 0 (maxDistance 6 ∷ blurredIs 3 3 4 ∷ blurredIs 2 2 3 ∷ blurredIs 2 3 4 ∷ []) ∷
     -- "Open 5 by 5, border size 1: inner nine 5, (0,0) 0x8003, (0,2) 0x8001, (4,2) 0x8002, (4,4) 0x8004, max_region 6."
     -- "in the 5 by 5 border case (2,3) is rejected by the flood and filled by expansion"
-    case (openField 5 5) 1 0 0
+    case compared (openField 5 5) 1 0 0
     (idsIn 1 4 1 4 5 ∷ idIs 0 0 0x8003 ∷ idIs 0 2 0x8001 ∷ idIs 4 2 0x8002 ∷ idIs 4 4 0x8004 ∷ maxRegion 6 ∷ floodedIs 1 3 5 ∷ floodedIs 2 3 0 ∷ []) ∷
     -- "6 by 3, areas 1 in columns 0 to 2 and 2 in 3 to 5, merge area 20: ids 1 and 2, max_region 3."
-    case (flat 6 3 (λ c. if ltb (c % 6) 3 then 1 else 2)) 0 0 20 (idsIn 0 3 0 3 1 ∷ idsIn 3 6 0 3 2 ∷ maxRegion 3 ∷ []) ∷
+    case compared halves 0 0 20 (idsIn 0 3 0 3 1 ∷ idsIn 3 6 0 3 2 ∷ maxRegion 3 ∷ []) ∷
     []
 
+-- worked out again: "an id that no span bears takes no number"
+unfoldable pub figures : List Case
+figures =
+    case dense (openField 0 0) 0 0 0 (maxRegion 0 ∷ []) ∷
+    case dense (openField 0 0) 1 0 0 (maxRegion 0 ∷ []) ∷
+    case dense (openField 1 1) 0 0 0 (everyId 0 ∷ maxRegion 0 ∷ []) ∷
+    case dense (openField 1 1) 1 0 0 (everyId 0x8004 ∷ maxRegion 0 ∷ []) ∷
+    -- "open 3 by 3 gives max_region 1"
+    case dense (openField 3 3) 0 0 0 (maxDistance 2 ∷ everyId 1 ∷ maxRegion 1 ∷ overlapCount 0 ∷ cutCount 0 ∷ []) ∷
+    case dense (openField 3 3) 0 9 0 (maxDistance 2 ∷ everyId 1 ∷ maxRegion 1 ∷ overlapCount 0 ∷ cutCount 0 ∷ []) ∷
+    case dense (openField 3 3) 0 10 0 (everyId 0 ∷ maxRegion 0 ∷ []) ∷
+    case dense (flat 3 3 (λ c. 0)) 0 0 0 (everyId 0 ∷ maxRegion 0 ∷ []) ∷
+    -- "open 5 by 5 with border gives inner ids 1 and max_region 1"
+    case dense (openField 5 5) 1 0 0 (idsIn 1 4 1 4 1 ∷ idIs 0 0 0x8003 ∷ idIs 0 2 0x8001 ∷ idIs 4 2 0x8002 ∷ idIs 4 4 0x8004 ∷ maxRegion 1 ∷ []) ∷
+    case dense halves 0 0 20 (idsIn 0 3 0 3 1 ∷ idsIn 3 6 0 3 2 ∷ maxRegion 2 ∷ []) ∷
+    comparedFigures
+
 pub figures-agree : agrees figures ≡ true
-unfolding _and_ _or_ if_then_else_ every run holds allHold agrees figures openCon flat openField
+unfolding _and_ _or_ if_then_else_ every run holds allHold agrees figures comparedFigures openCon flat openField
 figures-agree = refl

@@ -16,7 +16,7 @@ use Rattle.rules.specs.Contour.{across, solid, firstSolid, stride, walk, trim, 
 use Rattle.rules.specs.Records.{fresh, at, once, onceAll, others, counted, addSpan, records}
 use Rattle.rules.specs.Filter.{seen, removed, reach, gather, total, removeAll, filterOne, filtered}
 use Rattle.rules.specs.Merge.{suits, picked, place, around, dedup, tidy, absorbed, emptied, renamed, mergeOne, merged}
-use Rattle.rules.specs.Numbering.{live, numberOf, overlaps, cuts, numbered, regions}
+use Rattle.rules.specs.Numbering.{live, numberOf, overlaps, cuts, numbered, regions, inUse, rank, condensed, formed}
 use Rattle.rules.specs.Outcomes.{distanceOutcome, regionOutcome}
 use Rattle.rules.specs.File.{word, withCell, withSpan, readOn, emptyField, readFile}
 use Rattle.rules.specs.Listing.{digits, text, joined, cellText, rowText, rowsText, listing, refusedLine, ran, answered, printed}
@@ -76,7 +76,7 @@ unfolding _and_ _or_ if_then_else_ upto tab every any keep many cellOf cellTo le
     walkable put paintOf painted firstId blank sorted remains look takes finds wrote written round rounds expand sees orElse objects pushed visit flow flood floods loaded turn grown
     across solid firstSolid stride walk trim walkFrom contour cutShort fresh at once onceAll others counted addSpan records
     seen removed reach gather total removeAll filterOne filtered
-    suits picked place around dedup tidy absorbed emptied renamed mergeOne merged live numberOf overlaps cuts numbered regions
+    suits picked place around dedup tidy absorbed emptied renamed mergeOne merged live numberOf overlaps cuts numbered regions inUse rank condensed formed
     distanceOutcome regionOutcome word withCell withSpan readOn emptyField readFile
     digits text joined cellText rowText rowsText listing refusedLine ran answered printed
 prints [] = true
@@ -88,14 +88,14 @@ print file out = record { file = file; out = out }
 pub examples : List Print
 examples =
     -- "An open 3 by 3 field prints, whole"
-    print (openFile 3 3 0) (text "max_distance 2 max_region 2 overlaps 0 cut 0\n1 1 1\n1 1 1\n1 1 1\n") ∷
+    print (openFile 3 3 0) (text "max_distance 2 max_region 1 overlaps 0 cut 0\n1 1 1\n1 1 1\n1 1 1\n") ∷
     -- "Ids are decimal, flagged ones too"
-    print (openFile 1 1 1) (text "max_distance 0 max_region 5 overlaps 0 cut 0\n32772\n") ∷
+    print (openFile 1 1 1) (text "max_distance 0 max_region 0 overlaps 0 cut 0\n32772\n") ∷
     -- "a row is a line, empty if w is 0"
-    print (header 0 2 0 ++ end) (text "max_distance 0 max_region 1 overlaps 0 cut 0\n\n\n") ∷
-    print (header 2 0 0 ++ end) (text "max_distance 0 max_region 1 overlaps 0 cut 0\n") ∷
+    print (header 0 2 0 ++ end) (text "max_distance 0 max_region 0 overlaps 0 cut 0\n\n\n") ∷
+    print (header 2 0 0 ++ end) (text "max_distance 0 max_region 0 overlaps 0 cut 0\n") ∷
     -- "Layers in a cell are joined by `/`; an empty cell is `-`."
-    print (header 2 1 0 ++ (cell 2 ++ (alone ++ (alone ++ (cell 0 ++ end))))) (text "max_distance 0 max_region 1 overlaps 0 cut 0\n0/0 -\n") ∷
+    print (header 2 1 0 ++ (cell 2 ++ (alone ++ (alone ++ (cell 0 ++ end))))) (text "max_distance 0 max_region 0 overlaps 0 cut 0\n0/0 -\n") ∷
     -- 20: nothing; unknown kind; records out of place; cut short; bytes after the end
     print [] (text "refused 20\n") ∷
     print (0 ∷ drop 1 (one end)) (text "refused 20\n") ∷

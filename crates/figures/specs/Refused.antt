@@ -9,6 +9,7 @@ use lib.Dec.{eqb}
 use Rattle.rules.specs.Base.{_and_, _or_, if_then_else_, upto, tab, every, any}
 use Rattle.rules.specs.Field.{Field, spans, cellOf, cellTo, leaves, conOf, near}
 use Rattle.rules.specs.Refusals.{goodCells, goodCon, goodBack, tooWide, tooMany, wrongLength, wrongCells, wrongReach, wrongBack, refusal, tooShort, tooFar, regionRefusal}
+use Rattle.rules.specs.Numbering.{dense}
 use Rattle.rules.specs.Outcomes.{distanceOutcome, regionOutcome}
 use Rattle.rules.specs.Open.{openCon, flat, openField}
 
@@ -62,7 +63,7 @@ refusesDistance v =
 -- the region entry refuses it, with 1 to 8
 pub refusesRegions : Lent → Bool
 refusesRegions v =
-    let o = regionOutcome (v .field) (replicate (v .first) (v .distance)) (v .most) (record { border = 0; least = 0; merge = 0 })
+    let o = regionOutcome dense (v .field) (replicate (v .first) (v .distance)) (v .most) (record { border = 0; least = 0; merge = 0 })
     (replicate (v .work) 7) (replicate (v .second) 7) in
     eqb (o .refused) (v .refused) and eqb (o .most) 0 and eqb (o .over) 0 and sevens (v .work) (o .workspace) and sevens (v .second) (o .ids)
 

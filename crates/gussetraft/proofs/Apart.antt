@@ -4,6 +4,7 @@ use Prim.Native.Nat.{ℕ}
 use mathlib.Core.Path.{_≡_, sym, ap, _∙_}
 use mathlib.Core.List.{List}
 use Rattle.rules.specs.Field.{Field}
+use Rattle.rules.specs.Numbering.{Form}
 use Rattle.rules.specs.Outcomes.{RegionOutcome}
 use Rattle.rules.specs.Mend.{MendOutcome}
 use Rattle.watershed.specs.declared.regions.RegionAnswer.{RegionAnswer}
@@ -19,9 +20,9 @@ pub gives-regions : (o : RegionOutcome) (a : RegionAnswer) (r : Regions) (ws ids
 gives-regions o a r ws ids p e f g h =
     record { refusal = e ∙ p .refused; most = f ∙ p .most; over = g ∙ p .over; cut = h ∙ p .cut; cleared = p .workspace; numbers = p .ids }
 
-pub leaves-rooms : (F : Field) (border : ℕ) (a : RegionAnswer) (r : Regions) (ids : List ℕ) → GivesRooms F border a ids
-    → r .refusal ≡ regionsRefusedBy a → r .«max_region» ≡ maxRegionIn a → LeavesRooms F border r ids
-leaves-rooms F border a r ids g e f = record { rooms = λ z. rw f (g .rooms (sym e ∙ z)) }
+pub leaves-rooms : (form : Form) (F : Field) (border : ℕ) (a : RegionAnswer) (r : Regions) (ids : List ℕ) → GivesRooms form F border a ids
+    → r .refusal ≡ regionsRefusedBy a → r .«max_region» ≡ maxRegionIn a → LeavesRooms form F border r ids
+leaves-rooms form F border a r ids g e f = record { rooms = λ z. rw f (g .rooms (sym e ∙ z)) }
 
 pub gives-mending : (o : MendOutcome) (a : MendAnswer) (r : Mending) (con changes : List ℕ) → outcome a con changes ≡ o
     → r .refusal ≡ mendRefusedBy a → r .count ≡ changesIn a → GivesMending o r con changes

@@ -3,10 +3,11 @@ use Prim.Native.Nat.{ℕ}
 use mathlib.Core.Path.{_≡_}
 use mathlib.Core.List.{List}
 use Rattle.rules.specs.Field.{Field}
-use Rattle.rules.specs.Growth.{firstId}
+use Rattle.rules.specs.Numbering.{Form}
 use Rattle.rules.specs.Outcomes.{DistanceOutcome, RegionOutcome}
 use Rattle.rules.specs.Mend.{MendOutcome}
 use Rattle.rooms.specs.Rooms.{Rooms}
+use Rattle.rooms.specs.Dense.{firstIn, pastIn}
 use Rattle.gussetraft.specs.declared.Distances.{Distances}
 use Rattle.gussetraft.specs.declared.Regions.{Regions}
 use Rattle.gussetraft.specs.declared.Mending.{Mending}
@@ -26,8 +27,8 @@ pub record GivesRegions (o : RegionOutcome) (r : Regions) (workspace ids : List 
   pub numbers : ids ≡ o .ids
 
 -- demand 3 of a call that returns 0, with ids as it leaves them
-pub record LeavesRooms (F : Field) (border : ℕ) (r : Regions) (ids : List ℕ) : Type 0 where
-  pub rooms : r .refusal ≡ 0 → Rooms F (firstId border) ids (r .«max_region»)
+pub record LeavesRooms (form : Form) (F : Field) (border : ℕ) (r : Regions) (ids : List ℕ) : Type 0 where
+  pub rooms : r .refusal ≡ 0 → Rooms F (firstIn form border) ids (pastIn form (r .«max_region»))
 
 pub record GivesMending (o : MendOutcome) (r : Mending) (con changes : List ℕ) : Type 0 where
   pub refusal : r .refusal ≡ o .refused

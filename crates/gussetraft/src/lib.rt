@@ -6,7 +6,9 @@ use watershed::DistanceAnswer;
 use watershed::RegionAnswer;
 use watershed::build_distance_field;
 use watershed::build_regions;
+use watershed::build_regions_compared;
 ghost use mathlib.Core.Path.{_≡_};
+ghost use Rattle.rules.specs.Numbering.{dense, compared};
 ghost use Rattle.rules.specs.Outcomes.{Sizes, distanceOutcome, regionOutcome};
 ghost use Rattle.rules.specs.Mend.{mendOutcome};
 ghost use Rattle.field.specs.Lent.{lent};
@@ -126,12 +128,53 @@ pub extern "C" fn gussetraft_build_regions(
 ) -> Regions
     ensures { λ r. ⌜ (let F = lent w h (now (index .entry)) (now (count .entry)) (now (area .entry)) (now (con .entry)) in
         let z : Sizes = record { border = «border_size»; least = «min_region_area»; merge = «merge_region_area» } in
-        let o = regionOutcome F (now (dist .entry)) «max_distance» z (now (workspace .entry)) (now (ids .entry)) in
+        let o = regionOutcome dense F (now (dist .entry)) «max_distance» z (now (workspace .entry)) (now (ids .entry)) in
         GivesRegions o r (now (workspace .exit)) (now (ids .exit))) ⌝ }
     ensures rooms { λ r. ⌜ (let F = lent w h (now (index .entry)) (now (count .entry)) (now (area .entry)) (now (con .entry)) in
-        LeavesRooms F «border_size» r (now (ids .exit))) ⌝ }
+        LeavesRooms dense F «border_size» r (now (ids .exit))) ⌝ }
 {
     let answer = build_regions(
+        w,
+        h,
+        index,
+        count,
+        area,
+        con,
+        dist,
+        max_distance,
+        border_size,
+        min_region_area,
+        merge_region_area,
+        workspace,
+        ids,
+    );
+    region_numbers(answer)
+}
+
+#[no_mangle]
+pub extern "C" fn gussetraft_build_regions_compared(
+    w: u16,
+    h: u16,
+    index: &[u32],
+    count: &[u8],
+    area: &[u8],
+    con: &[u8],
+    dist: &[u16],
+    max_distance: u16,
+    border_size: u16,
+    min_region_area: u16,
+    merge_region_area: u16,
+    workspace: &mut [u16],
+    ids: &mut [u16],
+) -> Regions
+    ensures { λ r. ⌜ (let F = lent w h (now (index .entry)) (now (count .entry)) (now (area .entry)) (now (con .entry)) in
+        let z : Sizes = record { border = «border_size»; least = «min_region_area»; merge = «merge_region_area» } in
+        let o = regionOutcome compared F (now (dist .entry)) «max_distance» z (now (workspace .entry)) (now (ids .entry)) in
+        GivesRegions o r (now (workspace .exit)) (now (ids .exit))) ⌝ }
+    ensures rooms { λ r. ⌜ (let F = lent w h (now (index .entry)) (now (count .entry)) (now (area .entry)) (now (con .entry)) in
+        LeavesRooms compared F «border_size» r (now (ids .exit))) ⌝ }
+{
+    let answer = build_regions_compared(
         w,
         h,
         index,

@@ -233,11 +233,13 @@ module _ (N : Net) (dist : List ℕ) (few : spans N ≤ 32000) (bytes : (s : ℕ
       let ex = expand-down N level (t .marks) es ins in
       let z = down-zeros N (t .marks) (e .marks) (ex .0) in
       let o : turnStops N dist top k t ≡ 0
-      = rw (c .0, ids-suffice N dist level bytes (e .stack) (ex .1) (e .marks) (t .next) (h .room .some) (omega (arith, h .room .room)) (ex .0 .0 ∙ h .room .size)) refl in
-      (o, record {
-        room = turn-room N dist bytes first top k t o (h .room);
-        low = floods-low N dist level bytes (e .stack) (ex .1) (e .marks) (t .next) (h .room .some) (omega (arith, h .room .room)) (ex .0 .0 ∙ h .room .size) (c .1);
-      })
+      = rw (c .0, ids-suffice N dist level bytes (e .stack) (ex .1) (e .marks) (t .next) (h .room .some) (omega (arith, h .room .room)) (ex .0 .0 ∙ h .room .size)) refl in (
+        o,
+        record {
+          room = turn-room N dist bytes first top k t o (h .room);
+          low = floods-low N dist level bytes (e .stack) (ex .1) (e .marks) (t .next) (h .room .some) (omega (arith, h .room .room)) (ex .0 .0 ∙ h .room .size) (c .1);
+        },
+      )
 
   ample-turns : (top n : ℕ) (t : Turn) → Ample t → (turnsStop N dist top n t ≡ 0) × Ample (upto n (turn N dist top) t)
   unfolding turnsStop orElse upto

@@ -12,3 +12,4 @@ pub mod Rooms
 pub mod Entry
 pub mod FailedFlood
 pub mod Bare
+pub mod Dense

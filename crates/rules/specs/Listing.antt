@@ -7,6 +7,7 @@ use lib.ListN.{getD, replicate}
 use lib.Dec.{ltb, eqb}
 use Rattle.rules.specs.Base.{if_then_else_, tab}
 use Rattle.rules.specs.Field.{Field, spans}
+use Rattle.rules.specs.Numbering.{dense}
 use Rattle.rules.specs.Outcomes.{RegionOutcome, distanceOutcome, regionOutcome}
 use Rattle.rules.specs.File.{Level, Reading, refused, described, readFile}
 
@@ -64,7 +65,7 @@ ran v =
     let F = v .field in
     let zeros : List ℕ = replicate (spans F) 0 in
     let a = distanceOutcome F zeros zeros in
-    let b = regionOutcome F (a .blurred) (a .most) (v .sizes) (replicate (128 * spans F + 4096) 0) zeros in
+    let b = regionOutcome dense F (a .blurred) (a .most) (v .sizes) (replicate (128 * spans F + 4096) 0) zeros in
     let second = if eqb (b .refused) 0 then listing F (a .most) b else refusedLine (b .refused) in
     if eqb (a .refused) 0 then second else refusedLine (a .refused)
 

@@ -1,12 +1,13 @@
 -- Numbering, and the stages from grown ids to the result.
-use Prim.Native.Nat.{ℕ, suc}
+use Prim.Native.Nat.{ℕ, zero, suc}
+use mathlib.Core.Bool.{Bool}
 use mathlib.Core.List.{List, [], _∷_, map}
 use lib.ListN.{length}
 use lib.Dec.{eqb}
-use Rattle.rules.specs.Base.{if_then_else_}
+use Rattle.rules.specs.Base.{_and_, if_then_else_}
 use Rattle.rules.specs.Field.{Field}
-use Rattle.rules.specs.Growth.{flagged}
-use Rattle.rules.specs.Records.{Rec, at, once, records}
+use Rattle.rules.specs.Growth.{flagged, plain}
+use Rattle.rules.specs.Records.{Rec, at, has, once, records}
 use Rattle.rules.specs.Filter.{filtered}
 use Rattle.rules.specs.Merge.{place, merged}
 
@@ -47,3 +48,28 @@ unfoldable pub regions : Field → ℕ → ℕ → List ℕ → ℕ → Regions
 regions F least area ids next =
     let rs = filtered least (records F ids next) in
     numbered (merged area (suc (length rs)) rs) ids
+
+-- ---------------------------------------------------------------- the two forms of the numbers
+
+-- "The old numbering stays available as the compared form": dense is the new one
+pub data Form : Type 0 where
+  dense compared : Form
+
+-- an unflagged id that some span bears
+unfoldable pub inUse : List ℕ → ℕ → Bool
+inUse ids r = plain r and has ids r
+
+-- how many ids from 1 to r are in use: the new number of r, where r is one of them
+unfoldable pub rank : List ℕ → ℕ → ℕ
+rank ids zero = 0
+rank ids (suc r) = if inUse ids (suc r) then suc (rank ids r) else rank ids r
+
+-- "From now on an id that no span bears takes no number: ids in use run from 1 to max_region whatever the border size, and max_region
+-- is 0 when none is in use."
+unfoldable pub condensed : Regions → Regions
+condensed v =
+    record { ids = map (λ r. if flagged r then r else rank (v .ids) r) (v .ids); most = rank (v .ids) (v .most); over = v .over; cut = v .cut }
+
+unfoldable pub formed : Form → Regions → Regions
+formed dense v = condensed v
+formed compared v = v

@@ -14,12 +14,13 @@ use Rattle.rules.specs.Field.{Field, spans}
 use Rattle.rules.specs.Refusals.{regionRefusal}
 use Rattle.rules.specs.Growth.{grown, stops}
 use Rattle.rules.specs.Records.{Rec, fresh, at, records}
+use Rattle.rules.specs.Numbering.{Form, dense, compared, Regions, formed, condensed}
 use Rattle.rules.specs.Outcomes.{Sizes, RegionOutcome, regionOutcome}
 use Rattle.laws.proofs.Basics.{if-ind}
 use Rattle.laws.proofs.Lengths.{records-length, grown-length}
 use Rattle.laws.proofs.MergeEnds.{at-map}
 use Rattle.rooms.specs.Bare.{bare, bareRegions}
-use Rattle.rooms.proofs.Bare.{mark-only-carried, none-cut}
+use Rattle.rooms.proofs.Bare.{Unmarked, mark-only-carried, none-cut}
 use Rattle.rooms.proofs.Rooms.{accepted}
 use Rattle.field.specs.Lent.{Sound}
 use Rattle.field.proofs.Passed.{sound-of}
@@ -47,7 +48,19 @@ uncut F s ids size next few =
     at-map bare bare-fresh rs i
     ∙ bare-is (at rs i) (never-marked F s ids size next i (omega (arith, records-length F ids next)) (omega (arith, few i, mine-le i ids))))
 
-module _ (F : Field) (dist : List ℕ) (most : ℕ) (z : Sizes) (ws ids : List ℕ) where
+-- a form keeps the number
+formed-cut : (form : Form) (v : Regions) → formed form v .cut ≡ v .cut
+unfolding formed condensed
+formed-cut dense v = refl
+formed-cut compared v = refl
+
+-- and hangs on no mark
+formed-unmarked : (form : Form) (a b : Regions) → Unmarked a b → (formed form a .ids ≡ formed form b .ids) × (formed form a .most ≡ formed form b .most) × (formed form a .over ≡ formed form b .over)
+unfolding formed condensed
+formed-unmarked dense a b u = (rw (u .ids) refl, rw (u .ids, u .most) refl, u .over)
+formed-unmarked compared a b u = (u .ids, u .most, u .over)
+
+module _ (form : Form) (F : Field) (dist : List ℕ) (most : ℕ) (z : Sizes) (ws ids : List ℕ) where
   abbrev grownIds : List ℕ
   grownIds = grown F dist most (z .border) .ids
 
@@ -55,37 +68,37 @@ module _ (F : Field) (dist : List ℕ) (most : ℕ) (z : Sizes) (ws ids : List �
   next = grown F dist most (z .border) .next
 
   -- no region of more than 10,000 spans: none is counted as cut short
-  outcome-uncut : ((i : ℕ) → many (eqb i) grownIds ≤ 10000) → regionOutcome F dist most z ws ids .cut ≡ 0
+  outcome-uncut : ((i : ℕ) → many (eqb i) grownIds ≤ 10000) → regionOutcome form F dist most z ws ids .cut ≡ 0
   unfolding regionOutcome
   outcome-uncut few =
       if-ind (λ (o : RegionOutcome). o .cut ≡ 0) (not (eqb (regionRefusal F (length dist ∷ length ids ∷ []) (length ws) dist most) 0)) (λ _. refl)
       (λ e. if-ind (λ (o : RegionOutcome). o .cut ≡ 0) (not (eqb (stops F dist most (z .border)) 0)) (λ _. refl)
       (λ _.
       let p = accepted F (length dist ∷ length ids ∷ []) (length ws) dist most (eqb-true _ _ (not-false _ e)) in
-      none-cut F (z .least) (z .merge) grownIds next (uncut F (sound-of F (length dist ∷ length ids ∷ []) p) grownIds (grown-length F dist most (z .border)) next few)))
+      formed-cut form _ ∙ none-cut F (z .least) (z .merge) grownIds next (uncut F (sound-of F (length dist ∷ length ids ∷ []) p) grownIds (grown-length F dist most (z .border)) next few)))
 
   -- ids, max_region and the overlap count are those of the rules without the mark
-  outcome-unmarked : regionOutcome F dist most z ws ids .refused ≡ 0
-      → let v = bareRegions F (z .least) (z .merge) grownIds next in
-      let o = regionOutcome F dist most z ws ids in
+  outcome-unmarked : regionOutcome form F dist most z ws ids .refused ≡ 0
+      → let v = formed form (bareRegions F (z .least) (z .merge) grownIds next) in
+      let o = regionOutcome form F dist most z ws ids in
       (v .ids ≡ o .ids) × (v .most ≡ o .most) × (v .over ≡ o .over)
   unfolding regionOutcome
   outcome-unmarked =
-      if-ind (λ (o : RegionOutcome). let v = bareRegions F (z .least) (z .merge) grownIds next in o .refused ≡ 0 → (v .ids ≡ o .ids) × (v .most ≡ o .most) × (v .over ≡ o .over))
+      if-ind (λ (o : RegionOutcome). let v = formed form (bareRegions F (z .least) (z .merge) grownIds next) in o .refused ≡ 0 → (v .ids ≡ o .ids) × (v .most ≡ o .most) × (v .over ≡ o .over))
       (not (eqb (regionRefusal F (length dist ∷ length ids ∷ []) (length ws) dist most) 0))
       (λ e h. absurd (eqb-false _ _ (not-true _ e) h))
-      (λ _. if-ind (λ (o : RegionOutcome). let v = bareRegions F (z .least) (z .merge) grownIds next in o .refused ≡ 0 → (v .ids ≡ o .ids) × (v .most ≡ o .most) × (v .over ≡ o .over))
+      (λ _. if-ind (λ (o : RegionOutcome). let v = formed form (bareRegions F (z .least) (z .merge) grownIds next) in o .refused ≡ 0 → (v .ids ≡ o .ids) × (v .most ≡ o .most) × (v .over ≡ o .over))
       (not (eqb (stops F dist most (z .border)) 0))
       (λ e h. absurd (eqb-false _ _ (not-true _ e) h))
-      (λ _ _. let u = mark-only-carried F (z .least) (z .merge) grownIds next in (u .ids, u .most, u .over)))
+      (λ _ _. formed-unmarked form _ _ (mark-only-carried F (z .least) (z .merge) grownIds next)))
 
   -- and so for a call: r, ws′ and ids′ are what it returns and leaves
-  module _ (r : RegionAnswer) (ws′ ids′ : List ℕ) (a : AnswersRegions (regionOutcome F dist most z ws ids) r ws′ ids′) where
+  module _ (r : RegionAnswer) (ws′ ids′ : List ℕ) (a : AnswersRegions (regionOutcome form F dist most z ws ids) r ws′ ids′) where
     pub call-uncut : ((i : ℕ) → many (eqb i) grownIds ≤ 10000) → cutIn r ≡ 0
     call-uncut few = a .cut ∙ outcome-uncut few
 
     pub call-unmarked : regionsRefusedBy r ≡ 0
-        → let v = bareRegions F (z .least) (z .merge) grownIds next in
+        → let v = formed form (bareRegions F (z .least) (z .merge) grownIds next) in
         (v .ids ≡ ids′) × (v .most ≡ maxRegionIn r) × (v .over ≡ overlapsIn r)
     call-unmarked e =
         let u = outcome-unmarked (sym (a .refused) ∙ e) in

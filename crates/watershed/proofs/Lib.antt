@@ -1,4 +1,5 @@
 pub mod FarLaws
+pub mod FormLaws
 pub mod Handover
 pub mod Meaning
 pub mod Outcome

@@ -2,7 +2,7 @@
 -- A verdict's number is 0 exactly where nothing is refused, and no two refusals have the same number.
 use Prim.Native.Nat.{ℕ, _+_, _*_, _≤_}
 use native.Mathlib.Omega.{arith}
-use native.Mathlib.Decide.{decLt, ℕ-discrete}
+use native.Mathlib.Decide.{decLt}
 use mathlib.Core.Path.{_≡_, refl, sym, ap, _∙_}
 use mathlib.Core.Bool.{true, false, not}
 use mathlib.Core.Logic.{⊎-elim, _⊎_}
@@ -11,13 +11,16 @@ use lib.ListN.{length, replicate}
 use lib.Dec.{eqb}
 use borrow.Author.Tests.{eq-eqb, ne-eqb}
 use Rattle.rules.specs.Base.{if_then_else_}
-use Rattle.rules.specs.Field.{Field, spans}
+use Rattle.rules.specs.Field.{Field, Bytes, spans}
 use Rattle.rules.specs.Refusals.{regionRefusal}
-use Rattle.rules.specs.Growth.{grown, stops}
-use Rattle.laws.proofs.Grows.{stop-number}
-use Rattle.rules.specs.Numbering.{Regions, regions}
+use Rattle.rules.specs.Growth.{firstId, grown, stops}
+use Rattle.rules.specs.Numbering.{Form, Regions, regions, formed}
 use Rattle.rules.specs.Outcomes.{Sizes, RegionOutcome, regionOutcome}
-use Rattle.rooms.proofs.Rooms.{accepted}
+use Rattle.laws.proofs.Grows.{stop-number}
+use Rattle.rooms.specs.Dense.{shifted}
+use Rattle.rooms.proofs.Rooms.{accepted, entry-rooms}
+use Rattle.rooms.proofs.Dense.{formed-is}
+use Rattle.rooms.proofs.Entry.{first-some}
 use Rattle.checker.specs.Answer.{numberOf, verdictNumber}
 use Rattle.checker.specs.declared.Refusal.{Refusal}
 use Rattle.checker.specs.declared.Verdict.{Verdict}
@@ -25,8 +28,8 @@ use Rattle.checker.specs.declared.Verdict.the-variants as verdict
 use Rattle.field.proofs.Passed.{sound-of, own-lengths}
 use Rattle.watershed.specs.declared.regions.RegionAnswer.{RegionAnswer}
 use Rattle.watershed.specs.declared.regions.RegionAnswer.the-variants.{Refused, Done}
-use Rattle.watershed.specs.Answer.{regionsRefusedBy, maxRegionIn, overlapsIn, cutIn, AnswersRegions, Finds}
-use Rattle.watershed.specs.Stages.{Admitted, Raised}
+use Rattle.watershed.specs.Answer.{regionsRefusedBy, maxRegionIn, overlapsIn, cutIn, AnswersRegions}
+use Rattle.watershed.specs.Stages.{Admitted, Finds}
 use Rattle.watershed.proofs.FarLaws.{short-seven}
 use Rattle.checker.proofs.Numbers.{number-pos, number-same}
 
@@ -41,9 +44,9 @@ roomy F lens work dist most e = elim (decLt work (128 * spans F + 4096)) [
 
 module _ (F : Field) (dist : List ℕ) (most : ℕ) (ws ids : List ℕ) (v : Verdict)
     (e : verdictNumber v ≡ regionRefusal F (length dist ∷ length ids ∷ []) (length ws) dist most) where
-  pub regions-refused : (z : Sizes) (r : Refusal) → v ≡ verdict.Refused r → AnswersRegions (regionOutcome F dist most z ws ids) (Refused r) ws ids
+  pub regions-refused : (form : Form) (z : Sizes) (r : Refusal) → v ≡ verdict.Refused r → AnswersRegions (regionOutcome form F dist most z ws ids) (Refused r) ws ids
   unfolding regionOutcome if_then_else_
-  regions-refused z r y =
+  regions-refused form z r y =
       let n : numberOf r ≡ regionRefusal F (length dist ∷ length ids ∷ []) (length ws) dist most = ap verdictNumber (sym y) ∙ e in
       let f : not (eqb (regionRefusal F (length dist ∷ length ids ∷ []) (length ws) dist most) 0) ≡ true
       = rw (ne-eqb (regionRefusal F (length dist ∷ length ids ∷ []) (length ws) dist most) 0 (λ k. omega (arith, number-pos r))) refl in
@@ -67,59 +70,46 @@ module _ (F : Field) (dist : List ℕ) (most : ℕ) (ws ids : List ℕ) (v : Ver
     passes : not (eqb (regionRefusal F (length dist ∷ length ids ∷ []) (length ws) dist most) 0) ≡ false
     passes = rw (eq-eqb (regionRefusal F (length dist ∷ length ids ∷ []) (length ws) dist most) 0 none) refl
 
-    -- what the stages find is the outcome
-    pub regions-found : (z : Sizes) (r : RegionAnswer) (ws′ ids′ : List ℕ) → Finds F dist most z ids r ids′ → ws′ ≡ replicate (length ws) 0
-        → AnswersRegions (regionOutcome F dist most z ws ids) r ws′ ids′
-    unfolding regionOutcome if_then_else_
-    regions-found z r ws′ ids′ g q = elim (ℕ-discrete (stops F dist most (z .border)) 0) [
-      | yes o ↦ (let p : not (eqb (stops F dist most (z .border)) 0) ≡ false = rw (eq-eqb (stops F dist most (z .border)) 0 o) refl in
-          let v = g .done o in
-          record {
-            refused = rw (passes, p) (g .refused ∙ o);
-            most = rw (passes, p) (ap (λ (g : Regions). g .most) v);
-            over = rw (passes, p) (ap (λ (g : Regions). g .over) v);
-            cut = rw (passes, p) (ap (λ (g : Regions). g .cut) v);
-            workspace = rw (passes, p) q;
-            ids = rw (passes, p) (ap (λ (g : Regions). g .ids) v);
-          })
-      | no o ↦ (let p : not (eqb (stops F dist most (z .border)) 0) ≡ true = rw (ne-eqb (stops F dist most (z .border)) 0 o) refl in
-          let v = g .stopped o in
-          record {
-            refused = rw (passes, p) (g .refused);
-            most = rw (passes, p) (v .0);
-            over = rw (passes, p) (v .1);
-            cut = rw (passes, p) (v .2);
-            workspace = rw (passes, p) q;
-            ids = rw (passes, p) (v .3);
-          })
-    ]
+    -- what the stages find, g, where growth is stopped
+    module _ (z : Sizes) (stop : ℕ) (v₁ : Regions) (g : Finds F dist most z ids stop v₁) (ws′ : List ℕ) (q : ws′ ≡ replicate (length ws) 0) where
+      -- 12 or 13
+      pub stop-is : (stop ≡ 0 → ⊥) → (stop ≡ 12) ⊎ (stop ≡ 13)
+      stop-is o = rw (g .stops) (⊎-elim (λ (e : stops F dist most (z .border) ≡ 0). absurd (o (g .stops ∙ e))) (λ e. e) (stop-number F dist most (z .border)))
 
--- ---------------------------------------------------------------- what the stages find
+      pub regions-stopped : (form : Form) (r : Refusal) → numberOf r ≡ stop → (stop ≡ 0 → ⊥) → AnswersRegions (regionOutcome form F dist most z ws ids) (Refused r) ws′ (v₁ .ids)
+      unfolding regionOutcome if_then_else_
+      regions-stopped form r e o =
+          let p : not (eqb (stops F dist most (z .border)) 0) ≡ true = rw (ne-eqb (stops F dist most (z .border)) 0 (λ k. o (g .stops ∙ k))) refl in
+          record {
+            refused = rw (passes, p) (e ∙ g .stops);
+            most = rw (passes, p);
+            over = rw (passes, p);
+            cut = rw (passes, p);
+            workspace = rw (passes, p) q;
+            ids = rw (passes, p) (g .back o);
+          }
+
+      -- and what the form makes of it, s, where it is not
+      pub regions-done : (form : Form) (k o u : ℕ) (ids′ : List ℕ) → stop ≡ 0 → Bytes F → record { ids = ids′; most = k; over = o; cut = u } ≡ shifted form (firstId (z .border)) v₁
+          → AnswersRegions (regionOutcome form F dist most z ws ids) (Done k o u) ws′ ids′
+      unfolding regionOutcome if_then_else_
+      regions-done form k o u ids′ y bytes s =
+          let goes : stops F dist most (z .border) ≡ 0 = sym (g .stops) ∙ y in
+          let rooms = entry-rooms F (length dist ∷ length ids ∷ []) (length ws) dist most none bytes (z .border) (z .least) (z .merge) goes in
+          let p : record { ids = ids′; most = k; over = o; cut = u } ≡ formed form (regions F (z .least) (z .merge) (grown F dist most (z .border) .ids) (grown F dist most (z .border) .next)) =
+          s ∙ ap (shifted form (firstId (z .border))) (g .done y) ∙ sym (formed-is form F (firstId (z .border)) _ rooms (first-some (z .border))) in
+          let f : not (eqb (stops F dist most (z .border)) 0) ≡ false = rw (eq-eqb (stops F dist most (z .border)) 0 goes) refl in
+          record {
+            refused = rw (passes, f);
+            most = rw (passes, f) (ap (λ (g : Regions). g .most) p);
+            over = rw (passes, f) (ap (λ (g : Regions). g .over) p);
+            cut = rw (passes, f) (ap (λ (g : Regions). g .cut) p);
+            workspace = rw (passes, f) q;
+            ids = rw (passes, f) (ap (λ (g : Regions). g .ids) p);
+          }
 
 pub other-stop : (r : ℕ) → (r ≡ 12) ⊎ (r ≡ 13) → (r ≡ 12 → ⊥) → 13 ≡ r
 other-stop r h z = ⊎-elim (λ (e : r ≡ 12). absurd (z e)) (λ (e : r ≡ 13). sym e) h
-
-module _ (F : Field) (dist : List ℕ) (most table : ℕ) (z : Sizes) (ids : List ℕ) (next stop : ℕ) (ids₁ ws₁ : List ℕ)
-    (g : Raised F dist most (z .border) table ids next stop ids₁ ws₁) where
-  -- 12 or 13
-  pub stop-is : (stop ≡ 0 → ⊥) → (stop ≡ 12) ⊎ (stop ≡ 13)
-  stop-is o = rw (g .stops) (⊎-elim (λ (e : stops F dist most (z .border) ≡ 0). absurd (o (g .stops ∙ e))) (λ e. e) (stop-number F dist most (z .border)))
-
-  pub finds-stop : (r : Refusal) → numberOf r ≡ stop → (stop ≡ 0 → ⊥) → Finds F dist most z ids (Refused r) ids₁
-  finds-stop r e o = record {
-    refused = e ∙ g .stops;
-    done = λ q. absurd (o (g .stops ∙ q));
-    stopped = λ _. (refl, refl, refl, g .back o);
-  }
-
-  pub finds-regions : stop ≡ 0 → (k o u : ℕ) (ids′ : List ℕ)
-      → record { ids = ids′; most = k; over = o; cut = u } ≡ regions F (z .least) (z .merge) (grown F dist most (z .border) .ids) (grown F dist most (z .border) .next)
-      → Finds F dist most z ids (Done k o u) ids′
-  finds-regions s k o u ids′ p = record {
-    refused = sym s ∙ g .stops;
-    done = λ _. p;
-    stopped = λ q. absurd (q (sym (g .stops) ∙ s));
-  }
 
 -- ---------------------------------------------------------------- one answer
 

@@ -3,10 +3,10 @@ use Prim.Native.Nat.{ℕ}
 use mathlib.Core.Path.{_≡_}
 use mathlib.Core.List.{List}
 use Rattle.rules.specs.Field.{Field}
-use Rattle.rules.specs.Growth.{firstId, grown, stops}
-use Rattle.rules.specs.Numbering.{regions}
-use Rattle.rules.specs.Outcomes.{DistanceOutcome, Sizes, RegionOutcome}
+use Rattle.rules.specs.Numbering.{Form}
+use Rattle.rules.specs.Outcomes.{DistanceOutcome, RegionOutcome}
 use Rattle.rooms.specs.Rooms.{Rooms}
+use Rattle.rooms.specs.Dense.{firstIn, pastIn}
 use Rattle.checker.specs.Answer.{numberOf}
 use Rattle.watershed.specs.declared.DistanceAnswer.{DistanceAnswer}
 use Rattle.watershed.specs.declared.DistanceAnswer.the-variants.{Refused, Done}
@@ -56,14 +56,7 @@ pub record AnswersRegions (o : RegionOutcome) (r : RegionAnswer) (ws l : List �
   pub workspace : ws ≡ o .workspace
   pub ids : l ≡ o .ids
 
--- demand 3 of an answer that refuses nothing, with l the ids at exit: they are rooms, of which the first has id 1, or 5 with a border
-pub record GivesRooms (F : Field) (border : ℕ) (r : RegionAnswer) (l : List ℕ) : Type 0 where
-  pub rooms : regionsRefusedBy r ≡ 0 → Rooms F (firstId border) l (maxRegionIn r)
-
--- what the stages find of a field that 1 to 8 let pass, with ids the ids before and l the ids at exit: the rule's regions, or what stops growth
-pub record Finds (F : Field) (dist : List ℕ) (most : ℕ) (z : Sizes) (ids : List ℕ) (r : RegionAnswer) (l : List ℕ) : Type 0 where
-  pub refused : regionsRefusedBy r ≡ stops F dist most (z .border)
-  pub done : stops F dist most (z .border) ≡ 0
-      → record { ids = l; most = maxRegionIn r; over = overlapsIn r; cut = cutIn r }
-      ≡ regions F (z .least) (z .merge) (grown F dist most (z .border) .ids) (grown F dist most (z .border) .next)
-  pub stopped : (stops F dist most (z .border) ≡ 0 → ⊥) → (maxRegionIn r ≡ 0) × (overlapsIn r ≡ 0) × (cutIn r ≡ 0) × (l ≡ ids)
+-- demand 3 of an answer that refuses nothing, with l the ids at exit: they are rooms. In the dense form the first has id 1 and the last
+-- max_region; in the compared form the first has id 1, or 5 with a border, and the last max_region - 1
+pub record GivesRooms (form : Form) (F : Field) (border : ℕ) (r : RegionAnswer) (l : List ℕ) : Type 0 where
+  pub rooms : regionsRefusedBy r ≡ 0 → Rooms F (firstIn form border) l (pastIn form (maxRegionIn r))

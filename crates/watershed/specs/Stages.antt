@@ -8,6 +8,8 @@ use Rattle.rules.specs.Base.{if_then_else_}
 use Rattle.rules.specs.Field.{Field, spans}
 use Rattle.rules.specs.Net.{netOf}
 use Rattle.rules.specs.Growth.{grown, stops}
+use Rattle.rules.specs.Numbering.{Regions, regions}
+use Rattle.rules.specs.Outcomes.{Sizes}
 use Rattle.space.specs.Space.{Clear}
 use Rattle.net.specs.Table.{netAt}
 use Rattle.field.specs.Lent.{Sound}
@@ -35,3 +37,9 @@ pub record Raised (F : Field) (dist : List ℕ) (most border table : ℕ) (ids�
   pub clear : stop ≡ 0 → Clear 0 table ws′
   pub net : stop ≡ 0 → netAt table (F .area) ws′ ≡ netOf F
   pub back : (stop ≡ 0 → ⊥) → ids′ ≡ ids₀
+
+-- what the stages find of a field that 1 to 8 let pass, with ids₀ the ids before: the rule's regions, or what stops growth and the ids as before
+pub record Finds (F : Field) (dist : List ℕ) (most : ℕ) (z : Sizes) (ids₀ : List ℕ) (stop : ℕ) (v : Regions) : Type 0 where
+  pub stops : stop ≡ stops F dist most (z .border)
+  pub done : stop ≡ 0 → v ≡ regions F (z .least) (z .merge) (grown F dist most (z .border) .ids) (grown F dist most (z .border) .next)
+  pub back : (stop ≡ 0 → ⊥) → v .ids ≡ ids₀

@@ -1,8 +1,10 @@
 // The public entries.
+mod form;
 mod regions;
 
 pub use crate::regions::RegionAnswer;
 pub use crate::regions::build_regions;
+pub use crate::regions::build_regions_compared;
 use checker::Refusal;
 use checker::Verdict;
 use checker::check;

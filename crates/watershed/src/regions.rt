@@ -1,4 +1,6 @@
-// The region entry.
+// The region entry, in its two forms.
+use crate::form::Form;
+use crate::form::give_form;
 use checker::Refusal;
 use checker::Verdict;
 use checker::check;
@@ -7,6 +9,7 @@ use growth::turns::GOES_ON;
 use growth::turns::Growth;
 use growth::turns::IDS_RUN_OUT;
 use merge::merge_and_filter_regions;
+use numbering::Regions;
 use records::build::build_records;
 use records::map::records_end;
 use space::clear;
@@ -18,14 +21,17 @@ ghost use mathlib.Core.Path.{_≡_};
 ghost use mathlib.Core.Logic.{_⊎_};
 ghost use mathlib.Core.List.{[], _∷_};
 ghost use lib.ListN.{length, replicate};
+ghost use lib.Dec.{ltb};
 ghost use Rattle.rules.specs.Base.{any};
 ghost use Rattle.rules.specs.Field.{Bytes};
 ghost use Rattle.rules.specs.Refusals.{tooFar, regionRefusal};
+ghost use Rattle.rules.specs.Numbering.{dense, compared};
 ghost use Rattle.rules.specs.Outcomes.{Sizes, regionOutcome};
 ghost use Rattle.field.specs.Lent.{lent};
 ghost use Rattle.checker.specs.Answer.{numberOf, verdictNumber};
-ghost use Rattle.watershed.specs.Answer.{AnswersRegions, GivesRooms, Finds};
-ghost use Rattle.watershed.specs.Stages.{Admitted, Raised, ownRefusal, tableAt};
+ghost use Rattle.watershed.specs.Answer.{AnswersRegions, GivesRooms};
+ghost use Rattle.watershed.specs.Form.{formOf};
+ghost use Rattle.watershed.specs.Stages.{Admitted, Raised, Finds, ownRefusal, tableAt};
 
 // What the region entry gives: the refusal, or max_region, the overlap count, and the number of records cut short.
 pub enum RegionAnswer {
@@ -141,6 +147,12 @@ fn stop_refusal(stop: u16) -> Refusal
     Refusal::NoSum
 }
 
+// What growth and the stages after it find: the refusal that stops growth, and the regions.
+pub struct Found {
+    pub stop: u16,
+    pub regions: Regions,
+}
+
 // The regions of a field that is not refused. The table of neighbours stands past the most that the records take.
 fn find_regions(
     w: usize,
@@ -156,11 +168,13 @@ fn find_regions(
     merge_region_area: u16,
     ws: &mut [u16],
     ids: &mut [u16],
-) -> RegionAnswer
+) -> Found
     requires { ⌜ Admitted (lent w h (now index) (now count) (now area) (now con)) (now dist) (now ws) (now ids) ⌝ }
     ensures { λ r. ⌜ (let F = lent w h (now (index .entry)) (now (count .entry)) (now (area .entry)) (now (con .entry)) in
         let z : Sizes = record { border = «border_size»; least = «min_region_area»; merge = «merge_region_area» } in
-        Finds F (now (dist .entry)) «max_distance» z (now (ids .entry)) r (now (ids .exit))) ⌝ }
+        let v = r .regions in
+        let found = record { ids = now (ids .exit); most = v .«max_region»; over = v .overlaps; cut = v .cut } in
+        Finds F (now (dist .entry)) «max_distance» z (now (ids .entry)) (r .stop) found) ⌝ }
     ensures { λ _. ⌜ now (ws .exit) ≡ replicate (length (now (ws .entry))) 0 ⌝ }
     ensures bytes { λ _. ⌜ Bytes (lent w h (now (index .entry)) (now (count .entry)) (now (area .entry)) (now (con .entry))) ⌝ }
 {
@@ -183,16 +197,97 @@ fn find_regions(
     let all = ws.len();
     if g.stop != GOES_ON {
         clear_part(ws, 0, all);
-        return RegionAnswer::Refused(stop_refusal(g.stop));
+        return Found {
+            stop: g.stop,
+            regions: Regions {
+                max_region: 0,
+                overlaps: 0,
+                cut: 0,
+            },
+        };
     }
     let next = g.next as usize;
     build_records(w, h, index, count, area, con, ids, ws, table, next);
-    let r = merge_and_filter_regions(ws, ids, next + 1, n, min_region_area, merge_region_area);
+    let regions = merge_and_filter_regions(
+        ws,
+        ids,
+        next + 1,
+        n,
+        min_region_area,
+        merge_region_area,
+    );
     clear_part(ws, 0, all);
-    RegionAnswer::Done(r.max_region, r.overlaps, r.cut)
+    Found {
+        stop: GOES_ON,
+        regions,
+    }
 }
 
-// Ids of the regions of any lists: a field that is refused leaves ids and workspace as they were.
+// Ids of the regions of any lists, in either form: a field that is refused leaves ids and workspace as they were.
+fn build_form(
+    form: Form,
+    w: u16,
+    h: u16,
+    index: &[u32],
+    count: &[u8],
+    area: &[u8],
+    con: &[u8],
+    dist: &[u16],
+    max_distance: u16,
+    border_size: u16,
+    min_region_area: u16,
+    merge_region_area: u16,
+    workspace: &mut [u16],
+    ids: &mut [u16],
+) -> RegionAnswer
+    ensures { λ r. ⌜ (let F = lent w h (now (index .entry)) (now (count .entry)) (now (area .entry)) (now (con .entry)) in
+        let z : Sizes = record { border = «border_size»; least = «min_region_area»; merge = «merge_region_area» } in
+        let o = regionOutcome (formOf form) F (now (dist .entry)) «max_distance» z (now (workspace .entry)) (now (ids .entry)) in
+        AnswersRegions o r (now (workspace .exit)) (now (ids .exit))) ⌝ }
+    ensures rooms { λ r. ⌜ (let F = lent w h (now (index .entry)) (now (count .entry)) (now (area .entry)) (now (con .entry)) in
+        GivesRooms (formOf form) F «border_size» r (now (ids .exit))) ⌝ }
+{
+    let width = w as usize;
+    let height = h as usize;
+    match check_regions(
+        width,
+        height,
+        index,
+        count,
+        area,
+        con,
+        dist,
+        max_distance,
+        workspace.len(),
+        ids.len(),
+    ) {
+        Verdict::Refused(r) => RegionAnswer::Refused(r),
+        Verdict::Sound => {
+            let f = find_regions(
+                width,
+                height,
+                index,
+                count,
+                area,
+                con,
+                dist,
+                max_distance,
+                border_size,
+                min_region_area,
+                merge_region_area,
+                workspace,
+                ids,
+            );
+            if f.stop != GOES_ON {
+                return RegionAnswer::Refused(stop_refusal(f.stop));
+            }
+            let x = give_form(form, border_size, ids, f.regions);
+            RegionAnswer::Done(x.max_region, x.overlaps, x.cut)
+        }
+    }
+}
+
+// The dense form: the ids in use are 1 to max_region.
 pub fn build_regions(
     w: u16,
     h: u16,
@@ -210,40 +305,66 @@ pub fn build_regions(
 ) -> RegionAnswer
     ensures { λ r. ⌜ (let F = lent w h (now (index .entry)) (now (count .entry)) (now (area .entry)) (now (con .entry)) in
         let z : Sizes = record { border = «border_size»; least = «min_region_area»; merge = «merge_region_area» } in
-        let o = regionOutcome F (now (dist .entry)) «max_distance» z (now (workspace .entry)) (now (ids .entry)) in
+        let o = regionOutcome dense F (now (dist .entry)) «max_distance» z (now (workspace .entry)) (now (ids .entry)) in
         AnswersRegions o r (now (workspace .exit)) (now (ids .exit))) ⌝ }
     ensures rooms { λ r. ⌜ (let F = lent w h (now (index .entry)) (now (count .entry)) (now (area .entry)) (now (con .entry)) in
-        GivesRooms F «border_size» r (now (ids .exit))) ⌝ }
+        GivesRooms dense F «border_size» r (now (ids .exit))) ⌝ }
 {
-    let width = w as usize;
-    let height = h as usize;
-    match check_regions(
-        width,
-        height,
+    build_form(
+        Form::Dense,
+        w,
+        h,
         index,
         count,
         area,
         con,
         dist,
         max_distance,
-        workspace.len(),
-        ids.len(),
-    ) {
-        Verdict::Refused(r) => RegionAnswer::Refused(r),
-        Verdict::Sound => find_regions(
-            width,
-            height,
-            index,
-            count,
-            area,
-            con,
-            dist,
-            max_distance,
-            border_size,
-            min_region_area,
-            merge_region_area,
-            workspace,
-            ids,
-        ),
-    }
+        border_size,
+        min_region_area,
+        merge_region_area,
+        workspace,
+        ids,
+    )
+}
+
+// The compared form: the numbers of the Rust.
+pub fn build_regions_compared(
+    w: u16,
+    h: u16,
+    index: &[u32],
+    count: &[u8],
+    area: &[u8],
+    con: &[u8],
+    dist: &[u16],
+    max_distance: u16,
+    border_size: u16,
+    min_region_area: u16,
+    merge_region_area: u16,
+    workspace: &mut [u16],
+    ids: &mut [u16],
+) -> RegionAnswer
+    ensures { λ r. ⌜ (let F = lent w h (now (index .entry)) (now (count .entry)) (now (area .entry)) (now (con .entry)) in
+        let z : Sizes = record { border = «border_size»; least = «min_region_area»; merge = «merge_region_area» } in
+        let o = regionOutcome compared F (now (dist .entry)) «max_distance» z (now (workspace .entry)) (now (ids .entry)) in
+        AnswersRegions o r (now (workspace .exit)) (now (ids .exit))) ⌝ }
+    ensures rooms { λ r. ⌜ (let F = lent w h (now (index .entry)) (now (count .entry)) (now (area .entry)) (now (con .entry)) in
+        GivesRooms compared F «border_size» r (now (ids .exit))) ⌝ }
+{
+    build_form(
+        Form::Compared,
+        w,
+        h,
+        index,
+        count,
+        area,
+        con,
+        dist,
+        max_distance,
+        border_size,
+        min_region_area,
+        merge_region_area,
+        workspace,
+        ids,
+    )
 }

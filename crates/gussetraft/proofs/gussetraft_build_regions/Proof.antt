@@ -21,7 +21,7 @@ returns : tie.Need-returns
 returns c =
     let e = c .before .before .before .before .before .build-regions .ensures in
     let n = c .region-numbers .ensures in
-    (gives-regions _ _ _ _ _ (e .0) (n .0) (n .1) (n .2) (n .3), leaves-rooms _ _ _ _ _ (e .1) (n .0) (n .1))
+    (gives-regions _ _ _ _ _ (e .0) (n .0) (n .1) (n .2) (n .3), leaves-rooms _ _ _ _ _ _ (e .1) (n .0) (n .1))
 
 pub gussetraft-build-regions-spec : {M : Type 1} → statement M
 gussetraft-build-regions-spec =

@@ -61,6 +61,23 @@ pub fn regions(
             Stop::Ids => Refusal::IdsRunOut,
             Stop::Sum => Refusal::SumTooGreat,
         })?;
+    let (ids, max_region, overlaps) = unguarded(field, distances, max_distance, settings);
+    Ok(Regions {
+        max_region,
+        overlaps,
+        cut: cut(&modelled, &ids),
+        ids,
+    })
+}
+
+/// The ids, the last number given and the overlap count of the unchanged Rust, which is asked whatever the model says:
+/// with overflow checks it panics where refusal 13 is given.
+pub fn unguarded(
+    field: &Field,
+    distances: &[u16],
+    max_distance: u16,
+    settings: Settings,
+) -> (Vec<u16>, u16, usize) {
     let mut heightfield = heightfield(field);
     heightfield.dist = distances.to_vec();
     heightfield.max_distance = max_distance;
@@ -71,18 +88,17 @@ pub fn regions(
             settings.least_area,
             settings.merge_area,
         )
-        .expect("ids don't run out: the model says so");
-    let ids: Vec<_> = heightfield
+        .expect("65,000 spans give no 65,535 ids");
+    let ids = heightfield
         .spans
         .iter()
         .map(|span| span.region.bits())
         .collect();
-    Ok(Regions {
-        max_region: heightfield.max_region.bits(),
-        overlaps: tracing::take_len().unwrap_or(0),
-        cut: cut(&modelled, &ids),
+    (
         ids,
-    })
+        heightfield.max_region.bits(),
+        tracing::take_len().unwrap_or(0),
+    )
 }
 
 /// The number that the unchanged Rust does not tell: how many contours were cut short. The model walked them again; it

@@ -2,6 +2,7 @@
 
 use oracle::{
     field::{Field, Settings},
+    levels::edges,
     refusals::{self, Refusal, workspace_needed},
     run::{self, Distances, Regions},
 };

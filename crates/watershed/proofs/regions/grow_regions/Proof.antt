@@ -1,11 +1,8 @@
 -- The ids stand past the table, which growth leaves alone, so they can be put back where it is stopped (StageLaws).
 -- Assumes nothing.
-use Prim.Native.Nat.{_+_, _*_}
 use native.Mathlib.Omega.{arith}
-use mathlib.Core.Path.{_≡_, refl, _∙_}
+use mathlib.Core.Path.{refl, _∙_}
 use borrow.Author.Needs.{needs}
-use denote.Ref.{now}
-use lib.ListN.{length}
 use Rattle.watershed.proofs.StageLaws.{few, kept-room, poised, raised, kept-ids, put-back}
 use Rattle.watershed.proofs.regions.grow_regions.Statement.{statement}
 use Rattle.watershed.proofs.regions.grow_regions.Tie as tie
@@ -26,5 +23,95 @@ P c = c .before .before .before .before .before
 abbrev G : tie.After-struct-known → tie.After-grow
 G c = c .before .before .before .before .before
 
+mul-kept : tie.Need-mul-kept
+mul-kept c = let s = c .before .before .before .before .before .before .before in omega (arith, few _ _ _ _ _ _ _ _ _ (s .pre .0))
+
 add-kept : tie.Need-add-kept
-add-kept c = ?
+add-kept c = let s = c .before .before .before .before .before .before .before in omega (arith, few _ _ _ _ _ _ _ _ _ (s .pre .0), s .pre .1)
+
+copy-part-requires : tie.Need-copy-part-requires
+copy-part-requires c κs = let s = S c in kept-room _ _ _ _ _ _ _ _ _ (s .pre .0) _ (s .pre .1) _ refl
+
+clear-requires : tie.Need-clear-requires
+clear-requires c κs = search needs
+
+clear-part-requires : tie.Need-clear-part-requires
+clear-part-requires c κs =
+    let i = c .before .before .before in
+    let k = C i in
+    let s = S (k .before) in
+    (omega arith, omega (arith, k .copy-part .kept .1 .0, s .pre .1, s .pre .0 .room))
+
+grow-requires : tie.Need-grow-requires
+grow-requires c κs =
+    let p = c .before .before .before .before in
+    let i = I p in
+    let k = C i in
+    let s = S (k .before) in
+    (poised _ _ _ _ _ _ _ _ _ (s .pre .0) _ (s .pre .1) _ _ (i .clear .ensures) (p .clear-part .kept .0 ∙ k .copy-part .kept .1 .0) (p .clear-part .ensures .0), s .pre .0 .distances)
+
+add-copy : tie.Need-add-copy
+add-copy c = search needs
+
+mul-copy : tie.Need-mul-copy
+mul-copy c = search needs
+
+sub-copy : tie.Need-sub-copy
+sub-copy c = search needs
+
+part-copy-start : tie.Need-part-copy-start
+part-copy-start c = search needs
+
+part-copy-end : tie.Need-part-copy-end
+part-copy-end c = search needs
+
+copy-requires : tie.Need-copy-requires
+copy-requires c κs = search needs
+
+same-length : tie.Need-same-length
+same-length c = search needs
+
+same-length-2 : tie.Need-same-length-2
+same-length-2 c = search needs
+
+returns : tie.Need-returns
+returns c = ?
+
+same-length-3 : tie.Need-same-length-3
+same-length-3 c = search needs
+
+same-length-4 : tie.Need-same-length-4
+same-length-4 c = search needs
+
+returns-2 : tie.Need-returns-2
+returns-2 c =
+    let g = G (c .before) in
+    let p = P g in
+    let i = I p in
+    let k = C i in
+    let s = S (k .before) in
+    raised _ _ _ _ _ _ _ _ _ (s .pre .0) _ (s .pre .1) _ refl _ (k .copy-part .kept .1 .0) (k .copy-part .ensures .0) _ (p .clear-part .kept .0) (p .clear-part .ensures .1)
+    _ _ _ _ _ _ (g .grow .ensures) (g .grow .kept .1 .1 .1 .1 .1 .1 .1 .1 .0) (c .if1 .left)
+
+pub grow-regions-spec : {M : Type 1} → statement M
+grow-regions-spec =
+    tie.close
+    (tie.spec
+    mul-kept
+    add-kept
+    copy-part-requires
+    clear-requires
+    clear-part-requires
+    grow-requires
+    add-copy
+    mul-copy
+    sub-copy
+    part-copy-start
+    part-copy-end
+    copy-requires
+    same-length
+    same-length-2
+    returns
+    same-length-3
+    same-length-4
+    returns-2)

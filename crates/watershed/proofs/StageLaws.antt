@@ -1,13 +1,13 @@
 -- The region entry's stages one after the other: what each leaves is what the next asks, and what the last gives is the rule's.
 -- The records come before the table, whatever the next id is: it is at most 5 and the number of spans.
-use Prim.Native.Nat.{ℕ, suc, _+_, _*_, _≤_, _<_}
+use Prim.Native.Nat.{ℕ, suc, _+_, _-_, _*_, _≤_, _<_}
 use native.Mathlib.Omega.{arith}
 use native.Mathlib.Decide.{ℕ-discrete}
-use mathlib.Core.Path.{_≡_, sym, ap, _∙_}
+use mathlib.Core.Path.{_≡_, refl, sym, ap, _∙_}
 use mathlib.Core.List.{List}
 use lib.ListN.{length, getD, replicate, length-replicate, getD-replicate}
 use lib.Seq.{ext-getD}
-use Rattle.rules.specs.Field.{Bytes}
+use Rattle.rules.specs.Field.{Field, Bytes}
 use Rattle.rules.specs.Field as field
 use Rattle.rules.specs.Net.{netOf, spans, areaOf}
 use Rattle.rules.specs.Growth.{firstId, grown, stops}
@@ -15,6 +15,7 @@ use Rattle.rules.specs.Records.{records}
 use Rattle.rules.specs.Filter.{filtered}
 use Rattle.rules.specs.Merge.{merged}
 use Rattle.rules.specs.Numbering.{Regions, numbered, regions}
+use Rattle.rules.specs.Outcomes.{Sizes}
 use Rattle.rules.specs.Refusals.{mostSpans}
 use Rattle.laws.proofs.Basics.{getD-any}
 use Rattle.laws.proofs.Grows.{first-few, grown-room}
@@ -33,7 +34,7 @@ use Rattle.records.specs.Map.{recordsEnd}
 use Rattle.records.specs.Stock.{Given, Blank, Built}
 use Rattle.numbering.specs.Number.{Spans}
 use Rattle.merge.specs.Ready.{Ready}
-use Rattle.watershed.specs.Stages.{Admitted, Raised, tableAt}
+use Rattle.watershed.specs.Stages.{Admitted, Raised, Finds, tableAt}
 use Rattle.watershed.proofs.Handover.{handed}
 
 -- a list that is clear from 0 to its end
@@ -41,6 +42,10 @@ pub all-clear : (k : ℕ) (ws : List ℕ) → length ws ≡ k → Clear 0 k ws �
 all-clear k ws e z =
     ext-getD 0 ws (replicate k 0) (e ∙ sym (length-replicate k (let o : ℕ = 0 in o)))
     (λ i h. z .blank i (omega arith) (omega (arith, e, h)) ∙ sym (getD-replicate k i (let o : ℕ = 0 in o) 0 (omega (arith, e, h))))
+
+-- a part from a to e, lent
+pub part-is : (a n e : ℕ) (ws l : List ℕ) → e ≡ a + n → l ≡ sec a (e - a) ws → l ≡ sec a n ws
+part-is a n e ws l p q = let k : e - a ≡ n = omega arith in q ∙ rw k
 
 -- what is lent as areas is bytes
 pub areas-are-bytes : (w h : ℕ) (is ks ar cs : List ℕ) → ((i : ℕ) → getD ar i 0 < 256) → Bytes (lent w h is ks ar cs)
@@ -81,14 +86,14 @@ module _ (w h : ℕ) (is ks ar cs dist ws ids : List ℕ) (a : Admitted (lent w 
       kept-ids =
           sec-same ws₁ ws₃ kept (length ids) (omega (arith, kept-room kept at, n₁)) (n₃ ∙ n₂) (λ k l u. g .after k (omega (arith, at)) ∙ getD-after k f (omega (arith, at))) ∙ c
 
-      pub put-back : (ids₄ : List ℕ) → ids₄ ≡ ids → (stop ≡ 0 → ⊥) → Raised (lent w h is ks ar cs) dist most border table ids next stop ids₄ ws₃
-      put-back ids₄ e z = record {
+      pub put-back : (ids₄ : List ℕ) (n : ℕ) → n ≡ length ids → ids₄ ≡ sec kept n ws₃ → (stop ≡ 0 → ⊥) → Raised (lent w h is ks ar cs) dist most border table ids next stop ids₄ ws₃
+      put-back ids₄ n s e z = record {
         stops = g .stops;
         ids = λ o. absurd (z o);
         id = λ o. absurd (z o);
         clear = λ o. absurd (z o);
         net = λ o. absurd (z o);
-        back = λ _. e;
+        back = λ _. e ∙ rw s kept-ids;
       }
 
     -- after growth that nothing stops
@@ -159,3 +164,14 @@ module _ (w h : ℕ) (is ks ar cs dist ws ids : List ℕ) (a : Admitted (lent w 
             let rs = filtered least (records (lent w h is ks ar cs) ids₂ next) in
             let m : suc (next + 1) ≡ suc (length rs) = omega (arith, filtered-length least (records (lent w h is ks ar cs) ids₂ next), records-length (lent w h is ks ar cs) ids₂ next) in
             e ∙ rw (B .same, m, f .ids o, f .id o)
+
+-- what the stages find
+module _ (F : Field) (dist : List ℕ) (most table : ℕ) (z : Sizes) (ids : List ℕ) (next stop : ℕ) (ids₁ ws₁ : List ℕ)
+    (g : Raised F dist most (z .border) table ids next stop ids₁ ws₁) where
+  pub finds-stop : (stop ≡ 0 → ⊥) → (v : Regions) → v .ids ≡ ids₁ → Finds F dist most z ids stop v
+  finds-stop o v e = record { stops = g .stops; done = λ q. absurd (o q); back = λ _. e ∙ g .back o }
+
+  pub finds-regions : stop ≡ 0 → (v : Regions)
+      → v ≡ regions F (z .least) (z .merge) (grown F dist most (z .border) .ids) (grown F dist most (z .border) .next)
+      → Finds F dist most z ids 0 v
+  finds-regions o v p = record { stops = sym o ∙ g .stops; done = λ _. p; back = λ q. absurd (q refl) }

@@ -20,13 +20,16 @@ use table::any_above;
 ghost use mathlib.Core.Path.{_≡_};
 ghost use mathlib.Core.Logic.{_⊎_};
 ghost use mathlib.Core.List.{[], _∷_};
+ghost use Prim.Native.Nat.{_+_, _≤_};
 ghost use lib.ListN.{length, replicate};
 ghost use lib.Dec.{ltb};
 ghost use Rattle.rules.specs.Base.{any};
 ghost use Rattle.rules.specs.Field.{Bytes};
 ghost use Rattle.rules.specs.Refusals.{tooFar, regionRefusal};
 ghost use Rattle.rules.specs.Numbering.{dense, compared};
+ghost use Rattle.rules.specs.Numbering as rules;
 ghost use Rattle.rules.specs.Outcomes.{Sizes, regionOutcome};
+ghost use Rattle.space.specs.Space.{sec};
 ghost use Rattle.field.specs.Lent.{lent};
 ghost use Rattle.checker.specs.Answer.{numberOf, verdictNumber};
 ghost use Rattle.watershed.specs.Answer.{AnswersRegions, GivesRooms};
@@ -91,6 +94,15 @@ fn check_regions(
 // "Records run from 0 to the next id, both included", and the next id is at most n + 5: so many more than there are spans.
 const MORE_RECORDS: usize = 6;
 
+// The ids that stand in the workspace from kept on are put back.
+fn put_back(ws: &[u16], kept: usize, ids: &mut [u16])
+    requires { ⌜ kept + length (now ids) ≤ length (now ws) ⌝ }
+    ensures { λ _. ⌜ now (ids .exit) ≡ sec kept (length (now (ids .entry))) (now (ws .entry)) ⌝ }
+{
+    let end = kept + ids.len();
+    copy(&ws[kept..end], ids);
+}
+
 // Growth from the ids of a field that is not refused. They stand past the table of neighbours until it is done, and are put back where it is stopped.
 fn grow_regions(
     w: usize,
@@ -131,7 +143,7 @@ fn grow_regions(
         border_size,
     );
     if g.stop != GOES_ON {
-        copy(&ws[kept..kept + n], ids);
+        put_back(ws, kept, ids);
     }
     g
 }
@@ -173,7 +185,7 @@ fn find_regions(
     ensures { λ r. ⌜ (let F = lent w h (now (index .entry)) (now (count .entry)) (now (area .entry)) (now (con .entry)) in
         let z : Sizes = record { border = «border_size»; least = «min_region_area»; merge = «merge_region_area» } in
         let v = r .regions in
-        let found = record { ids = now (ids .exit); most = v .«max_region»; over = v .overlaps; cut = v .cut } in
+        let found : rules.Regions = record { ids = now (ids .exit); most = v .«max_region»; over = v .overlaps; cut = v .cut } in
         Finds F (now (dist .entry)) «max_distance» z (now (ids .entry)) (r .stop) found) ⌝ }
     ensures { λ _. ⌜ now (ws .exit) ≡ replicate (length (now (ws .entry))) 0 ⌝ }
     ensures bytes { λ _. ⌜ Bytes (lent w h (now (index .entry)) (now (count .entry)) (now (area .entry)) (now (con .entry))) ⌝ }

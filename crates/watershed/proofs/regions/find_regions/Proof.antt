@@ -1,79 +1,126 @@
+-- `watershed::regions::find_regions` meets its contract: each stage leaves what the next asks (StageLaws), and the last clears the workspace.
+-- Assumes nothing.
+use Prim.Native.Nat.{ℕ, _<_}
 use native.Mathlib.Omega.{arith}
+use mathlib.Core.Path.{refl, _∙_, ap}
 use borrow.Author.Needs.{needs}
+use lib.ListN.{getD, replicate}
+use denote.Ref.{now}
+use Rattle.watershed.proofs.StageLaws.{areas-are-bytes, few, given, fits, blank, ready, whole, all-clear, finds-stop, finds-regions}
 use Rattle.watershed.proofs.regions.find_regions.Statement.{statement}
 use Rattle.watershed.proofs.regions.find_regions.Tie as tie
-use Rattle.watershed.proofs.regions.find_regions.Reads as reads
-use Rattle.watershed.proofs.regions.find_regions.Lts as lts
-use Rattle.merge.proofs.merge_and_filter_regions.Reads as merge-and-filter-regions-reads
-use Rattle.records.proofs.build.build_records.Reads as build-records-reads
-use Rattle.records.proofs.map.records_end.Reads as records-end-reads
-use Rattle.space.proofs.clear_part.Reads as clear-part-reads
-use Rattle.watershed.proofs.regions.grow_regions.Reads as grow-regions-reads
-use Rattle.watershed.proofs.regions.stop_refusal.Reads as stop-refusal-reads
 
--- src/regions.rt:168:29
+-- the place of the table, the entry, the growth, the records
+abbrev N : tie.After-grow-regions-arg2 → tie.After-records-end
+N c = c .before .before
+
+abbrev S : tie.After-grow-regions-arg2 → tie.Start
+S c = N c .before .before .before .before .before .before .before .before
+
+abbrev A : tie.After-grow-regions-arg2 → tie.After-shared-slice-known3
+A c = N c .before .before .before .before .before
+
+abbrev G : tie.After-struct-known → tie.After-grow-regions
+G c = c .before .before .before .before .before
+
+abbrev E : tie.After-build-records-arg2 → tie.Else1
+E c = c .before .before .before
+
+abbrev B : tie.After-merge-and-filter-regions-arg2 → tie.After-build-records
+B c = c .before .before .before .before
+
+-- area codes are bytes, as their type says
+bytes : (c : tie.After-grow-regions-arg2) (j : ℕ) → getD (now (S c .args .area)) j 0 < 256
+bytes c j = omega (arith, A c .shared-slice-known3 .given j)
+
 add-records-end : tie.Need-add-records-end
 add-records-end c = search needs
 
--- src/regions.rt:168:9
 records-end-requires : tie.Need-records-end-requires
-records-end-requires c κs = search needs
+records-end-requires c κs =
+    let n = few _ _ _ _ _ _ _ _ _ (c .before .before .before .before .before .before .before .pre) in
+    (omega (arith, n), n)
 
--- src/regions.rt:169:9
 grow-regions-requires : tie.Need-grow-regions-requires
-grow-regions-requires c κs = search needs
+grow-regions-requires c κs = (S c .pre, N c .records-end .ensures)
 
--- src/regions.rt:185:9
 clear-part-requires : tie.Need-clear-part-requires
 clear-part-requires c κs = search needs
 
--- src/regions.rt:186:38
-stop-refusal-requires : tie.Need-stop-refusal-requires
-stop-refusal-requires c κs = search needs
-
--- src/regions.rt:186:9
 same-length : tie.Need-same-length
 same-length c = search needs
 
--- src/regions.rt:186:9
 same-length-2 : tie.Need-same-length-2
 same-length-2 c = search needs
 
--- src/regions.rt:186:9
 returns : tie.Need-returns
-returns c = search needs
+returns c =
+    let x = c .before .before in
+    let t = x .before .before in
+    let g = G (t .before) in (
+      finds-stop _ _ _ _ _ _ _ _ _ _ (g .grow-regions .ensures) (t .if1 .taken) _ refl,
+      (all-clear _ _ (x .clear-part .kept .0) (x .clear-part .ensures .0) ∙ ap (λ (l : ℕ). replicate l 0) (g .grow-regions .kept .1 .1 .1 .1 .1 .1 .1 .1 .1 .0), areas-are-bytes _ _ _ _ _ _ (bytes (g .before))),
+    )
 
--- src/regions.rt:188:16
 cast-next : tie.Need-cast-next
 cast-next c = search needs
 
--- src/regions.rt:189:5
 build-records-requires : tie.Need-build-records-requires
-build-records-requires c κs = search needs
+build-records-requires c κs =
+    let e = E c in
+    let g = G (e .before) in
+    let s = S (g .before) in
+    let r = g .grow-regions .ensures in
+    let z = g .grow-regions .kept .1 .1 .1 .1 .1 .1 .1 .1 .1 .0 in (
+      given _ _ _ _ _ _ _ _ _ (s .pre) _ (N (g .before) .records-end .ensures) (bytes (g .before)) _ _ _ _ _ _ r (e .if1 .left) z,
+      (
+        blank _ _ _ _ _ _ _ _ _ (s .pre) _ (N (g .before) .records-end .ensures) (bytes (g .before)) _ _ _ _ _ _ r (e .if1 .left) z,
+        fits _ _ _ _ _ _ _ _ _ (s .pre) _ (N (g .before) .records-end .ensures) (bytes (g .before)) _ _ _ _ _ _ r (e .if1 .left) z,
+      ),
+    )
 
--- src/regions.rt:190:47
 add-merge-and-filter-regions : tie.Need-add-merge-and-filter-regions
 add-merge-and-filter-regions c = search needs
 
--- src/regions.rt:190:9
 merge-and-filter-regions-requires : tie.Need-merge-and-filter-regions-requires
-merge-and-filter-regions-requires c κs = search needs
+merge-and-filter-regions-requires c κs =
+    let b = B c in
+    let e = E (b .before) in
+    let g = G (e .before) in
+    let s = S (g .before) in
+    ready _ _ _ _ _ _ _ _ _ (s .pre) _ (N (g .before) .records-end .ensures) (bytes (g .before)) _ _ _ _ _ _ (g .grow-regions .ensures) (e .if1 .left) (g .grow-regions .kept .1 .1 .1 .1 .1 .1 .1 .1 .1 .0)
+    _ (b .build-records .ensures)
 
--- src/regions.rt:191:5
 clear-part-requires-2 : tie.Need-clear-part-requires-2
-clear-part-requires-2 c κs = search needs
+clear-part-requires-2 c κs =
+    let m = c .before .before .before .before .before in
+    let b = B (m .before) in
+    (omega arith, omega (arith, m .merge-and-filter-regions .kept .0, b .build-records .ensures .size))
 
--- src/regions.rt:145:1
 same-length-3 : tie.Need-same-length-3
 same-length-3 c = search needs
 
--- src/regions.rt:145:1
 same-length-4 : tie.Need-same-length-4
 same-length-4 c = search needs
 
--- src/regions.rt:145:1
 returns-2 : tie.Need-returns-2
-returns-2 c = search needs
+returns-2 c =
+    let x = c .before .before in
+    let m = x .before .before .before .before .before .before in
+    let b = B (m .before) in
+    let e = E (b .before) in
+    let g = G (e .before) in
+    let s = S (g .before) in
+    let r = g .grow-regions .ensures in
+    let z = g .grow-regions .kept .1 .1 .1 .1 .1 .1 .1 .1 .1 .0 in (
+      finds-regions _ _ _ _ _ _ _ _ _ _ r (e .if1 .left) _
+          (whole _ _ _ _ _ _ _ _ _ (s .pre) _ (N (g .before) .records-end .ensures) (bytes (g .before)) _ _ _ _ _ _ r (e .if1 .left) z _ (b .build-records .ensures) _ _ _
+          (m .merge-and-filter-regions .ensures)),
+      (
+        all-clear _ _ (x .clear-part2 .kept .0 ∙ m .merge-and-filter-regions .kept .0 ∙ b .build-records .ensures .size) (x .clear-part2 .ensures .0) ∙ ap (λ (l : ℕ). replicate l 0) z,
+        areas-are-bytes _ _ _ _ _ _ (bytes (g .before)),
+      ),
+    )
 
 pub find-regions-spec : {M : Type 1} → statement M
 find-regions-spec =
@@ -83,7 +130,6 @@ find-regions-spec =
     records-end-requires
     grow-regions-requires
     clear-part-requires
-    stop-refusal-requires
     same-length
     same-length-2
     returns

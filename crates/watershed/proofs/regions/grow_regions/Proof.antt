@@ -50,23 +50,22 @@ grow-requires c κs =
     let s = S (k .before) in
     (poised _ _ _ _ _ _ _ _ _ (s .pre .0) _ (s .pre .1) _ _ (i .clear .ensures) (p .clear-part .kept .0 ∙ k .copy-part .kept .1 .0) (p .clear-part .ensures .0), s .pre .0 .distances)
 
-add-copy : tie.Need-add-copy
-add-copy c = search needs
-
-mul-copy : tie.Need-mul-copy
-mul-copy c = search needs
-
-sub-copy : tie.Need-sub-copy
-sub-copy c = search needs
-
-part-copy-start : tie.Need-part-copy-start
-part-copy-start c = search needs
-
-part-copy-end : tie.Need-part-copy-end
-part-copy-end c = search needs
-
-copy-requires : tie.Need-copy-requires
-copy-requires c κs = search needs
+put-back-requires : tie.Need-put-back-requires
+put-back-requires c κs =
+    let g = G (c .before .before .before) in
+    let p = P g in
+    let i = I p in
+    let k = C i in
+    let s = S (k .before) in
+    omega (
+      arith,
+      kept-room _ _ _ _ _ _ _ _ _ (s .pre .0) _ (s .pre .1) _ refl,
+      g .grow .kept .1 .1 .1 .1 .1 .1 .1 .0,
+      g .grow .kept .1 .1 .1 .1 .1 .1 .1 .1 .0,
+      p .clear-part .kept .0,
+      i .clear .kept .0,
+      k .copy-part .kept .1 .0,
+    )
 
 same-length : tie.Need-same-length
 same-length c = search needs
@@ -75,7 +74,17 @@ same-length-2 : tie.Need-same-length-2
 same-length-2 c = search needs
 
 returns : tie.Need-returns
-returns c = ?
+returns c =
+    let b = c .before .before in
+    let y = b .before .before .before in
+    let g = G (y .before) in
+    let p = P g in
+    let i = I p in
+    let k = C i in
+    let s = S (k .before) in
+    let size = g .grow .kept .1 .1 .1 .1 .1 .1 .1 .0 ∙ i .clear .kept .0 in
+    put-back _ _ _ _ _ _ _ _ _ (s .pre .0) _ (s .pre .1) _ refl _ (k .copy-part .kept .1 .0) (k .copy-part .ensures .0) _ (p .clear-part .kept .0) (p .clear-part .ensures .1)
+    _ _ _ _ _ _ (g .grow .ensures) (g .grow .kept .1 .1 .1 .1 .1 .1 .1 .1 .0) _ _ size (b .put-back .ensures) (y .if1 .taken)
 
 same-length-3 : tie.Need-same-length-3
 same-length-3 c = search needs
@@ -103,12 +112,7 @@ grow-regions-spec =
     clear-requires
     clear-part-requires
     grow-requires
-    add-copy
-    mul-copy
-    sub-copy
-    part-copy-start
-    part-copy-end
-    copy-requires
+    put-back-requires
     same-length
     same-length-2
     returns

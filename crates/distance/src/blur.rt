@@ -13,7 +13,7 @@ ghost use lib.ListN.{length};
 ghost use Rattle.rules.specs.Field.{Field};
 ghost use Rattle.rules.specs.Distance as rules;
 ghost use Rattle.field.specs.Lent.{lent, Reached, Spot, consAt};
-ghost use Rattle.rules.specs.Rows.{overCell, rowUp, blurTo};
+ghost use Rattle.rules.specs.Rows.{overCell, blurTo, blurRow};
 ghost use Rattle.distance.specs.Value.{Sized};
 
 // A raw value of at most this stays.
@@ -119,7 +119,7 @@ fn blur_cell(
 }
 
 // Row y.
-pub(crate) fn blur_row(
+pub fn blur_row(
     w: usize,
     h: usize,
     index: &[u32],
@@ -133,7 +133,7 @@ pub(crate) fn blur_row(
     requires { ⌜ (let F = lent w h (now index) (now count) (now area) (now con) in
         Reached F × (length (now raw) ≡ length (now area)) × (length (now blurred) ≡ length (now area)) × (y < h)) ⌝ }
     ensures { λ _. ⌜ (let F = lent w h (now (index .entry)) (now (count .entry)) (now (area .entry)) (now (con .entry)) in
-        now (blurred .exit) ≡ rowUp F (blurTo F (now (raw .entry))) y (now (blurred .entry))) ⌝ }
+        now (blurred .exit) ≡ blurRow F (now (raw .entry)) y (now (blurred .entry))) ⌝ }
 {
     let first = w * y;
     for x in 0..w {

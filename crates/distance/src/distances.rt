@@ -1,7 +1,6 @@
 // The raw distances: the start and the two passes.
 use crate::pass::pass1;
 use crate::pass::pass2;
-use crate::start::start;
 ghost use mathlib.Core.Path.{_≡_};
 ghost use lib.ListN.{length};
 ghost use Rattle.rules.specs.Distance as rules;
@@ -19,7 +18,6 @@ pub fn calculate_distance_field(
     requires { ⌜ Reached (lent w h (now index) (now count) (now area) (now con)) × (length (now raw) ≡ length (now area)) ⌝ }
     ensures { λ _. ⌜ now (raw .exit) ≡ rules.raw (lent w h (now (index .entry)) (now (count .entry)) (now (area .entry)) (now (con .entry))) ⌝ }
 {
-    start(w, h, index, count, area, con, raw);
     pass1(w, h, index, count, area, con, raw);
     pass2(w, h, index, count, area, con, raw);
 }

@@ -1,4 +1,6 @@
-// The two passes: each span takes the least of itself and of what its neighbours on two sides hold, plus 2, or plus 3 at a corner.
+// The start and the two passes: each span takes the least of itself and of what its neighbours on two sides hold, plus 2, or plus 3 at a corner.
+use crate::start::FARTHEST;
+use crate::start::start_span;
 use field::place::NO_LAYER;
 use field::place::Place;
 use field::place::SpanIx;
@@ -11,9 +13,9 @@ ghost use Prim.Native.Nat.{_+_, _*_, _<_, _≤_, min};
 ghost use lib.ListN.{length, getD};
 ghost use Rattle.rules.specs.Field.{Field};
 ghost use Rattle.rules.specs.Distance as rules;
-ghost use Rattle.field.specs.Lent.{lent, Reached, Spot, consAt};
-ghost use Rattle.rules.specs.Rows.{overCell, rowUp, rowDown};
-ghost use Rattle.distance.specs.Value.{least, Passing, Low, Room};
+ghost use Rattle.field.specs.Lent.{lent, Reached, Stands, Spot, consAt};
+ghost use Rattle.rules.specs.Rows.{overCell, fromStart, pass1Row, pass2Row};
+ghost use Rattle.distance.specs.Value.{least, leastFrom, Passing, LowBefore, Low, Room};
 ghost use Rattle.distance.specs.Value as value;
 
 // The least of best and the value of span t plus n.
@@ -87,7 +89,33 @@ fn lowered(
     side(w, index, con, raw, cons, p, c, e, best)
 }
 
-// Pass 1 over the spans of cell c.
+// What pass 1 gives the span at place p, from where it starts: a span that starts above 0 starts above all that its neighbours make of it.
+fn from_start(
+    w: usize,
+    h: usize,
+    index: &[u32],
+    count: &[u8],
+    area: &[u8],
+    con: &[u8],
+    raw: &[u16],
+    p: Place,
+) -> u16
+    requires { ⌜ (let F = lent w h (now index) (now count) (now area) (now con) in
+        Reached F × Stands F (p .cell) (p .span .0)) ⌝ }
+    requires { ⌜ Room w (now index) (now con) (now raw) (p .cell) (p .span .0) 0 3 × Room w (now index) (now con) (now raw) (p .cell) (p .span .0) 3 2 ⌝ }
+    ensures { λ r. ⌜ (let F = lent w h (now (index .entry)) (now (count .entry)) (now (area .entry)) (now (con .entry)) in
+        r ≡ leastFrom F (rules.startAt F (p .span .0)) 0 3 3 2 (p .span .0) (now (raw .entry))) ⌝ }
+{
+    if start_span(w, index, con, area, p) == 0 {
+        return 0;
+    }
+    let s = p.span;
+    let cons = connections(con, s);
+    let best = side(w, index, con, raw, cons, p, 0, 3, FARTHEST);
+    side(w, index, con, raw, cons, p, 3, 2, best)
+}
+
+// The start and pass 1 over the spans of the cell in column x of row y.
 fn pass1_cell(
     w: usize,
     h: usize,
@@ -96,13 +124,15 @@ fn pass1_cell(
     area: &[u8],
     con: &[u8],
     raw: &mut [u16],
-    c: usize,
+    x: usize,
+    y: usize,
 )
     requires { ⌜ (let F = lent w h (now index) (now count) (now area) (now con) in
-        Reached F × (c < length (now count)) × Passing F c (now raw)) ⌝ }
+        Reached F × (x < w) × (y < h) × Passing F y x (now raw)) ⌝ }
     ensures { λ _. ⌜ (let F = lent w h (now (index .entry)) (now (count .entry)) (now (area .entry)) (now (con .entry)) in
-        (now (raw .exit) ≡ overCell F (rules.lower F 0 3 3 2) c (now (raw .entry))) × Passing F (c + 1) (now (raw .exit))) ⌝ }
+        (now (raw .exit) ≡ overCell F (fromStart F) (w * y + x) (now (raw .entry))) × Passing F y (x + 1) (now (raw .exit))) ⌝ }
 {
+    let c = w * y + x;
     let i = at32(index, c);
     let k = at8(count, c);
     for j in 0..k {
@@ -111,12 +141,12 @@ fn pass1_cell(
             cell: c,
             span: SpanIx(s),
         };
-        raw[s] = lowered(w, index, con, raw, p, 0, 3, 3, 2);
+        raw[s] = from_start(w, h, index, count, area, con, raw, p);
     }
 }
 
-// Pass 1 over row y, columns upward.
-pub(crate) fn pass1_row(
+// The start and pass 1 over row y, columns upward: what row y and the rows after it held is not looked at.
+pub fn pass1_row(
     w: usize,
     h: usize,
     index: &[u32],
@@ -127,17 +157,16 @@ pub(crate) fn pass1_row(
     y: usize,
 )
     requires { ⌜ (let F = lent w h (now index) (now count) (now area) (now con) in
-        Reached F × (y < h) × Passing F (w * y) (now raw)) ⌝ }
+        Reached F × (y < h) × LowBefore F (w * y) (now raw)) ⌝ }
     ensures { λ _. ⌜ (let F = lent w h (now (index .entry)) (now (count .entry)) (now (area .entry)) (now (con .entry)) in
-        (now (raw .exit) ≡ rowUp F (rules.lower F 0 3 3 2) y (now (raw .entry))) × Passing F (w * (y + 1)) (now (raw .exit))) ⌝ }
+        (now (raw .exit) ≡ pass1Row F y (now (raw .entry))) × LowBefore F (w * (y + 1)) (now (raw .exit))) ⌝ }
 {
-    let first = w * y;
     for x in 0..w {
-        pass1_cell(w, h, index, count, area, con, raw, first + x);
+        pass1_cell(w, h, index, count, area, con, raw, x, y);
     }
 }
 
-// Pass 1.
+// The start and pass 1.
 pub(crate) fn pass1(
     w: usize,
     h: usize,
@@ -148,9 +177,9 @@ pub(crate) fn pass1(
     raw: &mut [u16],
 )
     requires { ⌜ (let F = lent w h (now index) (now count) (now area) (now con) in
-        Reached F × Passing F 0 (now raw)) ⌝ }
+        Reached F × (length (now raw) ≡ length (now area))) ⌝ }
     ensures { λ _. ⌜ (let F = lent w h (now (index .entry)) (now (count .entry)) (now (area .entry)) (now (con .entry)) in
-        (now (raw .exit) ≡ rules.pass1 F (now (raw .entry))) × Low F (now (raw .exit))) ⌝ }
+        (now (raw .exit) ≡ rules.pass1 F (rules.start F)) × Low F (now (raw .exit))) ⌝ }
 {
     for y in 0..h {
         pass1_row(w, h, index, count, area, con, raw, y);
@@ -186,7 +215,7 @@ fn pass2_cell(
 }
 
 // Pass 2 over row y, columns downward.
-pub(crate) fn pass2_row(
+pub fn pass2_row(
     w: usize,
     h: usize,
     index: &[u32],
@@ -199,7 +228,7 @@ pub(crate) fn pass2_row(
     requires { ⌜ (let F = lent w h (now index) (now count) (now area) (now con) in
         Reached F × (y < h) × Low F (now raw)) ⌝ }
     ensures { λ _. ⌜ (let F = lent w h (now (index .entry)) (now (count .entry)) (now (area .entry)) (now (con .entry)) in
-        (now (raw .exit) ≡ rowDown F (rules.lower F 2 1 1 0) y (now (raw .entry))) × Low F (now (raw .exit))) ⌝ }
+        (now (raw .exit) ≡ pass2Row F y (now (raw .entry))) × Low F (now (raw .exit))) ⌝ }
 {
     let first = w * y;
     let mut x = w;

@@ -6,7 +6,7 @@ use lib.ListN.{length}
 use Rattle.rules.specs.Base.{upto}
 use Rattle.field.specs.Lent.{lent}
 use Rattle.rules.specs.Rows.{column, blurTo}
-use Rattle.distance.proofs.Walks.{row-go, row-end, row-fits, column-fits, column-in}
+use Rattle.distance.proofs.Walks.{row-go, blur-row-end, row-fits, column-fits, column-in}
 use borrow.Author.Needs.{needs}
 use Rattle.distance.proofs.blur.blur_row.Statement.{statement}
 use Rattle.distance.proofs.blur.blur_row.Tie as tie
@@ -43,7 +43,7 @@ same-length : tie.Need-same-length Inv-loop μ-loop
 same-length c = search needs
 
 returns : tie.Need-returns Inv-loop μ-loop
-returns c = search (needs, row-end)
+returns c = search (needs, blur-row-end)
 
 pub blur-row-spec : {M : Type 1} → statement M
 blur-row-spec =

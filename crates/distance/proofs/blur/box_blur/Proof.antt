@@ -6,14 +6,14 @@ use lib.ListN.{length}
 use Rattle.rules.specs.Base.{upto}
 use Rattle.field.specs.Lent.{lent}
 use Rattle.field.proofs.Loops.{upto-go}
-use Rattle.rules.specs.Rows.{rowUp, blurTo}
+use Rattle.rules.specs.Rows.{blurRow}
 use Rattle.distance.proofs.Walks.{blur-end}
 use borrow.Author.Needs.{needs}
 use Rattle.distance.proofs.blur.box_blur.Statement.{statement}
 use Rattle.distance.proofs.blur.box_blur.Tie as tie
 
 abbrev Inv-loop : tie.InvT-loop
-Inv-loop w h index count area con raw blurred₀ y₀ blurred y = (y ≤ h) × (length blurred ≡ length area) × (blurred ≡ upto y (rowUp (lent w h index count area con) (blurTo (lent w h index count area con) raw)) blurred₀)
+Inv-loop w h index count area con raw blurred₀ y₀ blurred y = (y ≤ h) × (length blurred ≡ length area) × (blurred ≡ upto y (blurRow (lent w h index count area con) raw) blurred₀)
 
 abbrev μ-loop : tie.MeasureT-loop
 μ-loop w h index count area con raw blurred₀ y₀ blurred y = h - y

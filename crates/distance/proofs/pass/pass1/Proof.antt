@@ -3,11 +3,10 @@
 use Prim.Native.Nat.{_≤_, _-_, _*_}
 use mathlib.Core.Path.{_≡_}
 use Rattle.rules.specs.Base.{upto}
-use Rattle.rules.specs.Distance.{lower}
 use Rattle.field.specs.Lent.{lent}
 use Rattle.field.proofs.Loops.{upto-go}
-use Rattle.rules.specs.Rows.{rowUp}
-use Rattle.distance.specs.Value.{Passing}
+use Rattle.rules.specs.Rows.{pass1Row}
+use Rattle.distance.specs.Value.{LowBefore}
 use Rattle.distance.proofs.Walks.{pass1-end}
 use Rattle.distance.proofs.Bounds.{row-first, row-last}
 use borrow.Author.Needs.{needs}
@@ -15,7 +14,7 @@ use Rattle.distance.proofs.pass.pass1.Statement.{statement}
 use Rattle.distance.proofs.pass.pass1.Tie as tie
 
 abbrev Inv-loop : tie.InvT-loop
-Inv-loop w h index count area con raw₀ y₀ raw y = (y ≤ h) × (raw ≡ upto y (rowUp (lent w h index count area con) (lower (lent w h index count area con) 0 3 3 2)) raw₀) × Passing (lent w h index count area con) (w * y) raw
+Inv-loop w h index count area con raw₀ y₀ raw y = (y ≤ h) × (raw ≡ upto y (pass1Row (lent w h index count area con)) raw₀) × LowBefore (lent w h index count area con) (w * y) raw
 
 abbrev μ-loop : tie.MeasureT-loop
 μ-loop w h index count area con raw₀ y₀ raw y = h - y

@@ -2,9 +2,8 @@
 -- Assumes nothing.
 use Prim.Native.Nat.{_≤_}
 use mathlib.Core.Path.{_≡_}
-use Rattle.rules.specs.Distance.{lower}
 use Rattle.field.specs.Lent.{lent}
-use Rattle.rules.specs.Rows.{rowDown, downto}
+use Rattle.rules.specs.Rows.{downto, pass2Row}
 use Rattle.distance.specs.Value.{Low}
 use Rattle.distance.proofs.Walks.{down-go, pass2-end}
 use borrow.Author.Needs.{needs}
@@ -12,7 +11,7 @@ use Rattle.distance.proofs.pass.pass2.Statement.{statement}
 use Rattle.distance.proofs.pass.pass2.Tie as tie
 
 abbrev Inv-loop : tie.InvT-loop
-Inv-loop w h index count area con raw₀ y₀ raw y = (y ≤ h) × (downto h (rowDown (lent w h index count area con) (lower (lent w h index count area con) 2 1 1 0)) raw₀ ≡ downto y (rowDown (lent w h index count area con) (lower (lent w h index count area con) 2 1 1 0)) raw) × Low (lent w h index count area con) raw
+Inv-loop w h index count area con raw₀ y₀ raw y = (y ≤ h) × (downto h (pass2Row (lent w h index count area con)) raw₀ ≡ downto y (pass2Row (lent w h index count area con)) raw) × Low (lent w h index count area con) raw
 
 abbrev μ-loop : tie.MeasureT-loop
 μ-loop w h index count area con raw₀ y₀ raw y = y

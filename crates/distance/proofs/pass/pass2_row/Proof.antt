@@ -6,7 +6,7 @@ use Rattle.rules.specs.Distance.{lower}
 use Rattle.field.specs.Lent.{lent}
 use Rattle.rules.specs.Rows.{column, downto}
 use Rattle.distance.specs.Value.{Low}
-use Rattle.distance.proofs.Walks.{row-down, row-bottom, row-fits, last-fits, last-in}
+use Rattle.distance.proofs.Walks.{row-down, pass2-row-end, row-fits, last-fits, last-in}
 use borrow.Author.Needs.{needs}
 use Rattle.distance.proofs.pass.pass2_row.Statement.{statement}
 use Rattle.distance.proofs.pass.pass2_row.Tie as tie
@@ -42,7 +42,7 @@ same-length : tie.Need-same-length Inv-loop μ-loop
 same-length c = search needs
 
 returns : tie.Need-returns Inv-loop μ-loop
-returns c = (search (needs, row-bottom), search needs)
+returns c = (search (needs, pass2-row-end), search needs)
 
 pub pass2-row-spec : {M : Type 1} → statement M
 pass2-row-spec =

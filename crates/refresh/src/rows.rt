@@ -2,13 +2,10 @@
 use field::read::at8;
 use field::read::at32;
 ghost use mathlib.Core.Path.{_≡_};
-ghost use Prim.Native.Nat.{_+_, _-_, _*_, _<_, _≤_};
-ghost use lib.ListN.{length, getD};
-ghost use lib.Dec.{eqb};
-ghost use Rattle.rules.specs.Base.{upto, every};
-ghost use Rattle.rules.specs.Refresh.{valueTo};
+ghost use Prim.Native.Nat.{_+_, _<_, _≤_};
+ghost use lib.ListN.{length};
 ghost use Rattle.field.specs.Lent.{lent, Sound};
-ghost use Rattle.refresh.specs.Part.{FirstCell, LastCell, RowPart};
+ghost use Rattle.refresh.specs.Part.{FirstCell, LastCell, RowPart, partTo, samePart};
 
 // Spans from number `from` on, up to number `to`, which is not among them.
 pub(crate) struct Part {
@@ -36,10 +33,10 @@ fn last_cell(count: &[u8], c: usize, w: usize) -> usize
 {
     let mut x = w;
     while 0 < x {
-        if at8(count, c + x - 1) != 0 {
-            return x;
-        }
         x -= 1;
+        if at8(count, c + x) != 0 {
+            return x + 1;
+        }
     }
     0
 }
@@ -73,7 +70,7 @@ pub(crate) fn row_part(
 // A part of one list into another.
 pub(crate) fn copy_part(values: &[u16], to: &mut [u16], a: usize, b: usize)
     requires { ⌜ (a ≤ b) × (b ≤ length (now values)) × (b ≤ length (now to)) ⌝ }
-    ensures { λ _. ⌜ now (to .exit) ≡ upto (b - a) (λ i. valueTo (now (values .entry)) (a + i)) (now (to .entry)) ⌝ }
+    ensures { λ _. ⌜ now (to .exit) ≡ partTo (now (values .entry)) a b (now (to .entry)) ⌝ }
 {
     for i in a..b {
         to[i] = values[i];
@@ -83,7 +80,7 @@ pub(crate) fn copy_part(values: &[u16], to: &mut [u16], a: usize, b: usize)
 // Whether a part of one list holds what another holds there.
 pub(crate) fn same_part(old: &[u16], new: &[u16], a: usize, b: usize) -> bool
     requires { ⌜ (a ≤ b) × (b ≤ length (now old)) × (b ≤ length (now new)) ⌝ }
-    ensures { λ r. ⌜ r ≡ every (b - a) (λ i. eqb (getD (now (new .entry)) (a + i) 0) (getD (now (old .entry)) (a + i) 0)) ⌝ }
+    ensures { λ r. ⌜ r ≡ samePart (now (old .entry)) (now (new .entry)) a b ⌝ }
 {
     for i in a..b {
         if new[i] != old[i] {

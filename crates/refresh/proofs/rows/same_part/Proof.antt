@@ -1,55 +1,49 @@
+use Rattle.refresh.specs.Part.{samePart}
+use Rattle.refresh.proofs.Parts.{alike-first}
+use Prim.Native.Nat.{_≤_, _-_}
+use mathlib.Core.Path.{_≡_}
+use mathlib.Core.Bool.{true}
+use Rattle.refresh.proofs.Parts.{alike-go, alike-stop, alike-end}
 use borrow.Author.Needs.{needs}
 use native.Mathlib.Omega.{arith}
 use Rattle.refresh.proofs.rows.same_part.Statement.{statement}
 use Rattle.refresh.proofs.rows.same_part.Tie as tie
-use Rattle.refresh.proofs.rows.same_part.Reads as reads
-use Rattle.refresh.proofs.rows.same_part.Lts as lts
 
 abbrev Inv-loop : tie.InvT-loop
-Inv-loop old new a b i₀ i = ?
+Inv-loop old new a b i₀ i = (a ≤ i) × (i ≤ b) × (samePart old new a i ≡ true)
 
 abbrev μ-loop : tie.MeasureT-loop
-μ-loop old new a b i₀ i = ?
+μ-loop old new a b i₀ i = b - i
 
--- src/rows.rt:88:5
 loop-holds : tie.Need-loop-holds Inv-loop μ-loop
-loop-holds c = search needs
+loop-holds c = (search needs, search needs, search (needs, alike-first))
 
--- src/rows.rt:89:12
 mul-if1 : tie.Need-mul-if1 Inv-loop μ-loop
 mul-if1 c = search needs
 
--- src/rows.rt:89:12
 shared-slice-read-if1 : tie.Need-shared-slice-read-if1 Inv-loop μ-loop
 shared-slice-read-if1 c = search needs
 
--- src/rows.rt:89:22
 mul-if1-2 : tie.Need-mul-if1-2 Inv-loop μ-loop
 mul-if1-2 c = search needs
 
--- src/rows.rt:89:22
 shared-slice-read-if1-2 : tie.Need-shared-slice-read-if1-2 Inv-loop μ-loop
 shared-slice-read-if1-2 c = search needs
 
--- src/rows.rt:90:13
 returns : tie.Need-returns Inv-loop μ-loop
-returns c = search needs
+returns c = search (needs, alike-stop)
 
--- src/rows.rt:88:9
 add-i : tie.Need-add-i Inv-loop μ-loop
 add-i c = search needs
 
--- src/rows.rt:88:5
 loop-less : tie.Need-loop-less Inv-loop μ-loop
 loop-less c = search needs
 
--- src/rows.rt:88:5
 loop-again : tie.Need-loop-again Inv-loop μ-loop
-loop-again c = search needs
+loop-again c = (search needs, search needs, search (needs, alike-go))
 
--- src/rows.rt:84:1
 returns-2 : tie.Need-returns-2 Inv-loop μ-loop
-returns-2 c = search needs
+returns-2 c = search (needs, alike-end)
 
 pub same-part-spec : {M : Type 1} → statement M
 same-part-spec =

@@ -1,0 +1,2 @@
+-- Laws of the rows and of the loops over them.
+pub mod Parts

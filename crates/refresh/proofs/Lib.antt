@@ -1,2 +1,3 @@
 -- Laws of the rows and of the loops over them.
 pub mod Parts
+pub mod Turns

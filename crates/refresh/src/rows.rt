@@ -9,8 +9,8 @@ ghost use Rattle.refresh.specs.Part.{FirstCell, LastCell, RowPart, partT
 
 // Spans from number `from` on, up to number `to`, which is not among them.
 pub(crate) struct Part {
-    from: usize,
-    to: usize,
+    pub from: usize,
+    pub to: usize,
 }
 
 // The first of the w cells from cell c on that is not empty, counted from c; w if there is none.

@@ -167,7 +167,7 @@ pub fn pass1_row(
 }
 
 // The start and pass 1.
-pub(crate) fn pass1(
+pub fn pass1(
     w: usize,
     h: usize,
     index: &[u32],
@@ -239,7 +239,7 @@ pub fn pass2_row(
 }
 
 // Pass 2.
-pub(crate) fn pass2(
+pub fn pass2(
     w: usize,
     h: usize,
     index: &[u32],

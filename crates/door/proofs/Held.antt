@@ -90,7 +90,7 @@ module _ (F : Field) (lens : List ℕ) (ok : Passed F lens) where
   unfolding blurRows
   blurRows-size r v l = upto-ind (λ k x. length x ≡ length l) _ l _ refl (λ k x h p. blur-row-size r _ x ∙ p)
 
-  blurRows-held : (r : List ℕ) (v : Rows) (l : List ℕ) (s : ℕ) → (rowOf F s < v .first) ⊎ (v .last < rowOf F s) → far (blurRows F r v l) s ≡ far l s
+  pub blurRows-held : (r : List ℕ) (v : Rows) (l : List ℕ) (s : ℕ) → (rowOf F s < v .first) ⊎ (v .last < rowOf F s) → far (blurRows F r v l) s ≡ far l s
   unfolding blurRows blurRow
   blurRows-held r v l s c =
       upto-ind (λ k x. far x s ≡ far l s) (λ i. blurRow F r (v .first + i)) l (suc (v .last) - v .first) refl

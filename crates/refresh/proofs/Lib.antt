@@ -1,3 +1,4 @@
 -- Laws of the rows and of the loops over them.
 pub mod Parts
 pub mod Turns
+pub mod Entries

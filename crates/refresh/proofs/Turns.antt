@@ -60,6 +60,12 @@ pub part-size : (p l : List ℕ) (a b : ℕ) → length (partTo p a b l) ≡ len
 unfolding partTo valueTo
 part-size p l a b = upto-ind (λ k m. length m ≡ length l) _ l (b - a) refl (λ k m h e. length-set m (a + k) _ ∙ e)
 
+-- a whole list
+pub whole-copied : (p l : List ℕ) (n : ℕ) → length p ≡ n → length l ≡ n → partTo p 0 n l ≡ p
+whole-copied p l n np nl =
+    let v = copied p l 0 n (omega arith) (omega arith) (omega arith) in
+    ext-getD 65535 (partTo p 0 n l) p (v .size ∙ nl ∙ sym np) (λ s h. v .part s (omega arith) (omega (arith, v .size)) ∙ getD-any p s 0 65535 (omega (arith, v .size)))
+
 -- a part that was kept is compared as the list that it is of
 pub kept-same : (p l m : List ℕ) (a b : ℕ) → a ≤ b → b ≤ length p → b ≤ length l → samePart (partTo p a b l) m a b ≡ samePart p m a b
 unfolding samePart

@@ -8,7 +8,7 @@ use Rattle.rules.specs.Base.{upto}
 use Rattle.rules.specs.Field.{Field, spans}
 use Rattle.rules.specs.Distance.{far}
 use Rattle.rules.specs.Rows.{downto, pass1Row, blurRow}
-use Rattle.rules.specs.Refresh.{Redone, fromPass1}
+use Rattle.rules.specs.Refresh.{Redone, fromPass1, onward, backward}
 use Rattle.door.specs.Edit.{rowOf}
 
 abbrev pub redone : List ℕ → ℕ → Redone
@@ -29,3 +29,14 @@ blurTill F r a b m = upto (b - a) (λ i. blurRow F r (a + i)) m
 pub record Kept (F : Field) (a b : ℕ) (l m : List ℕ) : Type 0 where
   pub size : length m ≡ length l
   pub held : (s : ℕ) → s < spans F → (rowOf F s < a) ⊎ (b ≤ rowOf F s) → far m s ≡ far l s
+
+-- what the passes leave of the lists p₀, r₀ and k₀: the rows that they redid, and the third list but for these rows
+pub record Passed (z0 z1 : ℕ) (F : Field) (p₀ r₀ k₀ p r k : List ℕ) (first last top : ℕ) : Type 0 where
+  pub begins : first ≡ z0 - 1
+  pub pass1 : redone p last ≡ onward F z1 (F .h - first) first p₀
+  pub pass2 : redone r top ≡ backward F (first + 1) p (last + 1) r₀
+  pub past : top ≤ first
+  pub before : first ≤ last
+  pub within : last < F .h
+  pub size : length r ≡ spans F
+  pub kept : Kept F top (last + 1) k₀ k

@@ -1,5 +1,6 @@
 // A door in an editor: area codes change in one rectangle, and the rows that may come out otherwise are redone. With it the build that writes the
 // three lists that a refresh takes.
+pub mod into;
 mod redo;
 mod rows;
 

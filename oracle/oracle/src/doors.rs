@@ -8,24 +8,33 @@ use crate::{
 /// Columns x0 to x1 of rows z0 to z1, both ends included.
 #[derive(Debug, Clone, Copy, PartialEq, Eq)]
 pub struct Rect {
+    /// The first column.
     pub x0: u16,
+    /// The first row.
     pub z0: u16,
+    /// The last column.
     pub x1: u16,
+    /// The last row.
     pub z1: u16,
 }
 
 /// The stored lists.
 #[derive(Debug, Clone, PartialEq, Eq)]
 pub struct Stages {
+    /// The values of pass 1.
     pub pass1: Vec<u16>,
+    /// The raw distances.
     pub raw: Vec<u16>,
+    /// The blurred distances.
     pub blurred: Vec<u16>,
 }
 
 /// What a refresh reports: the greatest raw value, and the first and last row redone in pass 1, pass 2 and the blur.
 #[derive(Debug, Clone, Copy, PartialEq, Eq)]
 pub struct Report {
+    /// The greatest raw value.
     pub max_distance: u16,
+    /// The first and last row of pass 1, of pass 2 and of the blur.
     pub rows: [u16; 6],
 }
 

@@ -1,6 +1,7 @@
+-- The two arms are the two cases of the outcome. A sound verdict gives what the stages require; a refusal is given before anything is written.
+-- Assumes nothing.
 use Rattle.refresh.proofs.Entries.{stages-pass1, stages-raw, stages-blurred}
 use Rattle.refresh.proofs.Entries.{stages-refused, stages-sound, stages-done}
-use native.Mathlib.Omega.{arith}
 use borrow.Author.Needs.{needs}
 use Rattle.refresh.proofs.build_distance_stages.Statement.{statement}
 use Rattle.refresh.proofs.build_distance_stages.Tie as tie

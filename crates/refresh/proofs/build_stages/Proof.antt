@@ -1,6 +1,7 @@
+-- Each stage's list is what the next requires.
+-- Assumes nothing.
 use Rattle.field.proofs.Passed.{sound-reached}
 use Rattle.refresh.proofs.Turns.{low-size}
-use native.Mathlib.Omega.{arith}
 use borrow.Author.Needs.{needs}
 use Rattle.refresh.proofs.build_stages.Statement.{statement}
 use Rattle.refresh.proofs.build_stages.Tie as tie

@@ -1,5 +1,6 @@
+-- Refusals 1 to 6 are the checker's; 11 and 31 come after them.
+-- Assumes nothing.
 use Rattle.refresh.proofs.Entries.{check-refused, check-own}
-use native.Mathlib.Omega.{arith}
 use borrow.Author.Needs.{needs}
 use Rattle.refresh.proofs.check_refresh.Statement.{statement}
 use Rattle.refresh.proofs.check_refresh.Tie as tie

@@ -1,5 +1,6 @@
+-- The list of the two lengths is wrong exactly where that of the three is.
+-- Assumes nothing.
 use Rattle.refresh.proofs.Entries.{three-checked}
-use native.Mathlib.Omega.{arith}
 use borrow.Author.Needs.{needs}
 use Rattle.refresh.proofs.check_three.Statement.{statement}
 use Rattle.refresh.proofs.check_three.Tie as tie

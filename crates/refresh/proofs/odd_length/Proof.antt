@@ -1,6 +1,7 @@
+-- The branch is the rule's own.
+-- Assumes nothing.
 use Rattle.refresh.proofs.Entries.{odd-same, odd-other}
 use borrow.Author.Needs.{needs}
-use native.Mathlib.Omega.{arith}
 use Rattle.refresh.proofs.odd_length.Statement.{statement}
 use Rattle.refresh.proofs.odd_length.Tie as tie
 

@@ -1,6 +1,7 @@
+-- The branches are the rule's own.
+-- Assumes nothing.
 use Rattle.refresh.proofs.Entries.{own-11, own-31, own-0}
 use borrow.Author.Needs.{needs}
-use native.Mathlib.Omega.{arith}
 use Rattle.refresh.proofs.own_refusal.Statement.{statement}
 use Rattle.refresh.proofs.own_refusal.Tie as tie
 

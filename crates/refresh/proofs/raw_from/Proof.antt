@@ -1,7 +1,8 @@
+-- The whole list is copied, so pass 2 starts from the pass 1 values.
+-- Assumes nothing.
 use Rattle.field.proofs.Passed.{sound-reached}
 use Rattle.refresh.proofs.Turns.{low-size}
 use Rattle.refresh.proofs.Entries.{whole-low, whole-pass2, low-room}
-use native.Mathlib.Omega.{arith}
 use borrow.Author.Needs.{needs}
 use Rattle.refresh.proofs.raw_from.Statement.{statement}
 use Rattle.refresh.proofs.raw_from.Tie as tie

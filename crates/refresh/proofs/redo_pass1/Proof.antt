@@ -1,5 +1,6 @@
+-- Rows to z1 do not end pass 1, so redoing them first changes nothing of what is redone.
+-- Assumes nothing.
 use Rattle.refresh.proofs.Entries.{onward-all}
-use native.Mathlib.Omega.{arith}
 use borrow.Author.Needs.{needs}
 use Rattle.refresh.proofs.redo_pass1.Statement.{statement}
 use Rattle.refresh.proofs.redo_pass1.Tie as tie

@@ -1,5 +1,6 @@
+-- Rows past the first do not end pass 2, so redoing them first changes nothing of what is redone.
+-- Assumes nothing.
 use Rattle.refresh.proofs.Entries.{backward-all}
-use native.Mathlib.Omega.{arith}
 use borrow.Author.Needs.{needs}
 use Rattle.refresh.proofs.redo_pass2.Statement.{statement}
 use Rattle.refresh.proofs.redo_pass2.Tie as tie

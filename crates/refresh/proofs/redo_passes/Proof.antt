@@ -1,6 +1,7 @@
+-- Each pass says which rows it redid; the kept list is as it was outside them.
+-- Assumes nothing.
 use Rattle.refresh.proofs.Turns.{kept-size}
 use Rattle.refresh.proofs.Entries.{passes-done}
-use native.Mathlib.Omega.{arith}
 use borrow.Author.Needs.{needs}
 use Rattle.refresh.proofs.redo_passes.Statement.{statement}
 use Rattle.refresh.proofs.redo_passes.Tie as tie

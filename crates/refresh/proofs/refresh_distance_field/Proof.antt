@@ -1,6 +1,7 @@
+-- The four arms are the cases of the outcome. What is not refused gives what the refresh requires.
+-- Assumes nothing.
 use denote.Ref.{now}
 use Rattle.refresh.proofs.Entries.{out-refused, out-rect, out-stored, fine-sound, fine-order, fine-in, fine-low1, fine-low2, fine-blurred, out-done}
-use native.Mathlib.Omega.{arith}
 use borrow.Author.Needs.{needs}
 use Rattle.refresh.proofs.refresh_distance_field.Statement.{statement}
 use Rattle.refresh.proofs.refresh_distance_field.Tie as tie

@@ -1,5 +1,6 @@
+-- The passes are the rule's, and the blur forgets what the rows held that were used for comparing.
+-- Assumes nothing.
 use Rattle.refresh.proofs.Entries.{first-number, last-number, top-number, next-number, raw-size, kept-size, low-number, high-number, low-high, high-in, all-refreshed}
-use native.Mathlib.Omega.{arith}
 use borrow.Author.Needs.{needs}
 use Rattle.refresh.proofs.refresh_rows.Statement.{statement}
 use Rattle.refresh.proofs.refresh_rows.Tie as tie

@@ -1,6 +1,7 @@
+-- Each branch is one of the four tests.
+-- Assumes nothing.
 use Rattle.refresh.proofs.Entries.{rect-1, rect-2, rect-3, rect-4}
 use borrow.Author.Needs.{needs}
-use native.Mathlib.Omega.{arith}
 use Rattle.refresh.proofs.wrong_rect.Statement.{statement}
 use Rattle.refresh.proofs.wrong_rect.Tie as tie
 

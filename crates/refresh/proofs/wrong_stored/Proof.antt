@@ -1,5 +1,6 @@
+-- Either list alone is enough.
+-- Assumes nothing.
 use Rattle.refresh.proofs.Entries.{stored-1, stored-2}
-use native.Mathlib.Omega.{arith}
 use borrow.Author.Needs.{needs}
 use Rattle.refresh.proofs.wrong_stored.Statement.{statement}
 use Rattle.refresh.proofs.wrong_stored.Tie as tie

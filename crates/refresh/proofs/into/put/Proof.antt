@@ -1,5 +1,6 @@
+-- Each arm writes the numbers of its answer.
+-- Assumes nothing.
 use Rattle.refresh.proofs.Numbers.{put-refused, list-refused, put-rect, list-rect, put-stored, list-stored, put-done, list-done}
-use native.Mathlib.Omega.{arith}
 use borrow.Author.Needs.{needs}
 use Rattle.refresh.proofs.into.put.Statement.{statement}
 use Rattle.refresh.proofs.into.put.Tie as tie

@@ -1,5 +1,6 @@
+-- With eight places the answer's numbers are the outcome's; otherwise nothing is written.
+-- Assumes nothing.
 use Rattle.refresh.proofs.Numbers.{into-other, into-done}
-use native.Mathlib.Omega.{arith}
 use borrow.Author.Needs.{needs}
 use Rattle.refresh.proofs.into.refresh_into.Statement.{statement}
 use Rattle.refresh.proofs.into.refresh_into.Tie as tie

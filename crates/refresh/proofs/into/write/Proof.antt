@@ -1,3 +1,5 @@
+-- Eight stores to a list of eight are the list.
+-- Assumes nothing.
 use denote.Ref.{now}
 use lib.ListN.{set}
 use Rattle.refresh.proofs.Numbers.{eight, eight-room}

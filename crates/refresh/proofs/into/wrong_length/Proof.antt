@@ -1,5 +1,6 @@
+-- A length that is one too great is a wrong one.
+-- Assumes nothing.
 use Rattle.refresh.proofs.Numbers.{long-refused, long-sound}
-use native.Mathlib.Omega.{arith}
 use borrow.Author.Needs.{needs}
 use Rattle.refresh.proofs.into.wrong_length.Statement.{statement}
 use Rattle.refresh.proofs.into.wrong_length.Tie as tie

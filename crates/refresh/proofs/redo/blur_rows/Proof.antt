@@ -1,3 +1,5 @@
+-- Invariant: the rows from the first to y are blurred.
+-- Assumes nothing.
 use Prim.Native.Nat.{_≤_, _-_, _+_}
 use mathlib.Core.Path.{_≡_}
 use lib.ListN.{length}
@@ -6,7 +8,6 @@ use Rattle.field.proofs.Passed.{sound-reached}
 use Rattle.refresh.specs.Redo.{blurTill}
 use Rattle.refresh.proofs.Turns.{blur-go, blur-first, blur-last}
 use borrow.Author.Needs.{needs}
-use native.Mathlib.Omega.{arith}
 use Rattle.refresh.proofs.redo.blur_rows.Statement.{statement}
 use Rattle.refresh.proofs.redo.blur_rows.Tie as tie
 

@@ -1,3 +1,5 @@
+-- Invariant: pass 1 has gone through rows a to y, and every value is at most 510.
+-- Assumes nothing.
 use Prim.Native.Nat.{_≤_, _-_}
 use mathlib.Core.Path.{_≡_}
 use Rattle.field.specs.Lent.{lent}
@@ -7,7 +9,6 @@ use Rattle.distance.proofs.Bounds.{low-before}
 use Rattle.refresh.specs.Redo.{pass1Rows}
 use Rattle.refresh.proofs.Turns.{pass1-go, pass1-first, pass1-last, pass1-low}
 use borrow.Author.Needs.{needs}
-use native.Mathlib.Omega.{arith}
 use Rattle.refresh.proofs.redo.pass1_rows.Statement.{statement}
 use Rattle.refresh.proofs.redo.pass1_rows.Tie as tie
 

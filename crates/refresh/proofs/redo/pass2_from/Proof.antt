@@ -1,6 +1,7 @@
+-- The row's part is its pass 1 values before pass 2 goes through it.
+-- Assumes nothing.
 use Rattle.field.proofs.Passed.{sound-reached}
 use Rattle.refresh.proofs.Turns.{part-order, part-low, from-row, from-low}
-use native.Mathlib.Omega.{arith}
 use borrow.Author.Needs.{needs}
 use Rattle.refresh.proofs.redo.pass2_from.Statement.{statement}
 use Rattle.refresh.proofs.redo.pass2_from.Tie as tie

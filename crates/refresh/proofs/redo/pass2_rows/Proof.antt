@@ -1,3 +1,5 @@
+-- Invariant: the rows from a to y are left.
+-- Assumes nothing.
 use Prim.Native.Nat.{_≤_, _-_}
 use mathlib.Core.Path.{_≡_}
 use Rattle.field.specs.Lent.{lent}
@@ -5,7 +7,6 @@ use Rattle.distance.specs.Value.{Low}
 use Rattle.refresh.specs.Redo.{pass2Rows}
 use Rattle.refresh.proofs.Turns.{pass2-go, pass2-last}
 use borrow.Author.Needs.{needs}
-use native.Mathlib.Omega.{arith}
 use Rattle.refresh.proofs.redo.pass2_rows.Statement.{statement}
 use Rattle.refresh.proofs.redo.pass2_rows.Tie as tie
 

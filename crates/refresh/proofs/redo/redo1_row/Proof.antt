@@ -1,8 +1,9 @@
+-- What was stored for the row is kept before the row is redone, and compared with it afterwards.
+-- Assumes nothing.
 use Rattle.refresh.proofs.Turns.{part-before}
 use Rattle.field.proofs.Passed.{sound-reached}
 use Rattle.distance.proofs.Bounds.{low-before}
 use Rattle.refresh.proofs.Turns.{part-order, part-in, part-low, part-kept, redo-same, redo-kept, pass1-low}
-use native.Mathlib.Omega.{arith}
 use borrow.Author.Needs.{needs}
 use Rattle.refresh.proofs.redo.redo1_row.Statement.{statement}
 use Rattle.refresh.proofs.redo.redo1_row.Tie as tie

@@ -1,5 +1,6 @@
+-- What was stored for the row is kept before the row is redone, and compared with it afterwards.
+-- Assumes nothing.
 use Rattle.refresh.proofs.Turns.{part-order, part-in, part-low, part-kept, redo-same, redo-kept}
-use native.Mathlib.Omega.{arith}
 use borrow.Author.Needs.{needs}
 use Rattle.refresh.proofs.redo.redo2_row.Statement.{statement}
 use Rattle.refresh.proofs.redo.redo2_row.Tie as tie

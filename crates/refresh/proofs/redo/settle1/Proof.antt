@@ -1,3 +1,5 @@
+-- Invariant: what is left from row y on is what was left from row z1 + 1 on; rows of the kept list outside those redone are as they were.
+-- Assumes nothing.
 use Prim.Native.Nat.{_≤_, _-_, _+_}
 use mathlib.Core.Path.{_≡_}
 use lib.ListN.{length}
@@ -7,7 +9,6 @@ use Rattle.distance.specs.Value.{Low}
 use Rattle.refresh.specs.Redo.{Kept}
 use Rattle.refresh.proofs.Turns.{onward-go, onward-stop, onward-end, kept-up, kept-none, kept-all, kept-size}
 use borrow.Author.Needs.{needs}
-use native.Mathlib.Omega.{arith}
 use Rattle.refresh.proofs.redo.settle1.Statement.{statement}
 use Rattle.refresh.proofs.redo.settle1.Tie as tie
 

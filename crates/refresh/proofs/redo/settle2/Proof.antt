@@ -1,3 +1,5 @@
+-- Invariant: what is left below row y is what was left; rows of the kept list outside those redone are as they were.
+-- Assumes nothing.
 use Prim.Native.Nat.{_≤_, _-_, _+_}
 use mathlib.Core.Path.{_≡_}
 use lib.ListN.{length}
@@ -7,7 +9,6 @@ use Rattle.distance.specs.Value.{Low}
 use Rattle.refresh.specs.Redo.{Kept}
 use Rattle.refresh.proofs.Turns.{backward-go, backward-stop, backward-end, kept-down, kept-none, kept-zero, kept-size}
 use borrow.Author.Needs.{needs}
-use native.Mathlib.Omega.{arith}
 use Rattle.refresh.proofs.redo.settle2.Statement.{statement}
 use Rattle.refresh.proofs.redo.settle2.Tie as tie
 

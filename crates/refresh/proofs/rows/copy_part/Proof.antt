@@ -1,3 +1,5 @@
+-- Invariant: the part as far as i is copied.
+-- Assumes nothing.
 use Rattle.refresh.specs.Part.{partTo}
 use Rattle.refresh.proofs.Parts.{copy-first}
 use Prim.Native.Nat.{_≤_, _-_, _+_}
@@ -5,7 +7,6 @@ use mathlib.Core.Path.{_≡_}
 use lib.ListN.{length}
 use Rattle.refresh.proofs.Parts.{copy-go, copy-end}
 use borrow.Author.Needs.{needs}
-use native.Mathlib.Omega.{arith}
 use Rattle.refresh.proofs.rows.copy_part.Statement.{statement}
 use Rattle.refresh.proofs.rows.copy_part.Tie as tie
 

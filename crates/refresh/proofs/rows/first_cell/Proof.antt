@@ -1,3 +1,5 @@
+-- Invariant: the cells before number x are empty.
+-- Assumes nothing.
 use Prim.Native.Nat.{_≤_, _-_}
 use Rattle.refresh.proofs.Parts.{Empty-to, first-go, first-found, first-none}
 use borrow.Author.Needs.{needs}

@@ -1,3 +1,5 @@
+-- Invariant: the cells from number x on are empty.
+-- Assumes nothing.
 use Prim.Native.Nat.{_≤_, _-_}
 use Rattle.refresh.proofs.Parts.{Empty-from, last-go, last-found, last-none}
 use borrow.Author.Needs.{needs}

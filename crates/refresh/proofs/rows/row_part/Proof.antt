@@ -1,5 +1,6 @@
+-- The row's spans stand between its first and its last cell that is not empty.
+-- Assumes nothing.
 use Rattle.refresh.proofs.Parts.{row-fits, row-counts, row-few, row-none, last-fits, first-fits, first-place, last-place, last-count, row-some}
-use native.Mathlib.Omega.{arith}
 use borrow.Author.Needs.{needs}
 use Rattle.refresh.proofs.rows.row_part.Statement.{statement}
 use Rattle.refresh.proofs.rows.row_part.Tie as tie

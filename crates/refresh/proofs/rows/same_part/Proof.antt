@@ -1,3 +1,5 @@
+-- Invariant: the part as far as i is the same.
+-- Assumes nothing.
 use Rattle.refresh.specs.Part.{samePart}
 use Rattle.refresh.proofs.Parts.{alike-first}
 use Prim.Native.Nat.{_≤_, _-_}
@@ -5,7 +7,6 @@ use mathlib.Core.Path.{_≡_}
 use mathlib.Core.Bool.{true}
 use Rattle.refresh.proofs.Parts.{alike-go, alike-stop, alike-end}
 use borrow.Author.Needs.{needs}
-use native.Mathlib.Omega.{arith}
 use Rattle.refresh.proofs.rows.same_part.Statement.{statement}
 use Rattle.refresh.proofs.rows.same_part.Tie as tie
 

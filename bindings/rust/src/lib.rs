@@ -357,11 +357,11 @@ pub struct Refreshed {
     /// The greatest raw distance.
     pub max_distance: u16,
     /// The rows of pass 1.
-    pub pass1_rows: std::ops::RangeInclusive<u16>,
+    pub pass1_rows: core::ops::RangeInclusive<u16>,
     /// The rows of pass 2.
-    pub pass2_rows: std::ops::RangeInclusive<u16>,
+    pub pass2_rows: core::ops::RangeInclusive<u16>,
     /// The rows of the blur.
-    pub blur_rows: std::ops::RangeInclusive<u16>,
+    pub blur_rows: core::ops::RangeInclusive<u16>,
 }
 
 /// As [`build_distance_field`], and writes the values of pass 1 too: the three lists that [`refresh_distance_field`] takes.

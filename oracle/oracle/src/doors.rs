@@ -197,3 +197,50 @@ fn blur_row(field: &Field, z: u16, raw: &[u16], blurred: &mut [u16]) {
         };
     }
 }
+
+#[cfg(test)]
+mod tests {
+    use super::*;
+    use crate::{
+        levels::{KINDS, Size},
+        model::Model,
+        rng::Rng,
+    };
+
+    /// Several edits after each other, each followed by a refresh, come to a build; and a build is the model's of document 01.
+    #[test]
+    fn a_refresh_comes_to_a_build() {
+        for seed in 0..400 {
+            let mut rng = Rng::new(seed);
+            let mut field = rng.pick(&KINDS).make(Size::Small, seed).field;
+            let n = field.spans();
+            let (mut stages, greatest) = build(&field, [n; 3]).expect("a sound field");
+            let right = Model::RIGHT.distances(&field);
+            assert_eq!((&stages.raw, &stages.blurred), (&right.raw, &right.blurred));
+            assert_eq!(greatest, right.max_distance);
+            for _ in 0..6 {
+                if field.w == 0 || field.h == 0 {
+                    break;
+                }
+                let (x0, z0) = (
+                    rng.within(0..=usize::from(field.w) - 1) as u16,
+                    rng.within(0..=usize::from(field.h) - 1) as u16,
+                );
+                let rect = Rect {
+                    x0,
+                    z0,
+                    x1: x0,
+                    z1: z0,
+                };
+                for span in field.spans_in(field.cell_at(x0, z0)) {
+                    field.area[span] = rng.pick(&[0, 1, 2]);
+                }
+                let (now, report) = refresh(&field, rect, &stages).expect("not refused");
+                let (built, greatest) = build(&field, [n; 3]).expect("a sound field");
+                assert_eq!(now, built, "seed {seed}");
+                assert_eq!(report.max_distance, greatest);
+                stages = now;
+            }
+        }
+    }
+}

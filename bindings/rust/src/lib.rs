@@ -393,12 +393,13 @@ pub fn build_distance_stages(field: &Field<'_>, stages: &mut Stages<'_>) -> Resu
 /// let mut area = [1; 7];
 /// let (mut pass1, mut raw, mut blurred) = ([0; 7], [0; 7], [0; 7]);
 /// let mut stages = Stages { pass1: &mut pass1, raw: &mut raw, blurred: &mut blurred };
-/// let field = |area| Field { w: 1, h: 7, index: &index, count: &count, area, con: &con };
-/// build_distance_stages(&field(&area), &mut stages)?;
+/// let field = Field { w: 1, h: 7, index: &index, count: &count, area: &area, con: &con };
+/// build_distance_stages(&field, &mut stages)?;
 /// let door = Rect { x0: 0, z0: 3, x1: 0, z1: 3 };
 /// for code in [2, 1, 2] {
 ///     area[3] = code; // it closes, opens and closes
-///     let done = refresh_distance_field(&field(&area), door, &mut stages)?;
+///     let field = Field { w: 1, h: 7, index: &index, count: &count, area: &area, con: &con };
+///     let done = refresh_distance_field(&field, door, &mut stages)?;
 ///     for z in done.blur_rows {
 ///         let sent = stages.blurred[usize::from(z)]; // only these rows are sent on
 ///         assert_eq!(sent, 0);

@@ -16,8 +16,8 @@ use Rattle.rules.specs.Refresh.{repainted, valueTo, valuesRow, fromPass1}
 use Rattle.laws.proofs.Basics.{upto-ind, four-ways, getD-any}
 use Rattle.laws.proofs.Cells.{Passed}
 use Rattle.laws.proofs.Lengths.{lower-length}
-use Rattle.laws.proofs.Rows.{Earlier, from-start}
-use Rattle.meaning.proofs.Places.{few, layer-in, some-column, through, cell-left, cell-right, cell-up}
+use Rattle.laws.proofs.Rows.{Earlier}
+use Rattle.meaning.proofs.Places.{layer-in, some-column, through, cell-left, cell-right, cell-up}
 use Rattle.meaning.proofs.Settled.{reads1}
 use Rattle.door.specs.Edit.{rowOf}
 use Rattle.door.proofs.Places.{row-is, row-in, row-cell, layer-cell, of-cell, row-left, row-right, row-below, row-above}

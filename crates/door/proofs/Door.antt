@@ -7,9 +7,7 @@ use mathlib.Core.Path.{_≡_, refl, sym, _∙_}
 use mathlib.Core.Bool.{false}
 use mathlib.Core.List.{List, [], _∷_}
 use lib.ListN.{length, getD, List·getD-eq-default}
-use lib.Dec.{ltb}
-use borrow.Author.Tests.{eq-eqb}
-use Rattle.rules.specs.Base.{_or_, if_then_else_, any}
+use Rattle.rules.specs.Base.{_or_, if_then_else_}
 use Rattle.rules.specs.Field.{Field, spans, Bytes}
 use Rattle.rules.specs.Refusals.{refusal}
 use Rattle.rules.specs.Distance.{start, far, pass1, raw, blur}

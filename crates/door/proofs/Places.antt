@@ -3,17 +3,14 @@
 use Prim.Native.Nat.{ℕ, suc, _+_, _*_, _-_, _/_, _%_, _≤_, _<_}
 use native.Mathlib.Omega.{arith}
 use native.Mathlib.Nat.{mul-comm, suc-mul, mod-lt, div-add-mod', div-lt-iff-lt-mul}
-use native.Mathlib.Numerals.{add-one}
 use mathlib.Core.Path.{_≡_, sym, ap, _∙_}
 use mathlib.Core.List.{List}
 use lib.ListN.{length, getD}
-use lib.Arith.{digits-div, digits-mod}
-use borrow.Author.Tests.{eqb-true, eqb-false, leb-false, not-false}
+use lib.Arith.{digits-div}
+use borrow.Author.Tests.{eqb-false, leb-false}
 use Rattle.rules.specs.Field.{Field, spans, near, cellOf, leaves}
-use Rattle.rules.specs.Refusals.{wrongLength}
-use Rattle.laws.proofs.Basics.{both}
 use Rattle.laws.proofs.Cells.{Passed, near-none, before, cell-of, cellOf-at, leads}
-use Rattle.meaning.proofs.Places.{few, cell, within-cell, cell-in, some-column, through, cell-left, cell-right, cell-up, cell-down}
+use Rattle.meaning.proofs.Places.{few, cell, within-cell, cell-in, some-column, cell-left, cell-right, cell-up, cell-down}
 use Rattle.door.specs.Edit.{rowOf}
 
 -- ---------------------------------------------------------------- cells of a grid

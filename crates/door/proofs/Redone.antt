@@ -1,6 +1,6 @@
 -- Where the stored lists are those of the field before the edit, pass 1, pass 2 and the blur come to those of the field after it.
 -- The rows redone are right, since the row beside is; once a row past the edit comes out as stored, all further rows start from what they started from.
-use Prim.Native.Nat.{ℕ, zero, suc, _+_, _*_, _-_, _/_, _≤_, _<_, min}
+use Prim.Native.Nat.{ℕ, zero, suc, _+_, _*_, _-_, _/_, _≤_, _<_}
 use native.Mathlib.Omega.{arith}
 use native.Mathlib.Decide.{decLt, ℕ-discrete}
 use mathlib.Core.Path.{_≡_, refl, sym, ap, _∙_}
@@ -10,11 +10,11 @@ use mathlib.Core.List.{List}
 use lib.ListN.{length, getD}
 use lib.Dec.{leb}
 use borrow.Author.Tests.{eqb-true, leb-true}
-use Rattle.rules.specs.Base.{_and_, if_then_else_, upto}
+use Rattle.rules.specs.Base.{_and_, if_then_else_}
 use Rattle.rules.specs.Field.{Field, spans, near, corner, conOf, cellOf}
 use Rattle.rules.specs.Distance.{start, far, lower, pass1, raw, term, greatest, blurAt, blur}
-use Rattle.rules.specs.Rows.{overCell, downto, column, rowUp, rowDown, pass1Row, pass2Row, blurTo, blurRow}
-use Rattle.rules.specs.Refresh.{Rect, repainted, cellAsStored, asStored, Redone, onward, backward, valueTo, valuesRow, fromPass1, Rows, oneMore, blurRows, redone1, redone2, refreshed}
+use Rattle.rules.specs.Rows.{overCell, column, rowUp, rowDown, pass1Row, pass2Row, blurTo, blurRow}
+use Rattle.rules.specs.Refresh.{Rect, repainted, cellAsStored, asStored, Redone, onward, backward, valuesRow, fromPass1, Rows, oneMore, blurRows, redone1, redone2, refreshed}
 use Rattle.laws.proofs.Basics.{both, if-ind, upto-ind, every-at, tab-at, getD-any}
 use Rattle.laws.proofs.Cells.{Passed}
 use Rattle.laws.proofs.Lengths.{start-length, pass1-length, raw-length, blur-length}

@@ -5,7 +5,7 @@ use native.Mathlib.Omega.{arith}
 use native.Mathlib.Decide.{decLt}
 use mathlib.Core.Path.{_≡_, sym, _∙_}
 use mathlib.Core.List.{List}
-use lib.ListN.{length, getD, List·getD-eq-default}
+use lib.ListN.{List·getD-eq-default}
 use Rattle.rules.specs.Field.{Field, spans, near, conOf, areaOf}
 use Rattle.rules.specs.Distance.{same, startAt}
 use Rattle.rules.specs.Refresh.{Rect, repainted}

@@ -2,40 +2,39 @@
 -- rule redoes; the rows of the blurred list that were used for comparing are blurred again.
 use Prim.Native.Nat.{ℕ, zero, suc, _+_, _*_, _-_, _≤_, _<_, min}
 use native.Mathlib.Omega.{arith}
-use native.Mathlib.Numerals.{add-one}
 use native.Mathlib.Decide.{decLt, ℕ-discrete}
 use mathlib.Core.Path.{_≡_, refl, sym, ap, _∙_}
 use mathlib.Core.Logic.{_⊎_, inl, inr}
-use mathlib.Core.Bool.{Bool, true, false, not}
+use mathlib.Core.Bool.{Bool, true, false}
 use mathlib.Core.List.{List, [], _∷_}
 use lib.ListN.{length, getD}
 use lib.Seq.{ext-getD}
 use lib.Dec.{eqb, leb, ltb}
-use borrow.Author.Tests.{eq-eqb, ne-eqb, eqb-true, eqb-false, lt-leb, lt-ltb, le-ltb, le-leb, ltb-false}
+use borrow.Author.Tests.{eq-eqb, ne-eqb, lt-leb, lt-ltb, le-ltb, le-leb, ltb-false}
 use mir.Val.{Fits}
 use mir.Syntax.{w16, w64}
 use Rattle.rules.specs.Base.{_and_, _or_, if_then_else_, upto, every, any}
 use Rattle.rules.specs.Field.{Field, spans}
-use Rattle.rules.specs.Refusals.{refusal, tooWide, tooMany, wrongLength, wrongCells, wrongReach, wrongBack}
+use Rattle.rules.specs.Refusals.{refusal, wrongLength}
 use Rattle.rules.specs.Distance.{start, far, pass1, pass2, raw, greatest, blurAt, blur}
 use Rattle.rules.specs.Rows.{downto, pass1Row, blurTo, blurRow}
-use Rattle.rules.specs.Refresh.{Rect, Rows, noRows, asStored, Redone, onward, backward, fromPass1, oneMore, blurRows, redone1, redone2, refreshed, wrongRect, wrongStored, refreshRefusal, RefreshOutcome, refreshOutcome, StagesOutcome, stagesOutcome}
-use Rattle.laws.proofs.Basics.{neither, and-no, upto-ind}
+use Rattle.rules.specs.Refresh.{Rect, Rows, noRows, Redone, onward, backward, fromPass1, oneMore, blurRows, redone1, redone2, refreshed, wrongRect, wrongStored, refreshRefusal, RefreshOutcome, refreshOutcome, stagesOutcome}
+use Rattle.laws.proofs.Basics.{neither, upto-ind}
 use Rattle.laws.proofs.Cells.{passed}
-use Rattle.field.specs.Lent.{lent, Sound, Reached}
+use Rattle.field.specs.Lent.{lent, Sound}
 use Rattle.field.proofs.Passed.{sound-of, sound-reached}
 use Rattle.checker.specs.Answer.{numberOf, verdictNumber}
 use Rattle.checker.specs.declared.Refusal.{Refusal}
 use Rattle.checker.specs.declared.Verdict.{Verdict}
 use Rattle.checker.specs.declared.Verdict.the-variants as verdict
-use Rattle.checker.proofs.Numbers.{number-pos, number-same}
+use Rattle.checker.proofs.Numbers.{number-pos}
 use Rattle.distance.specs.Value.{Low}
 use Rattle.distance.proofs.Walks.{raw-end}
 use Rattle.door.specs.Edit.{rowOf}
 use Rattle.door.proofs.Accepted.{three-lengths, Accepted, accepted, rows-in}
 use Rattle.door.proofs.Places.{row-in}
 use Rattle.door.proofs.Agree.{blur-stores, up-size, up-keeps, blur-stored}
-use Rattle.door.proofs.Held.{blurRows-size, blurRows-held}
+use Rattle.door.proofs.Held.{blurRows-held}
 use Rattle.refresh.specs.Part.{partTo}
 use Rattle.refresh.specs.Redo.{redone, pass1Rows, pass2Rows, Kept, Passed}
 use Rattle.refresh.specs.Answer.{rect, stagesGiven, refreshGiven, oddLength, ownRefusal, refusalOf, refreshVerdictNumber}
@@ -43,7 +42,7 @@ use Rattle.refresh.specs.declared.StagesAnswer.the-variants as stages
 use Rattle.refresh.specs.declared.RefreshAnswer.the-variants.{Refused, WrongRect, WrongStored, Done}
 use Rattle.refresh.specs.declared.RefreshVerdict.{RefreshVerdict}
 use Rattle.refresh.specs.declared.RefreshVerdict.the-variants as fine
-use Rattle.refresh.proofs.Turns.{part-size, whole-copied}
+use Rattle.refresh.proofs.Turns.{whole-copied}
 
 -- ---------------------------------------------------------------- three lengths as two
 

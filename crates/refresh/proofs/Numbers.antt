@@ -7,16 +7,14 @@ use mathlib.Core.List.{List, [], _∷_}
 use lib.ListN.{length, set, length-set}
 use Rattle.rules.specs.Field.{Field, spans}
 use Rattle.rules.specs.Refusals.{refusal}
-use Rattle.rules.specs.Refresh.{Rect, Rows, RefreshOutcome, refreshOutcome, StagesOutcome}
+use Rattle.rules.specs.Refresh.{Rect, RefreshOutcome, refreshOutcome}
 use Rattle.field.specs.Lent.{lent}
 use Rattle.checker.specs.Answer.{numberOf, verdictNumber}
 use Rattle.checker.specs.declared.Refusal.{Refusal}
 use Rattle.checker.specs.declared.Verdict.{Verdict}
 use Rattle.checker.specs.declared.Verdict.the-variants as verdict
-use Rattle.checker.proofs.Numbers.{number-pos, number-same}
-use Rattle.refresh.specs.Answer.{rect, refreshRefusedBy, refreshGiven, stagesGiven}
+use Rattle.refresh.specs.Answer.{refreshRefusedBy, refreshGiven}
 use Rattle.refresh.specs.Into.{numbersOf, GivesInto}
-use Rattle.refresh.specs.declared.StagesAnswer.{StagesAnswer}
 use Rattle.refresh.specs.declared.StagesAnswer.the-variants as stages
 use Rattle.refresh.specs.declared.RefreshAnswer.{RefreshAnswer}
 use Rattle.refresh.specs.declared.RefreshAnswer.the-variants.{Refused, WrongRect, WrongStored, Done}

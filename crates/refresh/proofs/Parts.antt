@@ -1,32 +1,27 @@
 -- The spans of a row are a part of each list, between the first and the last cell of the row that is not empty; what is done to the part is done to the row.
 -- Spans stand as their cells do. Assumes nothing.
-use Prim.Native.Nat.{ℕ, zero, suc, _+_, _*_, _-_, _/_, _≤_, _<_}
+use Prim.Native.Nat.{ℕ, suc, _+_, _*_, _-_, _/_, _≤_, _<_}
 use native.Mathlib.Omega.{arith}
 use native.Mathlib.Nat.{mul-suc, mul-le-mul-left}
 use native.Mathlib.Decide.{decLt, ℕ-discrete}
 use mathlib.Core.Path.{_≡_, refl, sym, ap, _∙_}
-use mathlib.Core.Bool.{Bool, true, false}
+use mathlib.Core.Bool.{true, false}
 use mathlib.Core.List.{List, []}
 use lib.ListN.{length, getD, set}
-use lib.Seq.{ext-getD}
 use lib.Dec.{eqb}
-use borrow.Author.Tests.{eqb-true, eq-eqb, ne-eqb}
+use borrow.Author.Tests.{eq-eqb, ne-eqb}
 use mir.Val.{Fits}
 use mir.Syntax.{w64}
 use Rattle.rules.specs.Base.{_and_, upto, every}
 use Rattle.rules.specs.Field.{Field, spans, cellOf}
-use Rattle.rules.specs.Distance.{far}
-use Rattle.rules.specs.Rows.{rowUp}
-use Rattle.rules.specs.Refresh.{cellAsStored, asStored, valueTo, valuesRow}
-use Rattle.laws.proofs.Basics.{same-test, every-at, every-all, upto-ind, getD-any}
-use Rattle.laws.proofs.Cells.{Passed, passed}
+use Rattle.rules.specs.Refresh.{valueTo}
+use Rattle.laws.proofs.Cells.{passed}
 use Rattle.meaning.proofs.Places.{layer-in, in-order}
 use Rattle.field.specs.Lent.{lent, Sound}
 use Rattle.field.proofs.Loops.{every-stop, product-small}
 use Rattle.field.proofs.Passed.{sound-reached}
 use Rattle.door.specs.Edit.{rowOf}
-use Rattle.door.proofs.Places.{row-is, row-in, row-cell, layer-cell, of-cell}
-use Rattle.door.proofs.Agree.{value-stores, up-size, up-keeps, values-stored}
+use Rattle.door.proofs.Places.{row-is, row-cell, layer-cell, of-cell}
 use Rattle.refresh.specs.Part.{FirstCell, LastCell, RowPart, partTo, samePart}
 
 -- ---------------------------------------------------------------- the search for cells

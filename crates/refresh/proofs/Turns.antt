@@ -1,6 +1,6 @@
 -- Rows redone, as the loops over them have it: the row as a part of the list, values that stay at most 510, and what is left to do after a row.
 -- A row's spans are its part, and no row but its own is stored to. Assumes nothing.
-use Prim.Native.Nat.{ℕ, zero, suc, _+_, _*_, _-_, _/_, _≤_, _<_}
+use Prim.Native.Nat.{ℕ, suc, _+_, _*_, _-_, _/_, _≤_, _<_}
 use native.Mathlib.Omega.{arith}
 use native.Mathlib.Nat.{mul-suc}
 use native.Mathlib.Numerals.{add-one}
@@ -12,7 +12,7 @@ use mathlib.Core.List.{List, []}
 use lib.ListN.{length, getD, set, length-set}
 use lib.Seq.{ext-getD, getD-set-same, getD-set-other}
 use lib.Dec.{eqb, leb}
-use borrow.Author.Tests.{eqb-true, eq-eqb, le-leb, lt-leb}
+use borrow.Author.Tests.{eq-eqb, le-leb}
 use Rattle.rules.specs.Base.{_and_, if_then_else_, upto, every}
 use Rattle.rules.specs.Field.{Field, spans, cellOf}
 use Rattle.rules.specs.Distance.{far}
@@ -21,15 +21,13 @@ use Rattle.rules.specs.Refresh.{cellAsStored, asStored, Redone, onward, backwar
 use Rattle.laws.proofs.Basics.{and-no, same-test, every-at, every-all, upto-ind, getD-any}
 use Rattle.laws.proofs.Cells.{passed}
 use Rattle.meaning.proofs.Places.{layer-in}
-use Rattle.field.specs.Lent.{lent, Sound, Reached}
+use Rattle.field.specs.Lent.{lent, Sound}
 use Rattle.field.proofs.Loops.{every-ext}
-use Rattle.field.proofs.Passed.{sound-reached}
 use Rattle.distance.specs.Value.{Low, LowBefore}
-use Rattle.distance.proofs.Bounds.{low-before}
 use Rattle.door.specs.Edit.{rowOf}
 use Rattle.door.proofs.Places.{row-is, layer-cell, row-cell}
 use Rattle.door.proofs.Agree.{value-stores, up-size, up-keeps, values-stored}
-use Rattle.door.proofs.Fixed.{pass1-keeps, pass1-size}
+use Rattle.door.proofs.Fixed.{pass1-keeps}
 use Rattle.door.proofs.Redone.{as-stored}
 use Rattle.refresh.specs.Part.{RowPart, partTo, samePart}
 use Rattle.refresh.specs.Redo.{redone, pass1Rows, pass2Rows, blurTill, Kept}

@@ -117,6 +117,7 @@ fn check_regions(name: &str, field: &Field, beside: &Lent) {
             beside.max_distance,
             beside.settings,
         )
+        .map(run::Regions::dense)
     });
     match expected {
         Ok(expected) => {

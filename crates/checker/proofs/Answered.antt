@@ -1,12 +1,13 @@
 -- A connection that leads into the grid is answered by the layer that it comes from: the way back leads to the same cell, where a layer is one span.
 -- The rows of the grid in order are its cells in order, and a column and a row tell on which sides of a cell there is another.
-use Prim.Native.Nat.{ℕ, zero, suc, _+_, _*_, _/_, _%_, _≤_, _<_}
+use Prim.Native.Nat.{ℕ, zero, suc, _+_, _*_, _-_, _/_, _%_, _≤_, _<_, min}
 use native.Mathlib.Omega.{arith}
-use native.Mathlib.Nat.{mul-comm}
+use native.Mathlib.Nat.{mul-comm, mul-suc, mul-le-mul-left}
+use native.Mathlib.Numerals.{add-one}
 use native.Mathlib.Decide.{decLt, ℕ-discrete}
 use lib.Arith.{digits-lt, digits-div, digits-mod}
-use mathlib.Core.Path.{_≡_, refl, sym, _∙_}
-use mathlib.Core.Bool.{Bool, true, false, not}
+use mathlib.Core.Path.{_≡_, refl, sym, ap, _∙_}
+use mathlib.Core.Bool.{Bool, true, false, not, false≢true}
 use mathlib.Core.List.{List}
 use lib.ListN.{length, getD}
 use lib.Dec.{eqb, leb, ltb}
@@ -17,12 +18,14 @@ use Rattle.rules.specs.Base.{_and_, _or_, every}
 use Rattle.rules.specs.Field.{Field, spans, cellOf, cellTo, leaves, conOf, near}
 use Rattle.rules.specs.Refusals.{goodCon, goodBack}
 use Rattle.rules.specs.Mend.{stays}
-use Rattle.laws.proofs.Basics.{both, in-list, getD-any}
+use Rattle.laws.proofs.Basics.{both, in-list, getD-any, every-at, every-all, same-test}
 use Rattle.laws.proofs.Cells.{near-none, near-is}
 use Rattle.laws.proofs.Passes.{across-in}
 use Rattle.field.specs.Lent.{Stands, Celled, consAt, lent}
-use Rattle.checker.specs.Links.{Inner, Column, innerAt, halfAt, inCell, inRow}
-use Rattle.field.proofs.Loops.{every-rows, every-halt, every-end}
+use Rattle.checker.specs.Links.{Inner, Column, innerAt, halfAt, inCell, inColumns, inRow}
+use Rattle.field.specs.Blocks.{emptyBlock}
+use Rattle.field.proofs.Blocks.{block-none}
+use Rattle.field.proofs.Loops.{every-rows, every-ext, every-join, every-go, every-halt, every-end}
 use Rattle.field.proofs.Places.{room-left, room-up, layer-stands, cell-is, con-at, turned}
 use Rattle.checker.proofs.Checks.{flip, every-cells}
 
@@ -195,17 +198,68 @@ module _ (w h x z : ℕ) (a : x < w) (b : z < h) where
     pub column-fits : Fits w64 (w * z + x)
     column-fits = omega (arith, column-in, ok .grid)
 
+-- k columns from x on, in row z
+module _ (w h x k z : ℕ) (a : x + k ≤ w) (b : z < h) (is ks ar cs : List ℕ) (ok : Celled (lent w h is ks ar cs)) where
+  rows-in : w * z + (x + k) ≤ w * h
+  rows-in =
+      let y : w * (z + 1) ≤ w * h = mul-le-mul-left w (omega arith) in
+      let e : w * (z + 1) ≡ w * z + w = rw add-one (mul-suc w z) in
+      omega arith
+
+  pub block-row-fits : Fits w64 (w * z)
+  block-row-fits = omega (arith, rows-in, ok .grid)
+
+  pub block-fits : Fits w64 (w * z + x)
+  block-fits = omega (arith, rows-in, ok .grid)
+
+  pub block-in : w * z + x + k ≤ length ks
+  block-in = omega (arith, rows-in, ok .counted)
+
 -- ---------------------------------------------------------------- rows
 
--- the loop over the columns of row z
-module _ (F : Field) (p : ℕ → Bool) (x z : ℕ) where
-  pub columns-halt : (r : Bool) → x < F .w → r ≡ inCell F p (F .w * z + x) → r ≡ false → false ≡ inRow F p z
-  unfolding inRow
-  columns-halt r h e t = every-halt (λ y. inCell F p (F .w * z + y)) (F .w) x r h e t
+module _ (F : Field) (p : ℕ → Bool) (z x : ℕ) where
+  -- the loop over k columns of row z from x on
+  module _ (j : ℕ) (r : Bool) (e : r ≡ inCell F p (F .w * z + (x + j))) where
+    pub columns-go : inColumns F p z x j ≡ true → r ≡ true → inColumns F p z x (j + 1) ≡ true
+    unfolding inColumns
+    columns-go a t = every-go (λ i. inCell F p (F .w * z + (x + i))) j r a e t
 
-  pub columns-end : every x (λ y. inCell F p (F .w * z + y)) ≡ true → x ≤ F .w → F .w ≤ x → true ≡ inRow F p z
-  unfolding inRow
-  columns-end a h g = every-end (λ y. inCell F p (F .w * z + y)) (F .w) x a h g
+    pub columns-halt : (k : ℕ) → j < k → r ≡ false → false ≡ inColumns F p z x k
+    unfolding inColumns
+    columns-halt k h t = every-halt (λ i. inCell F p (F .w * z + (x + i))) k j r h e t
+
+  pub columns-end : (k j : ℕ) → inColumns F p z x j ≡ true → j ≤ k → k ≤ j → true ≡ inColumns F p z x k
+  unfolding inColumns
+  columns-end k j a h g = every-end (λ i. inCell F p (F .w * z + (x + i))) k j a h g
+
+  -- a block without spans
+  pub columns-none : (k : ℕ) (r : Bool) → r ≡ emptyBlock (F .count) (F .w * z + x) k → r ≡ true → true ≡ inColumns F p z x k
+  unfolding inColumns inCell every
+  columns-none k r e t =
+      sym (every-all k (λ i. inCell F p (F .w * z + (x + i)))
+      (λ i h.
+      let q : F .w * z + x + i ≡ F .w * z + (x + i) = omega arith in
+      let n : getD (F .count) (F .w * z + (x + i)) 0 ≡ 0 = rw q at (block-none (F .count) (F .w * z + x) k r e t i h) in
+      rw n))
+
+  -- the loop over the blocks of row z
+  module _ (k : ℕ) (r : Bool) (e : r ≡ inColumns F p z x k) where
+    pub blocks-go : inColumns F p z 0 x ≡ true → r ≡ true → inColumns F p z 0 (x + k) ≡ true
+    unfolding inColumns _and_
+    blocks-go a t = rw (every-join x k (λ i. inCell F p (F .w * z + (0 + i))), a) (every-ext k _ _ (λ i h. let q : 0 + (x + i) ≡ x + i = omega arith in rw q) ∙ sym e ∙ t)
+
+    pub blocks-halt : x < F .w → k ≡ min (F .w - x) 16 → r ≡ false → false ≡ inRow F p z
+    unfolding inColumns inRow
+    blocks-halt h b t =
+        same-test false (inRow F p z) (λ o. absurd (false≢true o))
+        (λ o. sym t ∙ e ∙ every-all k (λ i. inCell F p (F .w * z + (x + i))) (λ i g. every-at (F .w) (λ y. inCell F p (F .w * z + y)) o (x + i) (omega arith)))
+
+  pub blocks-end : inColumns F p z 0 x ≡ true → x ≤ F .w → F .w ≤ x → true ≡ inRow F p z
+  unfolding inColumns inRow
+  blocks-end a h g =
+      let q : x ≡ F .w = omega arith in
+      sym (every-ext (F .w) (λ y. inCell F p (F .w * z + y)) (λ y. inCell F p (F .w * z + (0 + y))) (λ y l. let o : y ≡ 0 + y = omega arith in ap (λ (i : ℕ). inCell F p (F .w * z + i)) o)
+      ∙ ap (λ (n : ℕ). every n (λ y. inCell F p (F .w * z + (0 + y)))) (sym q) ∙ a)
 
 -- every row is every span
 module _ (F : Field) (ok : Celled F) where

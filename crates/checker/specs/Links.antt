@@ -70,6 +70,10 @@ innerAt w h x z = ltb 0 x and ltb (z + 1) h
 unfoldable pub inCell : Field → (ℕ → Bool) → ℕ → Bool
 inCell F p c = every (getD (F .count) c 0) (λ j. p (getD (F .index) c 0 + j))
 
+-- p holds of each span of the k columns from x on in row z
+unfoldable pub inColumns : Field → (ℕ → Bool) → ℕ → ℕ → ℕ → Bool
+inColumns F p z x k = every k (λ j. inCell F p (F .w * z + (x + j)))
+
 -- p holds of each span of row z
 unfoldable pub inRow : Field → (ℕ → Bool) → ℕ → Bool
 inRow F p z = every (F .w) (λ x. inCell F p (F .w * z + x))

@@ -1,6 +1,8 @@
 // Refusals 5 and 6: a connection leads into the grid, to a span that leads back. A walk asks it of half of the directions, and two numbers tell of the others.
 // Row by row, so that no division tells where a cell stands.
 use crate::tally::links_in;
+use field::block::block_of;
+use field::block::is_empty;
 use field::place::Layer;
 use field::place::NO_LAYER;
 use field::place::SpanIx;
@@ -11,12 +13,12 @@ use field::read::at8;
 use field::read::at32;
 ghost use mathlib.Core.Path.{_≡_};
 ghost use mathlib.Core.Bool.{false, not};
-ghost use Prim.Native.Nat.{_+_, _*_, _<_};
+ghost use Prim.Native.Nat.{_+_, _*_, _<_, _≤_};
 ghost use Rattle.rules.specs.Base.{_and_, every};
 ghost use Rattle.rules.specs.Field.{spans, leaves, conOf};
 ghost use Rattle.rules.specs.Mend.{stays};
 ghost use Rattle.field.specs.Lent.{lent, Celled, consAt};
-ghost use Rattle.checker.specs.Links.{spanIn, Layered, Inner, Column, innerAt, halfAt, reachAt, backAt, inCell, inRow};
+ghost use Rattle.checker.specs.Links.{spanIn, Layered, Inner, Column, innerAt, halfAt, reachAt, backAt, inCell, inColumns, inRow};
 
 // The connection k of the span in layer j of cell c, in a direction d that does not leave the grid, is none, or leads to a span that leads back.
 fn link_ok(
@@ -242,7 +244,53 @@ fn column_ok(
     cell_ok(w, h, index, count, area, con, w * z + x, x, z, inner)
 }
 
-// Row z.
+// The k columns of row z from x on.
+fn columns_ok(
+    w: usize,
+    h: usize,
+    index: &[u32],
+    count: &[u8],
+    area: &[u8],
+    con: &[u8],
+    x: usize,
+    k: usize,
+    z: usize,
+) -> bool
+    requires { ⌜ Celled (lent w h (now index) (now count) (now area) (now con)) × (x + k ≤ w) × (z < h) ⌝ }
+    ensures { λ r. ⌜ (let F = lent w h (now (index .entry)) (now (count .entry)) (now (area .entry)) (now (con .entry)) in
+        r ≡ inColumns F (halfAt F) z x k) ⌝ }
+{
+    for j in 0..k {
+        if column_ok(w, h, index, count, area, con, x + j, z) {} else {
+            return false;
+        }
+    }
+    true
+}
+
+// The same, a block without spans at once.
+fn block_ok(
+    w: usize,
+    h: usize,
+    index: &[u32],
+    count: &[u8],
+    area: &[u8],
+    con: &[u8],
+    x: usize,
+    k: usize,
+    z: usize,
+) -> bool
+    requires { ⌜ Celled (lent w h (now index) (now count) (now area) (now con)) × (x + k ≤ w) × (z < h) ⌝ }
+    ensures { λ r. ⌜ (let F = lent w h (now (index .entry)) (now (count .entry)) (now (area .entry)) (now (con .entry)) in
+        r ≡ inColumns F (halfAt F) z x k) ⌝ }
+{
+    if is_empty(count, w * z + x, k) {
+        return true;
+    }
+    columns_ok(w, h, index, count, area, con, x, k, z)
+}
+
+// Row z, block by block.
 fn row_ok(
     w: usize,
     h: usize,
@@ -256,8 +304,12 @@ fn row_ok(
     ensures { λ r. ⌜ (let F = lent w h (now (index .entry)) (now (count .entry)) (now (area .entry)) (now (con .entry)) in
         r ≡ inRow F (halfAt F) z) ⌝ }
 {
-    for x in 0..w {
-        if column_ok(w, h, index, count, area, con, x, z) {} else {
+    let mut x: usize = 0;
+    while x < w {
+        let k = block_of(w - x);
+        if block_ok(w, h, index, count, area, con, x, k, z) {
+            x += k;
+        } else {
             return false;
         }
     }

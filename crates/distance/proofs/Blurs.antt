@@ -9,11 +9,11 @@ use lib.ListN.{length, getD, set, drop, drop-of-length-le, List·getD-eq-default
 use lib.Seq.{drop-cons}
 use borrow.Author.Tests.{le-leb, lt-leb}
 use Rattle.rules.specs.Base.{if_then_else_, upto}
-use Rattle.rules.specs.Field.{Field, near, corner, cellTo}
+use Rattle.rules.specs.Field.{Field, spans, near, corner, cellTo}
 use Rattle.rules.specs.Distance.{greatest, term, blurAt}
 use Rattle.laws.proofs.Basics.{getD-any}
 use Rattle.laws.proofs.Passes.{none-near}
-use Rattle.field.specs.Lent.{Reached, Spot, SomeSpot, Leaf, SomeLeaf, consAt, lent}
+use Rattle.field.specs.Lent.{Stands, Reached, Spot, SomeSpot, Leaf, SomeLeaf, consAt, lent}
 use Rattle.field.proofs.Loops.{upto-go}
 use Rattle.field.proofs.Places.{near-stands, near-spot, spot-con, spot-leaf, some-leaf, step-spot, leaf-none, turned, layer-spot}
 use Rattle.rules.specs.Rows.{blurTo}
@@ -118,3 +118,13 @@ unfolding blurTo
 blur-go w h is ks ar cs raw c i k j x l m ok e f g p q =
     upto-go (λ t. blurTo (lent w h is ks ar cs) raw (i + t)) j l m (set m (i + j) x) p
     (ap (set m (i + j)) (q (lent w h is ks ar cs) (layer-spot w h is ks ar cs c i k j e f g ok)))
+
+-- the same over spans in order, x in cell c
+pub blur-next : (F : Field) (raw : List ℕ) (c s x : ℕ) (l m : List ℕ) → Reached F → Stands F c s → m ≡ upto s (blurTo F raw) l
+    → ((F′ : Field) → Spot F′ (F .w) (F .index) (F .con) c s → x ≡ blurAt F′ raw s) → set m s x ≡ upto (s + 1) (blurTo F raw) l
+unfolding blurTo
+blur-next F raw c s x l m ok v p q =
+    upto-go (blurTo F raw) s l m (set m s x) p (ap (set m s) (q F (record { reached = ok; wide = refl; indexed = refl; linked = refl; stands = v })))
+
+pub blur-sized : (F : Field) (raw : List ℕ) (c s : ℕ) → Reached F → length raw ≡ spans F → Stands F c s → Sized (F .w) (F .index) (F .con) raw c s
+blur-sized F raw c s ok n v = record { F = F; spot = record { reached = ok; wide = refl; indexed = refl; linked = refl; stands = v }; size = n }

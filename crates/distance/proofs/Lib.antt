@@ -1,3 +1,4 @@
+pub mod Earlier
 pub mod Walks
 pub mod Values
 pub mod Sides

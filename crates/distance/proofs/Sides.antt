@@ -2,18 +2,18 @@
 -- since where there is no span the rule reads 65,535 and adds to it.
 use Prim.Native.Nat.{ℕ, _+_, _*_, _≤_, _<_, min}
 use native.Mathlib.Omega.{arith}
-use mathlib.Core.Path.{_≡_, sym, ap, _∙_}
+use mathlib.Core.Path.{_≡_, refl, sym, ap, _∙_}
 use mathlib.Core.List.{List}
 use lib.ListN.{length, getD, List·getD-eq-default}
 use Rattle.rules.specs.Field.{Field, spans, near, cellTo}
-use Rattle.rules.specs.Distance.{far}
+use Rattle.rules.specs.Distance.{far, startAt}
 use Rattle.rules.specs.Refusals.{mostSpans}
 use Rattle.laws.proofs.Basics.{getD-any}
 use Rattle.laws.proofs.Passes.{none-near}
-use Rattle.field.specs.Lent.{Spot, SomeSpot, Leaf, SomeLeaf, consAt}
+use Rattle.field.specs.Lent.{Stands, Reached, Spot, SomeSpot, Leaf, SomeLeaf, consAt, lent}
 use Rattle.field.proofs.Places.{near-stands, near-spot, spot-con, spot-leaf, some-leaf, step-spot, leaf-none}
-use Rattle.distance.specs.Value.{side, least, Sized, Room}
-use Rattle.distance.proofs.Values.{sized-con, sized-in, sized-leaf}
+use Rattle.distance.specs.Value.{side, leastFrom, least, Sized, Room}
+use Rattle.distance.proofs.Values.{sized-con, sized-in, sized-leaf, start-high}
 
 module _ (w : ℕ) (is cs l : List ℕ) (c s d e : ℕ) (v : Room w is cs l c s d e) where
   room-sized : Sized w is cs l c s
@@ -103,7 +103,7 @@ module _ (w : ℕ) (is cs l : List ℕ) (c s d e : ℕ) (v : Room w is cs l c s 
 
 -- a value of at most 2 stays, since at least 2 is added to each other
 pub least-low : (w : ℕ) (is cs l : List ℕ) (p s a b d e : ℕ) → Room w is cs l p s a b → getD l s 0 ≤ 2 → (F : Field) → Spot F w is cs p s → getD l s 0 ≡ least F a b d e s l
-unfolding least side
+unfolding least leastFrom side
 least-low w is cs l p s a b d e v h F u =
     let f : far l s ≡ getD l s 0 = getD-any l s 65535 0 (room-in w is cs l p s a b v) in
     omega arith
@@ -112,7 +112,27 @@ pub least-is : (w : ℕ) (is cs l : List ℕ) (p s a b d e x y : ℕ) → Room w
     → ((F : Field) → Spot F w is cs p s → x ≡ min (getD l s 0) (side F l s a b))
     → ((F : Field) → Spot F w is cs p s → y ≡ min x (side F l s d e))
     → (F : Field) → Spot F w is cs p s → y ≡ least F a b d e s l
-unfolding least
+unfolding least leastFrom
 least-is w is cs l p s a b d e x y v m n F u =
     let f : far l s ≡ getD l s 0 = getD-any l s 65535 0 (room-in w is cs l p s a b v) in
     omega (arith, m F u, n F u)
+
+-- pass 1: a span that starts with 0 keeps it, and another is the least of 65,535 and the two sides
+module _ (w h : ℕ) (is ks ar cs l : List ℕ) (c s : ℕ) (ok : Reached (lent w h is ks ar cs)) (v : Stands (lent w h is ks ar cs) c s) where
+  here : Spot (lent w h is ks ar cs) w is cs c s
+  here = record { reached = ok; wide = refl; indexed = refl; linked = refl; stands = v }
+
+  pub from-sized : Sized w is cs ar c s
+  from-sized = record { F = lent w h is ks ar cs; spot = here; size = refl }
+
+  module _ (r : ℕ) (e : (F : Field) → Spot F w is cs c s → F .area ≡ ar → r ≡ startAt F s) where
+    pub from-zero : r ≡ 0 → 0 ≡ leastFrom (lent w h is ks ar cs) (startAt (lent w h is ks ar cs) s) 0 3 3 2 s l
+    unfolding leastFrom
+    from-zero z = omega (arith, e (lent w h is ks ar cs) here refl)
+
+    pub from-sides : (r ≡ 0 → ⊥) → (x y : ℕ) → ((F : Field) → Spot F w is cs c s → x ≡ min 65535 (side F l s 0 3)) → ((F : Field) → Spot F w is cs c s → y ≡ min x (side F l s 3 2))
+        → y ≡ leastFrom (lent w h is ks ar cs) (startAt (lent w h is ks ar cs) s) 0 3 3 2 s l
+    unfolding leastFrom
+    from-sides z x y m n =
+        let f = start-high (lent w h is ks ar cs) s (λ g. z (e (lent w h is ks ar cs) here refl ∙ g)) in
+        omega (arith, m (lent w h is ks ar cs) here, n (lent w h is ks ar cs) here)

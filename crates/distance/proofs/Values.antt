@@ -4,18 +4,16 @@ use Prim.Native.Nat.{ℕ, _+_, _*_, _≤_, _<_}
 use native.Mathlib.Omega.{arith}
 use mathlib.Core.Path.{_≡_, refl, sym, ap, _∙_}
 use mathlib.Core.List.{List}
-use lib.ListN.{length, getD, set}
+use lib.ListN.{length, getD}
 use borrow.Author.Tests.{eq-eqb, ne-eqb, lt-ltb, le-ltb}
-use Rattle.rules.specs.Base.{if_then_else_, upto}
+use Rattle.rules.specs.Base.{if_then_else_}
 use Rattle.rules.specs.Field.{Field, spans, near, areaOf}
 use Rattle.rules.specs.Distance.{same, startAt}
-use Rattle.laws.proofs.Basics.{getD-any}
+use Rattle.laws.proofs.Basics.{getD-any, if-ind}
 use Rattle.laws.proofs.Passes.{missing-not-same, same-fewer}
 use Rattle.field.specs.Lent.{Reached, Spot, SomeSpot, Leaf, SomeLeaf, consAt, lent}
 use Rattle.field.proofs.Places.{near-stands, spot-leaf, spot-con, some-leaf, leaf-none, layer-spot}
-use Rattle.rules.specs.Rows.{startTo}
 use Rattle.distance.specs.Value.{Sized, SizedLeaf}
-use Rattle.field.proofs.Loops.{upto-go}
 
 -- ---------------------------------------------------------------- a list with a value for each span
 
@@ -105,12 +103,7 @@ module _ (w : ℕ) (is cs ar cons : List ℕ) (c s : ℕ) (e : cons ≡ consAt c
         let h : 4 ≤ x₀ + x₁ + x₂ + x₃ = omega arith in
         rw (← e₀ F u q, ← e₁ F u q, ← e₂ F u q, ← e₃ F u q, le-ltb (x₀ + x₁ + x₂ + x₃) 4 h)
 
--- one layer more: v is what the start gives span i + j, of every field that fits what is lent
-pub start-go : (w h : ℕ) (is ks ar cs : List ℕ) (c i k j v : ℕ) (l m : List ℕ) → Reached (lent w h is ks ar cs) → i ≡ getD is c 0 → k ≡ getD ks c 0 → j < k
-    → m ≡ upto j (λ t. startTo (lent w h is ks ar cs) (i + t)) l
-    → ((F : Field) → Spot F w is cs c (i + j) → F .area ≡ ar → v ≡ startAt F (i + j))
-    → set m (i + j) v ≡ upto (j + 1) (λ t. startTo (lent w h is ks ar cs) (i + t)) l
-unfolding startTo
-start-go w h is ks ar cs c i k j v l m ok e f g p q =
-    upto-go (λ t. startTo (lent w h is ks ar cs) (i + t)) j l m (set m (i + j) v) p
-    (ap (set m (i + j)) (q (lent w h is ks ar cs) (layer-spot w h is ks ar cs c i k j e f g ok) refl))
+-- one that does not start with 0 starts with 65,535
+pub start-high : (F : Field) (s : ℕ) → (startAt F s ≡ 0 → ⊥) → startAt F s ≡ 65535
+unfolding startAt
+start-high F s = if-ind (λ r. (r ≡ 0 → ⊥) → r ≡ 65535) _ (λ _ n. absurd (n refl)) (λ _ _. refl)

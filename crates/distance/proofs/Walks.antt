@@ -1,117 +1,44 @@
--- All spans in order are the rows in order, of the cells in order, of the layers in order; and the turns of the loops over them.
--- Refusal 4 has it that a nonempty cell's spans follow those of the cells before it.
-use Prim.Native.Nat.{ℕ, zero, suc, _+_, _*_, _-_, _≤_, _<_}
+-- The turns of the loops over rows, columns and layers, and what all rows come to.
+-- The rows in order are all spans in order (laws, Rows), so a stage by rows is the rule's stage.
+use Prim.Native.Nat.{ℕ, zero, suc, _+_, _*_, _-_, _≤_, _<_, min}
 use native.Mathlib.Omega.{arith}
-use native.Mathlib.Nat.{mul-zero, mul-suc, mul-comm}
+use native.Mathlib.Nat.{mul-comm, mul-suc, mul-le-mul-left}
+use native.Mathlib.Numerals.{add-one}
 use lib.Arith.{digits-lt}
 use mathlib.Core.Path.{_≡_, refl, sym, ap, _∙_}
+use mathlib.Core.Bool.{Bool, true}
 use mathlib.Core.List.{List}
-use lib.ListN.{length, getD, set, length-set}
-use lib.Seq.{ext-getD}
-use Rattle.rules.specs.Base.{upto, tab}
-use Rattle.rules.specs.Field.{Field, spans}
-use Rattle.rules.specs.Distance.{lower, startAt, start, pass1, pass2, raw, blurAt, blur}
-use Rattle.laws.proofs.Basics.{upto-ind, tab-at, length-tab, getD-set-at}
+use lib.ListN.{length, getD, set}
+use lib.Seq.{getD-set-other}
+use Rattle.rules.specs.Base.{upto}
+use Rattle.rules.specs.Field.{Field, spans, cellOf}
+use Rattle.rules.specs.Distance.{lower, start, pass1, pass2, raw, blurAt, blur}
+use Rattle.rules.specs.Rows.{overCell, downto, column, rowUp, rowDown, fromStart, blurTo, pass1Row, pass2Row, blurRow}
+use Rattle.laws.proofs.Basics.{upto-ind, upto-join, tab-at, length-tab}
+use Rattle.laws.proofs.Rows.{downto-join, spans-upto, stored, pass1-from-start, pass2-from-last}
 use mir.Val.{Fits}
 use mir.Syntax.{w64}
-use Rattle.field.specs.Lent.{Celled, Reached, lent}
-use Rattle.field.proofs.Loops.{upto-join, upto-ext, upto-go, upto-end, product-small}
-use Rattle.field.proofs.Places.{firstOf, first-is, total-is}
-use Rattle.rules.specs.Rows.{overCell, downto, column, rowUp, rowDown, startTo, blurTo}
+use Rattle.field.specs.Lent.{Stands, Reached, lent}
+use Rattle.field.specs.Blocks.{emptyBlock}
+use Rattle.field.proofs.Blocks.{block-none, upto-still, downto-still, still-cell}
+use Rattle.distance.specs.Walk.{columnsUp, columnsDown, cellsUp, noteCell, cellsOf}
+use Rattle.field.proofs.Places.{stands-at}
+use Rattle.field.proofs.Loops.{upto-go, upto-end, product-small}
+use Rattle.distance.proofs.Earlier.{earlier, apart}
 
--- ---------------------------------------------------------------- rows and columns
+-- ---------------------------------------------------------------- a loop downward
 
 module _ {ℓ} {A : Type ℓ} where
-  upto-rows : (w h : ℕ) (g : ℕ → A → A) (a : A) → upto (w * h) g a ≡ upto h (λ y. upto w (λ x. g (w * y + x))) a
-  unfolding upto
-  upto-rows w zero g a = rw (mul-zero w)
-  upto-rows w (suc h) g a = rw (mul-suc w h) (upto-join (w * h) w g a ∙ rw (upto-rows w h g a))
-
-  downto-join : (a k : ℕ) (f : ℕ → A → A) (s : A) → downto (a + k) f s ≡ downto a f (downto k (λ j. f (a + j)) s)
-  unfolding downto
-  downto-join a zero f s = let e : a + 0 ≡ a = omega arith in rw e
-  downto-join a (suc k) f s = let e : a + suc k ≡ suc (a + k) = omega arith in rw e (downto-join a k f (f (a + k) s))
-
-  downto-rows : (w h : ℕ) (g : ℕ → A → A) (a : A) → downto (w * h) g a ≡ downto h (λ y. downto w (λ x. g (w * y + x))) a
-  unfolding downto
-  downto-rows w zero g a = rw (mul-zero w)
-  downto-rows w (suc h) g a = rw (mul-suc w h) (downto-join (w * h) w g a ∙ downto-rows w h g (downto w (λ x. g (w * h + x)) a))
-
-  -- the first step by itself
-  upto-first : (n : ℕ) (g : ℕ → A → A) (a : A) → upto (suc n) g a ≡ upto n (λ j. g (suc j)) (g 0 a)
-  unfolding upto
-  upto-first zero g a = refl
-  upto-first (suc n) g a = ap (g (suc n)) (upto-first n g a)
-
-  -- downward is upward with the numbers turned round
-  upto-downto : (n : ℕ) (f : ℕ → A → A) (a : A) → upto n (λ k. f (n - 1 - k)) a ≡ downto n f a
-  unfolding upto downto
-  upto-downto zero f a = refl
-  upto-downto (suc n) f a =
-      upto-first n (λ k. f (suc n - 1 - k)) a
-      ∙ upto-ext n (λ j. f (suc n - 1 - suc j)) (λ k. f (n - 1 - k)) (f (suc n - 1 - 0) a) (λ i x l. let q : suc n - 1 - suc i ≡ n - 1 - i = omega arith in ap (λ (z : ℕ). f z x) q)
-      ∙ let q : suc n - 1 - 0 ≡ n = omega arith in rw q (upto-downto n f (f n a))
-
   -- a loop downward: z is the end, t the state with c to go, and u the next
   pub down-go : (f : ℕ → A → A) (c : ℕ) (z t u : A) → 0 < c → z ≡ downto c f t → u ≡ f (c - 1) t → z ≡ downto (c - 1) f u
   unfolding downto
   down-go f zero z t u h e g = absurd (omega arith)
   down-go f (suc c) z t u h e g = let q : suc c - 1 ≡ c = omega arith in rw q (rw (rw q at g) e)
 
-  pub down-end : (f : ℕ → A → A) (c : ℕ) (z t : A) → c ≤ 0 → z ≡ downto c f t → t ≡ z
+  down-end : (f : ℕ → A → A) (c : ℕ) (z t : A) → c ≤ 0 → z ≡ downto c f t → t ≡ z
   unfolding downto
   down-end f zero z t h e = sym e
   down-end f (suc c) z t h e = absurd (omega arith)
-
--- ---------------------------------------------------------------- cells
-
-cells-upto : (F : Field) → Celled F → (f : ℕ → List ℕ → List ℕ) (l : List ℕ) (c : ℕ) → upto (firstOf (F .count) c) f l ≡ upto c (overCell F f) l
-unfolding upto overCell firstOf
-cells-upto F ok f l zero = refl
-cells-upto F ok f l (suc c) =
-    let a = firstOf (F .count) c in
-    let k = getD (F .count) c 0 in
-    let i = getD (F .index) c 0 in
-    upto-join a k f l ∙ rw (cells-upto F ok f l c)
-    (upto-ext k (λ j. f (a + j)) (λ j m. f (i + j) m) (upto c (overCell F f) l) (λ j x h. ap (λ (z : ℕ). f (z + j) x) (sym (first-is F ok c (omega arith)))))
-
-pub rows-upto : (F : Field) → Celled F → (f : ℕ → List ℕ → List ℕ) (l : List ℕ) → upto (spans F) f l ≡ upto (F .h) (rowUp F f) l
-unfolding rowUp column
-rows-upto F ok f l = rw (← total-is F ok) (cells-upto F ok f l (F .w * F .h) ∙ upto-rows (F .w) (F .h) (overCell F f) l)
-
-pub pass2-rows : (F : Field) (l : List ℕ) → pass2 F l ≡ downto (F .h) (rowDown F (lower F 2 1 1 0)) l
-unfolding pass2 rowDown column overCell
-pass2-rows F l =
-    upto-downto (F .w * F .h) (overCell F (lower F 2 1 1 0)) l ∙ downto-rows (F .w) (F .h) (overCell F (lower F 2 1 1 0)) l
-
--- ---------------------------------------------------------------- a list by its elements, one stored after the other
-
--- n elements, of which the first k are stored
-record Stored (n : ℕ) (g : ℕ → ℕ) (k : ℕ) (x : List ℕ) : Type 0 where
-  size : length x ≡ n
-  done : (i : ℕ) → i < k → getD x i 0 ≡ g i
-
-stored-upto : (n : ℕ) (g : ℕ → ℕ) (l : List ℕ) → length l ≡ n → Stored n g n (upto n (λ s m. set m s (g s)) l)
-stored-upto n g l e =
-    upto-ind (Stored n g) (λ s m. set m s (g s)) l n
-    (record { size = e; done = λ i h. absurd (omega arith) })
-    (λ k x h p.
-    let q : k < length x = rw (p .size) h in
-    record {
-      size = length-set x k (g k) ∙ p .size;
-      done = λ i r. getD-set-at x k (g k) 0 i (λ v. v ≡ g i) q (λ z. rw z) (λ z. p .done i (omega arith));
-    })
-
-stored : (n : ℕ) (g : ℕ → ℕ) (l : List ℕ) → length l ≡ n → upto n (λ s m. set m s (g s)) l ≡ tab n 0 g
-stored n g l e = by-elements (upto n (λ s m. set m s (g s)) l) (stored-upto n g l e)
-  where
-    by-elements : (x : List ℕ) → Stored n g n x → x ≡ tab n 0 g
-    by-elements x p =
-        ext-getD 0 x (tab n 0 g) (p .size ∙ sym (length-tab n 0 g))
-        (λ i h.
-        let q : i < n = rw (p .size) at h in
-        let z : 0 + i ≡ i = omega arith in
-        p .done i q ∙ sym (tab-at n 0 g i 0 q ∙ ap g z))
 
 -- ---------------------------------------------------------------- the turns of the loops
 
@@ -122,31 +49,128 @@ module _ (F : Field) (f : ℕ → List ℕ → List ℕ) where
   unfolding overCell
   cell-end c i k j l m p q e h g = rw (← p, ← q) (upto-end (λ t. f (i + t)) k j l m e h g)
 
-  pub row-go : (y x a : ℕ) (l m n : List ℕ) → a ≡ F .w * y → m ≡ upto x (column F f y) l → n ≡ overCell F f (a + x) m → n ≡ upto (x + 1) (column F f y) l
-  unfolding column
-  row-go y x a l m n z e g = upto-go (column F f y) x l m n e (rw (← z) g)
+  -- k columns of row y from x on: one more, the end, and none where no span stands in a block
+  pub columns-go : (y x j : ℕ) (l m n : List ℕ) → m ≡ columnsUp F f y x j l → n ≡ overCell F f (F .w * y + (x + j)) m → n ≡ columnsUp F f y x (j + 1) l
+  unfolding columnsUp column
+  columns-go y x j l m n e g = upto-go (λ i. column F f y (x + i)) j l m n e g
 
-  pub row-end : (y x : ℕ) (l m : List ℕ) → m ≡ upto x (column F f y) l → x ≤ F .w → F .w ≤ x → m ≡ rowUp F f y l
+  -- with the place of the first found before the loop
+  pub columns-step : (y x a j : ℕ) (l m n : List ℕ) → a ≡ F .w * y + x → m ≡ columnsUp F f y x j l → n ≡ overCell F f (a + j) m → n ≡ columnsUp F f y x (j + 1) l
+  columns-step y x a j l m n p e g = columns-go y x j l m n e (let q : F .w * y + (x + j) ≡ a + j = omega arith in rw q g)
+
+  pub columns-end : (y x k j : ℕ) (l m : List ℕ) → m ≡ columnsUp F f y x j l → j ≤ k → k ≤ j → m ≡ columnsUp F f y x k l
+  unfolding columnsUp
+  columns-end y x k j l m e h g = upto-end (λ i. column F f y (x + i)) k j l m e h g
+
+  module _ (y x k : ℕ) (r : Bool) (e : r ≡ emptyBlock (F .count) (F .w * y + x) k) (t : r ≡ true) where
+    still : (i : ℕ) (l : List ℕ) → i < k → column F f y (x + i) l ≡ l
+    unfolding column
+    still i l h =
+        let q : F .w * y + x + i ≡ F .w * y + (x + i) = omega arith in
+        still-cell F f (F .w * y + (x + i)) l (rw q at (block-none (F .count) (F .w * y + x) k r e t i h))
+
+    pub columns-none : (l : List ℕ) → l ≡ columnsUp F f y x k l
+    unfolding columnsUp
+    columns-none l = upto-still k (λ i. column F f y (x + i)) l still
+
+    pub columns-down-none : (l : List ℕ) → l ≡ columnsDown F f y x k l
+    unfolding columnsDown
+    columns-down-none l = downto-still k (λ i. column F f y (x + i)) l still
+
+  -- the blocks of row y
+  pub block-go : (y x k : ℕ) (l m n : List ℕ) → m ≡ upto x (column F f y) l → n ≡ columnsUp F f y x k m → n ≡ upto (x + k) (column F f y) l
+  unfolding columnsUp
+  block-go y x k l m n e g = g ∙ ap (upto k (λ i. column F f y (x + i))) e ∙ sym (upto-join x k (column F f y) l)
+
+  row-end : (y x : ℕ) (l m : List ℕ) → m ≡ upto x (column F f y) l → x ≤ F .w → F .w ≤ x → m ≡ rowUp F f y l
   unfolding rowUp
   row-end y x l m e h g = upto-end (column F f y) (F .w) x l m e h g
 
-  pub rows-end : (y : ℕ) (l m : List ℕ) → Celled F → m ≡ upto y (rowUp F f) l → y ≤ F .h → F .h ≤ y → m ≡ upto (spans F) f l
-  rows-end y l m ok e h g = upto-end (rowUp F f) (F .h) y l m e h g ∙ sym (rows-upto F ok f l)
+-- ---------------------------------------------------------------- all cells, block by block
 
-pub start-end : (F : Field) (y : ℕ) (l m : List ℕ) → Celled F → length l ≡ spans F → m ≡ upto y (rowUp F (startTo F)) l → y ≤ F .h → F .h ≤ y → m ≡ start F
-unfolding start startTo
-start-end F y l m ok n e h g = rows-end F (startTo F) y l m ok e h g ∙ stored (spans F) (startAt F) l n
+module _ (F : Field) (f : ℕ → List ℕ → List ℕ) (c : ℕ) where
+  pub cells-go : (j : ℕ) (l m n : List ℕ) → m ≡ cellsUp F f c j l → n ≡ overCell F f (c + j) m → n ≡ cellsUp F f c (j + 1) l
+  unfolding cellsUp
+  cells-go j l m n e g = upto-go (λ i. overCell F f (c + i)) j l m n e g
 
-pub blur-end : (F : Field) (y : ℕ) (l k m : List ℕ) → Celled F → length k ≡ spans F → m ≡ upto y (rowUp F (blurTo F l)) k → y ≤ F .h → F .h ≤ y → m ≡ blur F l
+  pub cells-end : (k j : ℕ) (l m : List ℕ) → m ≡ cellsUp F f c j l → j ≤ k → k ≤ j → m ≡ cellsUp F f c k l
+  unfolding cellsUp
+  cells-end k j l m e h g = upto-end (λ i. overCell F f (c + i)) k j l m e h g
+
+  pub cells-none : (k : ℕ) (r : Bool) (l : List ℕ) → r ≡ emptyBlock (F .count) c k → r ≡ true → l ≡ cellsUp F f c k l
+  unfolding cellsUp
+  cells-none k r l e t = upto-still k (λ i. overCell F f (c + i)) l (λ i x h. still-cell F f (c + i) x (block-none (F .count) c k r e t i h))
+
+  pub cells-block : (k : ℕ) (l m n : List ℕ) → m ≡ upto c (overCell F f) l → n ≡ cellsUp F f c k m → n ≡ upto (c + k) (overCell F f) l
+  unfolding cellsUp
+  cells-block k l m n e g = g ∙ ap (upto k (λ i. overCell F f (c + i))) e ∙ sym (upto-join c k (overCell F f) l)
+
+-- ---------------------------------------------------------------- the cell of each span
+
+pub note-go : (w h : ℕ) (is ks ar cs : List ℕ) (c i k j : ℕ) (l m : List ℕ) → Reached (lent w h is ks ar cs) → i ≡ getD is c 0 → k ≡ getD ks c 0 → j < k
+    → m ≡ upto j (λ t. noteCell (lent w h is ks ar cs) (i + t)) l → set m (i + j) c ≡ upto (j + 1) (λ t. noteCell (lent w h is ks ar cs) (i + t)) l
+unfolding noteCell
+note-go w h is ks ar cs c i k j l m ok p q g e =
+    upto-go (λ t. noteCell (lent w h is ks ar cs) (i + t)) j l m (set m (i + j) c) e
+    (ap (set m (i + j)) (sym (stands-at (lent w h is ks ar cs) (ok .celled) c i k j p q g .cell)))
+
+pub note-in : (w h : ℕ) (is ks ar cs : List ℕ) (c i k j : ℕ) (m : List ℕ) → Reached (lent w h is ks ar cs) → i ≡ getD is c 0 → k ≡ getD ks c 0 → j < k
+    → length m ≡ length ar → i + j < length m
+note-in w h is ks ar cs c i k j m ok p q g n = omega (arith, stands-at (lent w h is ks ar cs) (ok .celled) c i k j p q g .span)
+
+pub spread-end : (F : Field) (c n : ℕ) (l m : List ℕ) → Reached F → length l ≡ spans F → n ≡ F .w * F .h → m ≡ upto c (overCell F (noteCell F)) l → c ≤ n → n ≤ c → m ≡ cellsOf F
+unfolding cellsOf noteCell
+spread-end F c n l m ok e d a h g =
+    upto-end (overCell F (noteCell F)) (F .w * F .h) c l m a (omega arith) (omega arith)
+    ∙ sym (spans-upto F (ok .celled .cells) (ok .celled .counted) (noteCell F) l) ∙ stored (spans F) (cellOf (F .count)) l e
+
+-- the cell of span s, as a walk over spans reads it
+pub cell-stands : (F : Field) (cells : List ℕ) (s n x : ℕ) → cells ≡ cellsOf F → s < n → n ≡ spans F → x ≡ getD cells s 0 → Stands F x s
+unfolding cellsOf
+cell-stands F cells s n x e l q g =
+    let z : 0 + s ≡ s = omega arith in
+    let h : s < spans F = omega arith in
+    record { span = h; cell = sym (g ∙ ap (λ (l : List ℕ). getD l s 0) e ∙ tab-at (spans F) 0 (cellOf (F .count)) s 0 h ∙ ap (cellOf (F .count)) z) }
+
+-- the last of s spans, which a loop downward comes to next
+pub last-stands : (F : Field) (cells : List ℕ) (s x : ℕ) → cells ≡ cellsOf F → 0 < s → s ≤ spans F → x ≡ getD cells (s - 1) 0 → Stands F x (s - 1)
+last-stands F cells s x e l h g = cell-stands F cells (s - 1) (spans F) x e (omega arith) refl g
+
+pub cells-sized : (F : Field) (cells : List ℕ) → cells ≡ cellsOf F → length cells ≡ spans F
+unfolding cellsOf
+cells-sized F cells e = rw e (length-tab (spans F) 0 (cellOf (F .count)))
+
+-- ---------------------------------------------------------------- the ends
+
+pub pass1-row-end : (F : Field) (y x : ℕ) (l m : List ℕ) → m ≡ upto x (column F (fromStart F) y) l → x ≤ F .w → F .w ≤ x → m ≡ pass1Row F y l
+unfolding pass1Row
+pass1-row-end F y x l m e h g = row-end F (fromStart F) y x l m e h g
+
+pub blur-row-end : (F : Field) (r : List ℕ) (y x : ℕ) (l m : List ℕ) → m ≡ upto x (column F (blurTo F r) y) l → x ≤ F .w → F .w ≤ x → m ≡ blurRow F r y l
+unfolding blurRow
+blur-row-end F r y x l m e h g = row-end F (blurTo F r) y x l m e h g
+
+pub pass1-end : (F : Field) (s d : ℕ) (l m : List ℕ) → Reached F → length l ≡ spans F → m ≡ upto s (fromStart F) l → s ≤ spans F → d ≡ spans F → d ≤ s → m ≡ pass1 F (start F)
+pass1-end F s d l m ok n e h q f =
+    let g : spans F ≤ s = omega arith in
+    upto-end (fromStart F) (spans F) s l m e h g ∙ pass1-from-start F (earlier F ok) l n
+
+pub blur-end : (F : Field) (s d : ℕ) (l k m : List ℕ) → k ≡ cellsOf F → m ≡ upto s (blurTo F l) k → s ≤ spans F → d ≡ spans F → d ≤ s → m ≡ blur F l
 unfolding blur blurTo
-blur-end F y l k m ok n e h g = rows-end F (blurTo F l) y k m ok e h g ∙ stored (spans F) (blurAt F l) k n
+blur-end F s d l k m n e h q f =
+    let g : spans F ≤ s = omega arith in
+    upto-end (blurTo F l) (spans F) s k m e h g ∙ stored (spans F) (blurAt F l) k (cells-sized F k n)
 
-pub pass1-end : (F : Field) (y : ℕ) (l m : List ℕ) → Celled F → m ≡ upto y (rowUp F (lower F 0 3 3 2)) l → y ≤ F .h → F .h ≤ y → m ≡ pass1 F l
-unfolding pass1
-pass1-end F y l m ok e h g = rows-end F (lower F 0 3 3 2) y l m ok e h g
+-- the cells that the blur has not come to
+blur-kept : (F : Field) (l k : List ℕ) (s t : ℕ) → s ≤ t → getD (upto s (blurTo F l) k) t 0 ≡ getD k t 0
+unfolding blurTo
+blur-kept F l k s t h = upto-ind (λ _ x. getD x t 0 ≡ getD k t 0) (blurTo F l) k s refl (λ i x g e. getD-set-other x i t (blurAt F l i) 0 (λ z. omega arith) ∙ e)
+
+pub blur-stands : (F : Field) (l k m : List ℕ) (s n x : ℕ) → k ≡ cellsOf F → m ≡ upto s (blurTo F l) k → s < n → n ≡ spans F → x ≡ getD m s 0 → Stands F x s
+blur-stands F l k m s n x q e h d g = cell-stands F k s n x q h d (g ∙ ap (λ (y : List ℕ). getD y s 0) e ∙ blur-kept F l k s s (omega arith))
 
 -- a cell of row y
-pub cell-in : (w h y x : ℕ) → y < h → x < w → w * y + x < w * h
+cell-in : (w h y x : ℕ) → y < h → x < w → w * y + x < w * h
 cell-in w h y x g l =
     let z : y * w + x < h * w = digits-lt g l in
     omega (arith, mul-comm y w, mul-comm h w)
@@ -158,37 +182,72 @@ module _ (w h : ℕ) (is ks ar cs : List ℕ) (y : ℕ) (ok : Reached (lent w h 
   pub row-fits : Fits w64 (w * y)
   row-fits = omega (arith, row-small)
 
-  -- column x, with the row's first cell found before the loop
-  module _ (a x : ℕ) (e : a ≡ w * y) (l : x < w) where
-    pub column-fits : Fits w64 (a + x)
+  -- column x
+  module _ (x : ℕ) (l : x < w) where
+    pub column-fits : Fits w64 (w * y + x)
     column-fits = omega (arith, row-small, ok .celled .narrow)
 
-    pub column-in : a + x < length ks
+    pub column-in : w * y + x < length ks
     column-in = omega (arith, cell-in w h y x g l, ok .celled .counted)
 
-  -- the last of x columns, which a loop downward comes to next
-  module _ (a x : ℕ) (e : a ≡ w * y) (l : x ≤ w) (m : 0 < x) where
-    pub last-fits : Fits w64 (a + (x - 1))
-    last-fits = column-fits a (x - 1) e (omega arith)
+    pub column-indexed : w * y + x < length is
+    column-indexed = omega (arith, cell-in w h y x g l, ok .celled .indexed)
 
-    pub last-in : a + (x - 1) < length ks
-    last-in = column-in a (x - 1) e (omega arith)
+  -- k columns from x on
+  module _ (x k : ℕ) (l : x + k ≤ w) where
+    pub block-fits : Fits w64 (w * y + x)
+    block-fits = omega (arith, row-small, ok .celled .narrow)
+
+    pub block-in : w * y + x + k ≤ length ks
+    block-in =
+        let e : w * (y + 1) ≤ w * h = mul-le-mul-left w (omega arith) in
+        let z : w * (y + 1) ≡ w * y + w = rw add-one (mul-suc w y) in
+        omega (arith, ok .celled .counted)
+
+    -- with the place of the first found before the loop
+    module _ (a j : ℕ) (e : a ≡ w * y + x) where
+      pub place-in : j < k → a + j < length ks
+      place-in h = omega (arith, block-in)
+
+      pub place-fits : j < k → Fits w64 (a + j)
+      place-fits h = omega (arith, row-small, ok .celled .narrow)
+
+      pub last-in : j ≤ k → 0 < j → a + (j - 1) < length ks
+      last-in h m = omega (arith, block-in)
+
+      pub last-fits : j ≤ k → 0 < j → Fits w64 (a + (j - 1))
+      last-fits h m = omega (arith, row-small, ok .celled .narrow)
 
 -- the same downward: x columns, or y rows, are to go
 module _ (F : Field) (f : ℕ → List ℕ → List ℕ) where
-  pub row-down : (y x a : ℕ) (z m n : List ℕ) → 0 < x → a ≡ F .w * y → z ≡ downto x (column F f y) m → n ≡ overCell F f (a + (x - 1)) m
-      → z ≡ downto (x - 1) (column F f y) n
-  unfolding column
-  row-down y x a z m n h e p q = down-go (column F f y) x z m n h p (rw (← e) q)
+  pub columns-down : (y x a j : ℕ) (l m n : List ℕ) (k : ℕ) → 0 < j → a ≡ F .w * y + x → columnsDown F f y x k l ≡ columnsDown F f y x j m
+      → n ≡ overCell F f (a + (j - 1)) m → columnsDown F f y x k l ≡ columnsDown F f y x (j - 1) n
+  unfolding columnsDown column
+  columns-down y x a j l m n k h p e g =
+      down-go (λ i. column F f y (x + i)) j (columnsDown F f y x k l) m n h e (let q : F .w * y + (x + (j - 1)) ≡ a + (j - 1) = omega arith in rw q g)
 
-  pub row-bottom : (y x : ℕ) (l m : List ℕ) → x ≤ 0 → downto (F .w) (column F f y) l ≡ downto x (column F f y) m → m ≡ rowDown F f y l
+  pub columns-bottom : (y x j k : ℕ) (l m : List ℕ) → j ≤ 0 → columnsDown F f y x k l ≡ columnsDown F f y x j m → m ≡ columnsDown F f y x k l
+  unfolding columnsDown
+  columns-bottom y x j k l m h e = down-end (λ i. column F f y (x + i)) j (columnsDown F f y x k l) m h e
+
+  pub block-down : (y x k : ℕ) (z m n : List ℕ) → k ≡ min x 16 → z ≡ downto x (column F f y) m → n ≡ columnsDown F f y (x - k) k m → z ≡ downto (x - k) (column F f y) n
+  unfolding columnsDown
+  block-down y x k z m n b e g =
+      let q : x ≡ x - k + k = omega arith in
+      e ∙ ap (λ (i : ℕ). downto i (column F f y) m) q ∙ downto-join (x - k) k (column F f y) m ∙ ap (downto (x - k) (column F f y)) (sym g)
+
+  row-bottom : (y x : ℕ) (l m : List ℕ) → x ≤ 0 → downto (F .w) (column F f y) l ≡ downto x (column F f y) m → m ≡ rowDown F f y l
   unfolding rowDown
   row-bottom y x l m h e = down-end (column F f y) x (downto (F .w) (column F f y) l) m h e
 
-pub pass2-end : (F : Field) (y : ℕ) (l m : List ℕ) → y ≤ 0
-    → downto (F .h) (rowDown F (lower F 2 1 1 0)) l ≡ downto y (rowDown F (lower F 2 1 1 0)) m → m ≡ pass2 F l
-pass2-end F y l m h e = down-end (rowDown F (lower F 2 1 1 0)) y (downto (F .h) (rowDown F (lower F 2 1 1 0)) l) m h e ∙ sym (pass2-rows F l)
+pub pass2-row-end : (F : Field) (y x : ℕ) (l m : List ℕ) → x ≤ 0 → downto (F .w) (column F (lower F 2 1 1 0) y) l ≡ downto x (column F (lower F 2 1 1 0) y) m → m ≡ pass2Row F y l
+unfolding pass2Row
+pass2-row-end F y x l m h e = row-bottom F (lower F 2 1 1 0) y x l m h e
 
-pub raw-end : (F : Field) (l m n : List ℕ) → l ≡ start F → m ≡ pass1 F l → n ≡ pass2 F m → n ≡ raw F
+pub pass2-end : (F : Field) (s : ℕ) (l m : List ℕ) → Reached F → s ≤ 0 → downto (spans F) (lower F 2 1 1 0) l ≡ downto s (lower F 2 1 1 0) m → m ≡ pass2 F l
+pass2-end F s l m ok h e =
+    down-end (lower F 2 1 1 0) s (downto (spans F) (lower F 2 1 1 0) l) m h e ∙ pass2-from-last F (ok .celled .cells) (apart F ok) (ok .celled .counted) l
+
+pub raw-end : (F : Field) (m n : List ℕ) → m ≡ pass1 F (start F) → n ≡ pass2 F m → n ≡ raw F
 unfolding raw
-raw-end F l m n p q r = r ∙ ap (pass2 F) (q ∙ ap (pass1 F) p)
+raw-end F m n q r = r ∙ ap (pass2 F) q

@@ -1,9 +1,9 @@
 -- What a stage gives a span, and the bounds that keep every sum within 65,535.
-use Prim.Native.Nat.{ℕ, _+_, _*_, _%_, _≤_, _<_, min}
+use Prim.Native.Nat.{ℕ, _+_, _*_, _-_, _%_, _≤_, _<_, min}
 use mathlib.Core.Path.{_≡_}
 use mathlib.Core.List.{List}
 use lib.ListN.{length}
-use Rattle.rules.specs.Field.{Field, spans, near, cellOf, conOf}
+use Rattle.rules.specs.Field.{Field, spans, near, cellOf}
 use Rattle.rules.specs.Distance.{far}
 use Rattle.field.specs.Lent.{Spot, Leaf}
 
@@ -11,15 +11,28 @@ use Rattle.field.specs.Lent.{Spot, Leaf}
 unfoldable pub side : Field → List ℕ → ℕ → ℕ → ℕ → ℕ
 side F l s a b = min (far l (near F s a) + 2) (far l (near F (near F s a) b) + 3)
 
+-- the least of v and of what a pass makes of it that looks at two sides
+unfoldable pub leastFrom : Field → ℕ → ℕ → ℕ → ℕ → ℕ → ℕ → List ℕ → ℕ
+leastFrom F v a b c e s l = min v (min (side F l s a b) (side F l s c e))
+
 -- a span's value after a pass that looks at two sides
 unfoldable pub least : Field → ℕ → ℕ → ℕ → ℕ → ℕ → List ℕ → ℕ
-least F a b c e s l = min (far l s) (min (side F l s a b) (side F l s c e))
+least F a b c e s l = leastFrom F (far l s) a b c e s l
 
--- pass 1 has gone through the cells before c: their spans hold at most twice their column, and a span with no neighbour 0 holds 0
-pub record Passing (F : Field) (c : ℕ) (l : List ℕ) : Type 0 where
+-- the spans of the cells before c hold at most 510
+pub record LowBefore (F : Field) (c : ℕ) (l : List ℕ) : Type 0 where
   pub size : length l ≡ spans F
-  pub low : (t : ℕ) → t < spans F → cellOf (F .count) t < c → far l t ≤ 2 * (cellOf (F .count) t % F .w)
-  pub edge : (t : ℕ) → t < spans F → conOf F t 0 ≡ 255 → far l t ≡ 0
+  pub low : (t : ℕ) → t < spans F → cellOf (F .count) t < c → far l t ≤ 510
+
+-- pass 1 has gone through the rows before y, and through the columns before x of row y, whose spans hold at most twice their column
+pub record Passing (F : Field) (y x : ℕ) (l : List ℕ) : Type 0 where
+  pub rows : LowBefore F (F .w * y) l
+  pub row : (t : ℕ) → t < spans F → F .w * y ≤ cellOf (F .count) t → cellOf (F .count) t < F .w * y + x → far l t ≤ 2 * (cellOf (F .count) t - F .w * y)
+
+-- pass 1 has gone through the spans before s, which hold at most twice their column
+pub record PassedTo (F : Field) (s : ℕ) (l : List ℕ) : Type 0 where
+  pub size : length l ≡ spans F
+  pub low : (t : ℕ) → t < s → far l t ≤ 2 * (cellOf (F .count) t % F .w)
 
 -- every value is at most 510, as after pass 1
 pub record Low (F : Field) (l : List ℕ) : Type 0 where

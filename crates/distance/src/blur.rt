@@ -1,4 +1,6 @@
 // The greatest value, and the box blur.
+use field::block::block_of;
+use field::block::is_empty;
 use field::place::NO_LAYER;
 use field::place::Place;
 use field::place::SpanIx;
@@ -8,12 +10,13 @@ use field::read::at8;
 use field::read::at16;
 use field::read::at32;
 ghost use mathlib.Core.Path.{_≡_};
-ghost use Prim.Native.Nat.{_<_, _≤_, max};
+ghost use Prim.Native.Nat.{_+_, _<_, _≤_, max};
 ghost use lib.ListN.{length};
 ghost use Rattle.rules.specs.Field.{Field};
 ghost use Rattle.rules.specs.Distance as rules;
 ghost use Rattle.field.specs.Lent.{lent, Reached, Spot, consAt};
-ghost use Rattle.rules.specs.Rows.{overCell, rowUp, blurTo};
+ghost use Rattle.rules.specs.Rows.{overCell, blurTo, blurRow};
+ghost use Rattle.distance.specs.Walk.{columnsUp, cellsOf};
 ghost use Rattle.distance.specs.Value.{Sized};
 
 // A raw value of at most this stays.
@@ -118,8 +121,58 @@ fn blur_cell(
     }
 }
 
-// Row y.
-pub(crate) fn blur_row(
+// The k columns of row y from x on.
+fn blur_columns(
+    w: usize,
+    h: usize,
+    index: &[u32],
+    count: &[u8],
+    area: &[u8],
+    con: &[u8],
+    raw: &[u16],
+    blurred: &mut [u16],
+    x: usize,
+    k: usize,
+    y: usize,
+)
+    requires { ⌜ (let F = lent w h (now index) (now count) (now area) (now con) in
+        Reached F × (length (now raw) ≡ length (now area)) × (length (now blurred) ≡ length (now area)) × (x + k ≤ w) × (y < h)) ⌝ }
+    ensures { λ _. ⌜ (let F = lent w h (now (index .entry)) (now (count .entry)) (now (area .entry)) (now (con .entry)) in
+        now (blurred .exit) ≡ columnsUp F (blurTo F (now (raw .entry))) y x k (now (blurred .entry))) ⌝ }
+{
+    let first = w * y + x;
+    for j in 0..k {
+        blur_cell(w, h, index, count, area, con, raw, blurred, first + j);
+    }
+}
+
+// The same, a block without spans at once.
+fn blur_block(
+    w: usize,
+    h: usize,
+    index: &[u32],
+    count: &[u8],
+    area: &[u8],
+    con: &[u8],
+    raw: &[u16],
+    blurred: &mut [u16],
+    x: usize,
+    k: usize,
+    y: usize,
+)
+    requires { ⌜ (let F = lent w h (now index) (now count) (now area) (now con) in
+        Reached F × (length (now raw) ≡ length (now area)) × (length (now blurred) ≡ length (now area)) × (x + k ≤ w) × (y < h)) ⌝ }
+    ensures { λ _. ⌜ (let F = lent w h (now (index .entry)) (now (count .entry)) (now (area .entry)) (now (con .entry)) in
+        now (blurred .exit) ≡ columnsUp F (blurTo F (now (raw .entry))) y x k (now (blurred .entry))) ⌝ }
+{
+    if is_empty(count, w * y + x, k) {
+        return;
+    }
+    blur_columns(w, h, index, count, area, con, raw, blurred, x, k, y);
+}
+
+// Row y, block by block.
+pub fn blur_row(
     w: usize,
     h: usize,
     index: &[u32],
@@ -133,15 +186,17 @@ pub(crate) fn blur_row(
     requires { ⌜ (let F = lent w h (now index) (now count) (now area) (now con) in
         Reached F × (length (now raw) ≡ length (now area)) × (length (now blurred) ≡ length (now area)) × (y < h)) ⌝ }
     ensures { λ _. ⌜ (let F = lent w h (now (index .entry)) (now (count .entry)) (now (area .entry)) (now (con .entry)) in
-        now (blurred .exit) ≡ rowUp F (blurTo F (now (raw .entry))) y (now (blurred .entry))) ⌝ }
+        now (blurred .exit) ≡ blurRow F (now (raw .entry)) y (now (blurred .entry))) ⌝ }
 {
-    let first = w * y;
-    for x in 0..w {
-        blur_cell(w, h, index, count, area, con, raw, blurred, first + x);
+    let mut x: usize = 0;
+    while x < w {
+        let k = block_of(w - x);
+        blur_block(w, h, index, count, area, con, raw, blurred, x, k, y);
+        x += k;
     }
 }
 
-// Every row.
+// All spans; before it the list of the blurred values has the cell of each.
 pub fn box_blur(
     w: usize,
     h: usize,
@@ -153,11 +208,15 @@ pub fn box_blur(
     blurred: &mut [u16],
 )
     requires { ⌜ (let F = lent w h (now index) (now count) (now area) (now con) in
-        Reached F × (length (now raw) ≡ length (now area)) × (length (now blurred) ≡ length (now area))) ⌝ }
+        Reached F × (length (now raw) ≡ length (now area)) × (now blurred ≡ cellsOf F)) ⌝ }
     ensures { λ _. ⌜ (let F = lent w h (now (index .entry)) (now (count .entry)) (now (area .entry)) (now (con .entry)) in
         now (blurred .exit) ≡ rules.blur F (now (raw .entry))) ⌝ }
 {
-    for y in 0..h {
-        blur_row(w, h, index, count, area, con, raw, blurred, y);
+    for s in 0..area.len() {
+        let p = Place {
+            cell: at16(blurred, s),
+            span: SpanIx(s),
+        };
+        blurred[s] = blur_span(w, index, con, raw, p);
     }
 }

@@ -1,19 +1,25 @@
-// The two passes: each span takes the least of itself and of what its neighbours on two sides hold, plus 2, or plus 3 at a corner.
+// The start and the two passes: each span takes the least of itself and of what its neighbours on two sides hold, plus 2, or plus 3 at a corner.
+use crate::start::FARTHEST;
+use crate::start::start_span;
+use field::block::block_of;
+use field::block::is_empty;
 use field::place::NO_LAYER;
 use field::place::Place;
 use field::place::SpanIx;
 use field::place::connections;
 use field::place::follow;
 use field::read::at8;
+use field::read::at16;
 use field::read::at32;
 ghost use mathlib.Core.Path.{_≡_};
 ghost use Prim.Native.Nat.{_+_, _*_, _<_, _≤_, min};
 ghost use lib.ListN.{length, getD};
 ghost use Rattle.rules.specs.Field.{Field};
 ghost use Rattle.rules.specs.Distance as rules;
-ghost use Rattle.field.specs.Lent.{lent, Reached, Spot, consAt};
-ghost use Rattle.rules.specs.Rows.{overCell, rowUp, rowDown};
-ghost use Rattle.distance.specs.Value.{least, Passing, Low, Room};
+ghost use Rattle.field.specs.Lent.{lent, Reached, Stands, Spot, consAt};
+ghost use Rattle.rules.specs.Rows.{overCell, fromStart, pass1Row, pass2Row};
+ghost use Rattle.distance.specs.Value.{least, leastFrom, Passing, LowBefore, Low, Room};
+ghost use Rattle.distance.specs.Walk.{columnsUp, columnsDown, cellsOf};
 ghost use Rattle.distance.specs.Value as value;
 
 // The least of best and the value of span t plus n.
@@ -58,23 +64,11 @@ fn side(
     lower(raw, k.span.0, 3, b)
 }
 
-// What a pass gives the span at place p: it looks at neighbour a and its neighbour b, and at neighbour c and its neighbour e. A value of at
-// most 2 can't become less, since at least 2 is added to each.
-fn lowered(
-    w: usize,
-    index: &[u32],
-    con: &[u8],
-    raw: &[u16],
-    p: Place,
-    a: usize,
-    b: usize,
-    c: usize,
-    e: usize,
-) -> u16
-    requires { ⌜ (Room w (now index) (now con) (now raw) (p .cell) (p .span .0) a b × Room w (now index) (now con) (now raw) (p .cell) (p .span .0) c e
-        × (a < 4) × (b < 4) × (c < 4) × (e < 4)) ⌝ }
+// What pass 2 gives the span at place p. A value of at most 2 can't become less, since at least 2 is added to each other.
+fn lowered(w: usize, index: &[u32], con: &[u8], raw: &[u16], p: Place) -> u16
+    requires { ⌜ Room w (now index) (now con) (now raw) (p .cell) (p .span .0) 2 1 × Room w (now index) (now con) (now raw) (p .cell) (p .span .0) 1 0 ⌝ }
     ensures { λ r. ⌜ ((F : Field) → Spot F w (now (index .entry)) (now (con .entry)) (p .cell) (p .span .0)
-        → r ≡ least F a b c e (p .span .0) (now (raw .entry))) ⌝ }
+        → r ≡ least F 2 1 1 0 (p .span .0) (now (raw .entry))) ⌝ }
 {
     let s = p.span;
     let i = p.span.0;
@@ -83,11 +77,37 @@ fn lowered(
         return own;
     }
     let cons = connections(con, s);
-    let best = side(w, index, con, raw, cons, p, a, b, own);
-    side(w, index, con, raw, cons, p, c, e, best)
+    let best = side(w, index, con, raw, cons, p, 2, 1, own);
+    side(w, index, con, raw, cons, p, 1, 0, best)
 }
 
-// Pass 1 over the spans of cell c.
+// What pass 1 gives the span at place p, from where it starts: a span that starts above 0 starts above all that its neighbours make of it.
+fn from_start(
+    w: usize,
+    h: usize,
+    index: &[u32],
+    count: &[u8],
+    area: &[u8],
+    con: &[u8],
+    raw: &[u16],
+    p: Place,
+) -> u16
+    requires { ⌜ (let F = lent w h (now index) (now count) (now area) (now con) in
+        Reached F × Stands F (p .cell) (p .span .0)) ⌝ }
+    requires { ⌜ Room w (now index) (now con) (now raw) (p .cell) (p .span .0) 0 3 × Room w (now index) (now con) (now raw) (p .cell) (p .span .0) 3 2 ⌝ }
+    ensures { λ r. ⌜ (let F = lent w h (now (index .entry)) (now (count .entry)) (now (area .entry)) (now (con .entry)) in
+        r ≡ leastFrom F (rules.startAt F (p .span .0)) 0 3 3 2 (p .span .0) (now (raw .entry))) ⌝ }
+{
+    if start_span(w, index, con, area, p) == 0 {
+        return 0;
+    }
+    let s = p.span;
+    let cons = connections(con, s);
+    let best = side(w, index, con, raw, cons, p, 0, 3, FARTHEST);
+    side(w, index, con, raw, cons, p, 3, 2, best)
+}
+
+// The start and pass 1 over the spans of the cell in column x of row y.
 fn pass1_cell(
     w: usize,
     h: usize,
@@ -96,13 +116,15 @@ fn pass1_cell(
     area: &[u8],
     con: &[u8],
     raw: &mut [u16],
-    c: usize,
+    x: usize,
+    y: usize,
 )
     requires { ⌜ (let F = lent w h (now index) (now count) (now area) (now con) in
-        Reached F × (c < length (now count)) × Passing F c (now raw)) ⌝ }
+        Reached F × (x < w) × (y < h) × Passing F y x (now raw)) ⌝ }
     ensures { λ _. ⌜ (let F = lent w h (now (index .entry)) (now (count .entry)) (now (area .entry)) (now (con .entry)) in
-        (now (raw .exit) ≡ overCell F (rules.lower F 0 3 3 2) c (now (raw .entry))) × Passing F (c + 1) (now (raw .exit))) ⌝ }
+        (now (raw .exit) ≡ overCell F (fromStart F) (w * y + x) (now (raw .entry))) × Passing F y (x + 1) (now (raw .exit))) ⌝ }
 {
+    let c = w * y + x;
     let i = at32(index, c);
     let k = at8(count, c);
     for j in 0..k {
@@ -111,12 +133,59 @@ fn pass1_cell(
             cell: c,
             span: SpanIx(s),
         };
-        raw[s] = lowered(w, index, con, raw, p, 0, 3, 3, 2);
+        raw[s] = from_start(w, h, index, count, area, con, raw, p);
     }
 }
 
-// Pass 1 over row y, columns upward.
-pub(crate) fn pass1_row(
+// The same over the k columns from x on.
+fn pass1_columns(
+    w: usize,
+    h: usize,
+    index: &[u32],
+    count: &[u8],
+    area: &[u8],
+    con: &[u8],
+    raw: &mut [u16],
+    x: usize,
+    k: usize,
+    y: usize,
+)
+    requires { ⌜ (let F = lent w h (now index) (now count) (now area) (now con) in
+        Reached F × (x + k ≤ w) × (y < h) × Passing F y x (now raw)) ⌝ }
+    ensures { λ _. ⌜ (let F = lent w h (now (index .entry)) (now (count .entry)) (now (area .entry)) (now (con .entry)) in
+        (now (raw .exit) ≡ columnsUp F (fromStart F) y x k (now (raw .entry))) × Passing F y (x + k) (now (raw .exit))) ⌝ }
+{
+    for j in 0..k {
+        pass1_cell(w, h, index, count, area, con, raw, x + j, y);
+    }
+}
+
+// The same, a block without spans at once.
+fn pass1_block(
+    w: usize,
+    h: usize,
+    index: &[u32],
+    count: &[u8],
+    area: &[u8],
+    con: &[u8],
+    raw: &mut [u16],
+    x: usize,
+    k: usize,
+    y: usize,
+)
+    requires { ⌜ (let F = lent w h (now index) (now count) (now area) (now con) in
+        Reached F × (x + k ≤ w) × (y < h) × Passing F y x (now raw)) ⌝ }
+    ensures { λ _. ⌜ (let F = lent w h (now (index .entry)) (now (count .entry)) (now (area .entry)) (now (con .entry)) in
+        (now (raw .exit) ≡ columnsUp F (fromStart F) y x k (now (raw .entry))) × Passing F y (x + k) (now (raw .exit))) ⌝ }
+{
+    if is_empty(count, w * y + x, k) {
+        return;
+    }
+    pass1_columns(w, h, index, count, area, con, raw, x, k, y);
+}
+
+// The start and pass 1 over row y, columns upward, block by block: what row y and the rows after it held is not looked at.
+pub fn pass1_row(
     w: usize,
     h: usize,
     index: &[u32],
@@ -127,18 +196,20 @@ pub(crate) fn pass1_row(
     y: usize,
 )
     requires { ⌜ (let F = lent w h (now index) (now count) (now area) (now con) in
-        Reached F × (y < h) × Passing F (w * y) (now raw)) ⌝ }
+        Reached F × (y < h) × LowBefore F (w * y) (now raw)) ⌝ }
     ensures { λ _. ⌜ (let F = lent w h (now (index .entry)) (now (count .entry)) (now (area .entry)) (now (con .entry)) in
-        (now (raw .exit) ≡ rowUp F (rules.lower F 0 3 3 2) y (now (raw .entry))) × Passing F (w * (y + 1)) (now (raw .exit))) ⌝ }
+        (now (raw .exit) ≡ pass1Row F y (now (raw .entry))) × LowBefore F (w * (y + 1)) (now (raw .exit))) ⌝ }
 {
-    let first = w * y;
-    for x in 0..w {
-        pass1_cell(w, h, index, count, area, con, raw, first + x);
+    let mut x: usize = 0;
+    while x < w {
+        let k = block_of(w - x);
+        pass1_block(w, h, index, count, area, con, raw, x, k, y);
+        x += k;
     }
 }
 
-// Pass 1.
-pub(crate) fn pass1(
+// The start and pass 1 over all spans; cells has the cell of each.
+pub fn pass1(
     w: usize,
     h: usize,
     index: &[u32],
@@ -146,14 +217,19 @@ pub(crate) fn pass1(
     area: &[u8],
     con: &[u8],
     raw: &mut [u16],
+    cells: &[u16],
 )
     requires { ⌜ (let F = lent w h (now index) (now count) (now area) (now con) in
-        Reached F × Passing F 0 (now raw)) ⌝ }
+        Reached F × (length (now raw) ≡ length (now area)) × (now cells ≡ cellsOf F)) ⌝ }
     ensures { λ _. ⌜ (let F = lent w h (now (index .entry)) (now (count .entry)) (now (area .entry)) (now (con .entry)) in
-        (now (raw .exit) ≡ rules.pass1 F (now (raw .entry))) × Low F (now (raw .exit))) ⌝ }
+        (now (raw .exit) ≡ rules.pass1 F (rules.start F)) × Low F (now (raw .exit))) ⌝ }
 {
-    for y in 0..h {
-        pass1_row(w, h, index, count, area, con, raw, y);
+    for s in 0..area.len() {
+        let p = Place {
+            cell: at16(cells, s),
+            span: SpanIx(s),
+        };
+        raw[s] = from_start(w, h, index, count, area, con, raw, p);
     }
 }
 
@@ -181,12 +257,62 @@ fn pass2_cell(
             cell: c,
             span: SpanIx(s),
         };
-        raw[s] = lowered(w, index, con, raw, p, 2, 1, 1, 0);
+        raw[s] = lowered(w, index, con, raw, p);
     }
 }
 
-// Pass 2 over row y, columns downward.
-pub(crate) fn pass2_row(
+// The same over the k columns from x on, downward.
+fn pass2_columns(
+    w: usize,
+    h: usize,
+    index: &[u32],
+    count: &[u8],
+    area: &[u8],
+    con: &[u8],
+    raw: &mut [u16],
+    x: usize,
+    k: usize,
+    y: usize,
+)
+    requires { ⌜ (let F = lent w h (now index) (now count) (now area) (now con) in
+        Reached F × (x + k ≤ w) × (y < h) × Low F (now raw)) ⌝ }
+    ensures { λ _. ⌜ (let F = lent w h (now (index .entry)) (now (count .entry)) (now (area .entry)) (now (con .entry)) in
+        (now (raw .exit) ≡ columnsDown F (rules.lower F 2 1 1 0) y x k (now (raw .entry))) × Low F (now (raw .exit))) ⌝ }
+{
+    let first = w * y + x;
+    let mut j = k;
+    while 0 < j {
+        j -= 1;
+        pass2_cell(w, h, index, count, area, con, raw, first + j);
+    }
+}
+
+// The same, a block without spans at once.
+fn pass2_block(
+    w: usize,
+    h: usize,
+    index: &[u32],
+    count: &[u8],
+    area: &[u8],
+    con: &[u8],
+    raw: &mut [u16],
+    x: usize,
+    k: usize,
+    y: usize,
+)
+    requires { ⌜ (let F = lent w h (now index) (now count) (now area) (now con) in
+        Reached F × (x + k ≤ w) × (y < h) × Low F (now raw)) ⌝ }
+    ensures { λ _. ⌜ (let F = lent w h (now (index .entry)) (now (count .entry)) (now (area .entry)) (now (con .entry)) in
+        (now (raw .exit) ≡ columnsDown F (rules.lower F 2 1 1 0) y x k (now (raw .entry))) × Low F (now (raw .exit))) ⌝ }
+{
+    if is_empty(count, w * y + x, k) {
+        return;
+    }
+    pass2_columns(w, h, index, count, area, con, raw, x, k, y);
+}
+
+// Pass 2 over row y, columns downward, block by block.
+pub fn pass2_row(
     w: usize,
     h: usize,
     index: &[u32],
@@ -199,18 +325,18 @@ pub(crate) fn pass2_row(
     requires { ⌜ (let F = lent w h (now index) (now count) (now area) (now con) in
         Reached F × (y < h) × Low F (now raw)) ⌝ }
     ensures { λ _. ⌜ (let F = lent w h (now (index .entry)) (now (count .entry)) (now (area .entry)) (now (con .entry)) in
-        (now (raw .exit) ≡ rowDown F (rules.lower F 2 1 1 0) y (now (raw .entry))) × Low F (now (raw .exit))) ⌝ }
+        (now (raw .exit) ≡ pass2Row F y (now (raw .entry))) × Low F (now (raw .exit))) ⌝ }
 {
-    let first = w * y;
     let mut x = w;
     while 0 < x {
-        x -= 1;
-        pass2_cell(w, h, index, count, area, con, raw, first + x);
+        let k = block_of(x);
+        x -= k;
+        pass2_block(w, h, index, count, area, con, raw, x, k, y);
     }
 }
 
-// Pass 2.
-pub(crate) fn pass2(
+// Pass 2 over all spans from the last to the first; cells has the cell of each. A cell's layers do not read each other, so their order is free.
+pub fn pass2(
     w: usize,
     h: usize,
     index: &[u32],
@@ -218,15 +344,20 @@ pub(crate) fn pass2(
     area: &[u8],
     con: &[u8],
     raw: &mut [u16],
+    cells: &[u16],
 )
     requires { ⌜ (let F = lent w h (now index) (now count) (now area) (now con) in
-        Reached F × Low F (now raw)) ⌝ }
+        Reached F × Low F (now raw) × (now cells ≡ cellsOf F)) ⌝ }
     ensures { λ _. ⌜ (let F = lent w h (now (index .entry)) (now (count .entry)) (now (area .entry)) (now (con .entry)) in
-        (now (raw .exit) ≡ rules.pass2 F (now (raw .entry))) × Low F (now (raw .exit))) ⌝ }
+        now (raw .exit) ≡ rules.pass2 F (now (raw .entry))) ⌝ }
 {
-    let mut y = h;
-    while 0 < y {
-        y -= 1;
-        pass2_row(w, h, index, count, area, con, raw, y);
+    let mut s = area.len();
+    while 0 < s {
+        s -= 1;
+        let p = Place {
+            cell: at16(cells, s),
+            span: SpanIx(s),
+        };
+        raw[s] = lowered(w, index, con, raw, p);
     }
 }

@@ -1,22 +1,17 @@
 // The start: 65,535, and 0 for a span with fewer than four neighbours of its own area.
 use field::place::NO_LAYER;
 use field::place::Place;
-use field::place::SpanIx;
 use field::place::connections;
 use field::place::follow;
-use field::read::at8;
-use field::read::at32;
 ghost use mathlib.Core.Path.{_≡_};
-ghost use Prim.Native.Nat.{_*_, _<_, _≤_};
-ghost use lib.ListN.{length};
+ghost use Prim.Native.Nat.{_<_, _≤_};
 ghost use Rattle.rules.specs.Field.{Field};
 ghost use Rattle.rules.specs.Distance as rules;
-ghost use Rattle.field.specs.Lent.{lent, Reached, Spot, Leaf};
-ghost use Rattle.rules.specs.Rows.{overCell, rowUp, startTo};
+ghost use Rattle.field.specs.Lent.{Spot, Leaf};
 ghost use Rattle.distance.specs.Value.{Sized, SizedLeaf};
 
 // Where a span starts that has four neighbours of its own area.
-const FARTHEST: u16 = 65535;
+pub(crate) const FARTHEST: u16 = 65535;
 
 // 1 for a neighbour in direction d of the span's own area.
 fn same(w: usize, index: &[u32], area: &[u8], cons: [u8; 4], p: Place, d: usize) -> usize
@@ -38,7 +33,7 @@ fn same(w: usize, index: &[u32], area: &[u8], cons: [u8; 4], p: Place, d: usize)
 }
 
 // The start of the span at place p: the first neighbour that is missing or of another area decides.
-fn start_span(w: usize, index: &[u32], con: &[u8], area: &[u8], p: Place) -> u16
+pub(crate) fn start_span(w: usize, index: &[u32], con: &[u8], area: &[u8], p: Place) -> u16
     requires { ⌜ Sized w (now index) (now con) (now area) (p .cell) (p .span .0) ⌝ }
     ensures { λ r. ⌜ ((F : Field) → Spot F w (now (index .entry)) (now (con .entry)) (p .cell) (p .span .0) → F .area ≡ now (area .entry)
         → r ≡ rules.startAt F (p .span .0)) ⌝ }
@@ -58,70 +53,4 @@ fn start_span(w: usize, index: &[u32], con: &[u8], area: &[u8], p: Place) -> u16
         return 0;
     }
     FARTHEST
-}
-
-// The spans of cell c.
-fn start_cell(
-    w: usize,
-    h: usize,
-    index: &[u32],
-    count: &[u8],
-    area: &[u8],
-    con: &[u8],
-    raw: &mut [u16],
-    c: usize,
-)
-    requires { ⌜ Reached (lent w h (now index) (now count) (now area) (now con)) × (c < length (now count)) × (length (now raw) ≡ length (now area)) ⌝ }
-    ensures { λ _. ⌜ (let F = lent w h (now (index .entry)) (now (count .entry)) (now (area .entry)) (now (con .entry)) in
-        now (raw .exit) ≡ overCell F (startTo F) c (now (raw .entry))) ⌝ }
-{
-    let i = at32(index, c);
-    let k = at8(count, c);
-    for j in 0..k {
-        let s = i + j;
-        let p = Place {
-            cell: c,
-            span: SpanIx(s),
-        };
-        raw[s] = start_span(w, index, con, area, p);
-    }
-}
-
-// Row y.
-pub(crate) fn start_row(
-    w: usize,
-    h: usize,
-    index: &[u32],
-    count: &[u8],
-    area: &[u8],
-    con: &[u8],
-    raw: &mut [u16],
-    y: usize,
-)
-    requires { ⌜ Reached (lent w h (now index) (now count) (now area) (now con)) × (y < h) × (length (now raw) ≡ length (now area)) ⌝ }
-    ensures { λ _. ⌜ (let F = lent w h (now (index .entry)) (now (count .entry)) (now (area .entry)) (now (con .entry)) in
-        now (raw .exit) ≡ rowUp F (startTo F) y (now (raw .entry))) ⌝ }
-{
-    let first = w * y;
-    for x in 0..w {
-        start_cell(w, h, index, count, area, con, raw, first + x);
-    }
-}
-
-// Every row.
-pub(crate) fn start(
-    w: usize,
-    h: usize,
-    index: &[u32],
-    count: &[u8],
-    area: &[u8],
-    con: &[u8],
-    raw: &mut [u16],
-)
-    requires { ⌜ Reached (lent w h (now index) (now count) (now area) (now con)) × (length (now raw) ≡ length (now area)) ⌝ }
-    ensures { λ _. ⌜ now (raw .exit) ≡ rules.start (lent w h (now (index .entry)) (now (count .entry)) (now (area .entry)) (now (con .entry))) ⌝ }
-{
-    for y in 0..h {
-        start_row(w, h, index, count, area, con, raw, y);
-    }
 }

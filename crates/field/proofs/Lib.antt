@@ -1,3 +1,4 @@
 pub mod Loops
 pub mod Places
 pub mod Passed
+pub mod Blocks

@@ -1,5 +1,5 @@
 -- Loops that test or step through every number below a bound, as a port's code has them: a turn, a way out, the end.
--- The rules count down to the first step, the code counts up from it; a + k steps are a steps and the k that follow.
+-- The rules count down to the first step, the code counts up from it; a test of a + k numbers is one of a and one of the k that follow.
 use Prim.Native.Nat.{ℕ, zero, suc, _+_, _*_, _<_, _≤_}
 use native.Mathlib.Omega.{arith}
 use native.Mathlib.Nat.{le-trans, mul-le-mul-left, mul-zero, mul-suc}
@@ -77,17 +77,6 @@ module _ {ℓ} {A : Type ℓ} (f : ℕ → A → A) where
 
   pub upto-end : (n i : ℕ) (s t : A) → t ≡ upto i f s → i ≤ n → n ≤ i → t ≡ upto n f s
   upto-end n i s t e h g = let q : n ≡ i = omega arith in rw q e
-
--- a + k steps are a steps and the k that follow
-pub upto-join {ℓ} : {A : Type ℓ} (a k : ℕ) (f : ℕ → A → A) (s : A) → upto (a + k) f s ≡ upto k (λ j. f (a + j)) (upto a f s)
-unfolding upto
-upto-join a zero f s = let e : a + 0 ≡ a = omega arith in rw e
-upto-join a (suc k) f s = let e : a + suc k ≡ suc (a + k) = omega arith in rw (e, upto-join a k f s)
-
-pub upto-ext {ℓ} : {A : Type ℓ} (n : ℕ) (f g : ℕ → A → A) (s : A) → ((i : ℕ) (x : A) → i < n → f i x ≡ g i x) → upto n f s ≡ upto n g s
-unfolding upto
-upto-ext zero f g s h = refl
-upto-ext (suc n) f g s h = rw (upto-ext n f g s (λ i x l. h i x (omega arith))) (h n (upto n g s) (omega arith))
 
 -- a product of two numbers of at most 256
 pub product-small : (w h : ℕ) → w ≤ 256 → h ≤ 256 → w * h ≤ 65536

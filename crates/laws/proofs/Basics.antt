@@ -112,6 +112,17 @@ pub upto-next {ℓ} : {A : Type ℓ} (n : ℕ) (f : ℕ → A → A) (a : A) →
 unfolding upto
 upto-next n f a = rw add-one
 
+-- a + k steps are a steps and the k that follow
+pub upto-join {ℓ} : {A : Type ℓ} (a k : ℕ) (f : ℕ → A → A) (s : A) → upto (a + k) f s ≡ upto k (λ j. f (a + j)) (upto a f s)
+unfolding upto
+upto-join a zero f s = let e : a + 0 ≡ a = omega arith in rw e
+upto-join a (suc k) f s = let e : a + suc k ≡ suc (a + k) = omega arith in rw (e, upto-join a k f s)
+
+pub upto-ext {ℓ} : {A : Type ℓ} (n : ℕ) (f g : ℕ → A → A) (s : A) → ((i : ℕ) (x : A) → i < n → f i x ≡ g i x) → upto n f s ≡ upto n g s
+unfolding upto
+upto-ext zero f g s h = refl
+upto-ext (suc n) f g s h = rw (upto-ext n f g s (λ i x l. h i x (omega arith))) (h n (upto n g s) (omega arith))
+
 pub every-at : (n : ℕ) (p : ℕ → Bool) → every n p ≡ true → (k : ℕ) → k < n → p k ≡ true
 unfolding every
 every-at zero p e k h = absurd (omega arith)

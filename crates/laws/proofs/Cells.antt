@@ -47,6 +47,18 @@ before [] c = 0
 before (k ∷ ks) zero = 0
 before (k ∷ ks) (suc c) = k + before ks c
 
+pub before-next : (ks : List ℕ) (c : ℕ) → before ks (suc c) ≡ before ks c + getD ks c 0
+unfolding before
+before-next [] c = refl
+before-next (k ∷ []) zero = omega arith
+before-next (k ∷ x ∷ ks) zero = omega arith
+before-next (k ∷ ks) (suc c) = omega (arith, before-next ks c)
+
+pub before-none : (ks : List ℕ) → before ks 0 ≡ 0
+unfolding before
+before-none [] = refl
+before-none (k ∷ ks) = refl
+
 pub cellOf-at : (ks : List ℕ) (c k : ℕ) → k < getD ks c 0 → cellOf ks (before ks c + k) ≡ c
 unfolding cellOf before
 cellOf-at [] c k h = omega arith

@@ -7,6 +7,7 @@ pub mod Lengths
 pub mod Cells
 pub mod Nets
 pub mod Passes
+pub mod Rows
 pub mod FloodArea
 pub mod FloodEnds
 pub mod Settles

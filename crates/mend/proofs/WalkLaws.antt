@@ -10,9 +10,9 @@ use mathlib.Core.List.{List}
 use lib.ListN.{length, getD, length-set}
 use Rattle.rules.specs.Base.{upto}
 use Rattle.rules.specs.Field.{Field}
-use Rattle.laws.proofs.Basics.{if-ind, upto-ind}
+use Rattle.laws.proofs.Basics.{if-ind, upto-ind, upto-join, upto-ext}
 use Rattle.field.specs.Lent.{lent, Celled}
-use Rattle.field.proofs.Loops.{upto-go, upto-join, upto-ext}
+use Rattle.field.proofs.Loops.{upto-go}
 use Rattle.field.proofs.Places.{firstOf, first-is, total-is}
 use Rattle.mend.specs.Walk.{State, state, ground, noted, step, walk, Ready}
 

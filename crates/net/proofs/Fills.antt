@@ -7,6 +7,7 @@ use native.Mathlib.Numerals.{add-one}
 use native.Mathlib.Decide.{ℕ-discrete}
 use mathlib.Core.Path.{_≡_, refl, sym, ap, _∙_}
 use mathlib.Core.Logic.{⊎-elim, _⊎_, inl}
+use mathlib.Core.Bool.{Bool, true}
 use mathlib.Core.List.{List, []}
 use lib.ListN.{length, getD, set, length-set}
 use borrow.Author.Tests.{eq-eqb}
@@ -15,18 +16,21 @@ use Rattle.rules.specs.Field.{Field, near, conOf}
 use Rattle.rules.specs.Field as field
 use Rattle.rules.specs.Net.{neighboursOf, netOf}
 use Rattle.rules.specs.Net as net
-use Rattle.rules.specs.Base.{if_then_else_}
-use Rattle.laws.proofs.Basics.{tab-at}
+use Rattle.rules.specs.Base.{if_then_else_, upto}
+use Rattle.laws.proofs.Basics.{tab-at, upto-ind}
 use Rattle.laws.proofs.Nets.{neighbours-length, near-net}
 use Rattle.laws.proofs.Cells.{near-none, passed}
 use Rattle.laws.proofs.Strides.{answered}
 use Rattle.field.specs.Lent.{Sound, Celled, Reached, Stands, Leaf, SomeLeaf, lent, consAt}
+use Rattle.field.specs.Blocks.{emptyBlock}
+use Rattle.field.proofs.Blocks.{block-none, upto-still}
+use Rattle.field.proofs.Loops.{upto-go, upto-end}
 use Rattle.field.proofs.Passed.{sound-reached}
 use Rattle.field.proofs.Places.{con-at, reaches, near-stands, firstOf, first-is, total-is}
 use Rattle.space.specs.Space.{sec, Frame}
 use Rattle.space.proofs.Laws.{length-sec, getD-sec, frame-none, frame-then, frame-set, frame-wider}
 use Rattle.net.specs.Table.{netAt, lastPlace, Closed, Mutual, Opens, Lent}
-use Rattle.net.specs.Fill.{leadAt, filledAt, filled}
+use Rattle.net.specs.Fill.{leadAt, filledAt, filled, filledCells}
 
 -- ---------------------------------------------------------------- one span
 
@@ -255,3 +259,39 @@ module _ (F : Field) (table from : ℕ) (ws₀ ws : List ℕ) (j : ℕ) (e : ws 
 -- the same, of a field as it is lent
 pub lent-leaf : (w h : ℕ) (is ks ar cs cons : List ℕ) (c s : ℕ) → Reached (lent w h is ks ar cs) → Stands (lent w h is ks ar cs) c s → cons ≡ consAt cs s → SomeLeaf w is cons c
 lent-leaf w h is ks ar cs cons c s ok st e = some-leaf (lent w h is ks ar cs) cons c s ok st e
+
+-- ---------------------------------------------------------------- the cells block by block
+
+module _ (F : Field) (table c : ℕ) where
+  -- the loop over k cells from c on
+  pub cells-go : (j : ℕ) (l m n : List ℕ) → m ≡ filledCells F table c j l → n ≡ filled F table (getD (F .index) (c + j) 0) (getD (F .count) (c + j) 0) m → n ≡ filledCells F table c (j + 1) l
+  unfolding filledCells
+  cells-go j l m n e g = upto-go (λ i. filled F table (getD (F .index) (c + i) 0) (getD (F .count) (c + i) 0)) j l m n e g
+
+  pub cells-end : (k j : ℕ) (l m : List ℕ) → m ≡ filledCells F table c j l → j ≤ k → k ≤ j → m ≡ filledCells F table c k l
+  unfolding filledCells
+  cells-end k j l m e h g = upto-end (λ i. filled F table (getD (F .index) (c + i) 0) (getD (F .count) (c + i) 0)) k j l m e h g
+
+  pub cells-none : (k : ℕ) (r : Bool) (l : List ℕ) → r ≡ emptyBlock (F .count) c k → r ≡ true → l ≡ filledCells F table c k l
+  unfolding filledCells filled
+  cells-none k r l e t = upto-still k _ l (λ i x h. rw (block-none (F .count) c k r e t i h))
+
+  length-cells : (k : ℕ) (l : List ℕ) → length (filledCells F table c k l) ≡ length l
+  unfolding filledCells
+  length-cells k l = upto-ind (λ _ x. length x ≡ length l) _ l k refl (λ i x h p. length-filled F table (getD (F .index) (c + i) 0) (getD (F .count) (c + i) 0) x ∙ p)
+
+  module _ (j : ℕ) (l m : List ℕ) (e : m ≡ filledCells F table c j l) where
+    pub cells-size : length m ≡ length l
+    cells-size = rw e (length-cells j l)
+
+    pub cells-room : (k : ℕ) → k ≤ length l → k ≤ length m
+    cells-room k h = omega (arith, cells-size)
+
+  -- k cells more
+  pub block-more : Celled F → (k : ℕ) (ws₀ ws ws′ : List ℕ) → ws ≡ filled F table 0 (firstOf (F .count) c) ws₀ → ws′ ≡ filledCells F table c k ws → ws′ ≡ filled F table 0 (firstOf (F .count) (c + k)) ws₀
+  unfolding filledCells upto
+  block-more ok zero ws₀ ws ws′ e g = let q : c + 0 ≡ c = omega arith in rw q (g ∙ e)
+  block-more ok (suc k) ws₀ ws ws′ e g =
+      let q : c + k + 1 ≡ c + suc k = omega arith in
+      let v = block-more ok k ws₀ ws (filledCells F table c k ws) e refl in
+      rw (← q) (cell-more F ok table (c + k) ws₀ (filledCells F table c k ws) ws′ v g)

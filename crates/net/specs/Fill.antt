@@ -3,7 +3,7 @@ use Prim.Native.Nat.{ℕ, zero, suc, _+_, _*_}
 use mathlib.Core.List.{List}
 use lib.ListN.{getD, set}
 use lib.Dec.{eqb}
-use Rattle.rules.specs.Base.{if_then_else_}
+use Rattle.rules.specs.Base.{if_then_else_, upto}
 use Rattle.rules.specs.Field.{Field, none, cellTo, near}
 
 -- where the connection in direction d leads, of a span in cell c that has the connections cons
@@ -20,3 +20,7 @@ filledAt F table s ws =
 unfoldable pub filled : Field → ℕ → ℕ → ℕ → List ℕ → List ℕ
 filled F table from zero ws = ws
 filled F table from (suc k) ws = filledAt F table (from + k) (filled F table from k ws)
+
+-- those of the k cells from c on
+unfoldable pub filledCells : Field → ℕ → ℕ → ℕ → List ℕ → List ℕ
+filledCells F table c k ws = upto k (λ j. filled F table (getD (F .index) (c + j) 0) (getD (F .count) (c + j) 0)) ws

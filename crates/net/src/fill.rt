@@ -1,4 +1,6 @@
-// The table filled from a field, by one walk over its cells.
+// The table filled from a field, by one walk over its cells, block by block.
+use field::block::block_of;
+use field::block::is_empty;
 use field::place::NO_LAYER;
 use field::place::SpanIx;
 use field::place::connections;
@@ -12,7 +14,7 @@ ghost use Rattle.rules.specs.Net.{netOf};
 ghost use Rattle.field.specs.Lent.{lent, Reached, Stands, SomeLeaf};
 ghost use Rattle.space.specs.Space.{Frame};
 ghost use Rattle.net.specs.Table.{netAt, lastPlace};
-ghost use Rattle.net.specs.Fill.{leadAt, filledAt, filled};
+ghost use Rattle.net.specs.Fill.{leadAt, filledAt, filled, filledCells};
 
 // What the table has where a span has no neighbour: NO_SPAN in 16 bits.
 const NO_NEIGHBOUR: u16 = 65535;
@@ -78,6 +80,53 @@ fn fill_cell(
     }
 }
 
+// Those of the k cells from c on.
+fn fill_cells(
+    w: usize,
+    h: usize,
+    index: &[u32],
+    count: &[u8],
+    area: &[u8],
+    con: &[u8],
+    ws: &mut [u16],
+    table: usize,
+    c: usize,
+    k: usize,
+)
+    requires { ⌜ Reached (lent w h (now index) (now count) (now area) (now con)) × (table ≤ lastPlace) ⌝ }
+    requires { ⌜ (c + k ≤ w * h) × (table + 4 * length (now area) ≤ length (now ws)) ⌝ }
+    ensures { λ _. ⌜ (let F = lent w h (now (index .entry)) (now (count .entry)) (now (area .entry)) (now (con .entry)) in
+        now (ws .exit) ≡ filledCells F table c k (now (ws .entry))) ⌝ }
+{
+    for j in 0..k {
+        fill_cell(w, h, index, count, area, con, ws, table, c + j);
+    }
+}
+
+// The same, a block without spans at once.
+fn fill_block(
+    w: usize,
+    h: usize,
+    index: &[u32],
+    count: &[u8],
+    area: &[u8],
+    con: &[u8],
+    ws: &mut [u16],
+    table: usize,
+    c: usize,
+    k: usize,
+)
+    requires { ⌜ Reached (lent w h (now index) (now count) (now area) (now con)) × (table ≤ lastPlace) ⌝ }
+    requires { ⌜ (c + k ≤ w * h) × (table + 4 * length (now area) ≤ length (now ws)) ⌝ }
+    ensures { λ _. ⌜ (let F = lent w h (now (index .entry)) (now (count .entry)) (now (area .entry)) (now (con .entry)) in
+        now (ws .exit) ≡ filledCells F table c k (now (ws .entry))) ⌝ }
+{
+    if is_empty(count, c, k) {
+        return;
+    }
+    fill_cells(w, h, index, count, area, con, ws, table, c, k);
+}
+
 // The neighbours of every span, from the table's place on.
 pub fn fill_neighbours(
     w: usize,
@@ -95,7 +144,11 @@ pub fn fill_neighbours(
         netAt table (now (area .entry)) (now (ws .exit)) ≡ netOf F) ⌝ }
     ensures { λ _. ⌜ Frame table (table + 4 * length (now (area .entry))) (now (ws .entry)) (now (ws .exit)) ⌝ }
 {
-    for c in 0..w * h {
-        fill_cell(w, h, index, count, area, con, ws, table, c);
+    let cells = w * h;
+    let mut c: usize = 0;
+    while c < cells {
+        let k = block_of(cells - c);
+        fill_block(w, h, index, count, area, con, ws, table, c, k);
+        c += k;
     }
 }

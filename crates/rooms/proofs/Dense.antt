@@ -4,13 +4,13 @@ use Prim.Native.Nat.{ℕ, zero, suc, _+_, _-_, _≤_, _<_}
 use native.Mathlib.Omega.{arith}
 use native.Mathlib.Decide.{ℕ-discrete, decLt}
 use mathlib.Core.Path.{_≡_, refl, sym, ap, _∙_}
-use mathlib.Core.Bool.{Bool, true, false, true≢false, false≢true}
+use mathlib.Core.Bool.{Bool, true, false, true≢false}
 use mathlib.Core.List.{List, [], _∷_, map}
-use lib.ListN.{length, getD, length-map, List·getD-map, List·getD-eq-default}
+use lib.ListN.{length, getD, length-map, List·getD-map}
 use lib.Dec.{eqb}
 use borrow.Author.Tests.{eq-eqb, leb-true, leb-false}
-use Rattle.rules.specs.Base.{_and_, _or_, if_then_else_, any}
-use Rattle.rules.specs.Field.{Field, spans, near}
+use Rattle.rules.specs.Base.{_and_, if_then_else_, any}
+use Rattle.rules.specs.Field.{Field}
 use Rattle.rules.specs.Growth.{flagged, plain, firstId}
 use Rattle.rules.specs.Records.{has}
 use Rattle.rules.specs.Merge.{place}

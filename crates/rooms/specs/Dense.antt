@@ -1,6 +1,6 @@
 -- The dense form by one number: ids in use are exactly first to max_region - 1 in the compared form, so what is left out lies below first.
 use Prim.Native.Nat.{ℕ, suc, _-_}
-use mathlib.Core.List.{List, map}
+use mathlib.Core.List.{map}
 use Rattle.rules.specs.Base.{if_then_else_}
 use Rattle.rules.specs.Growth.{flagged, firstId}
 use Rattle.rules.specs.Numbering.{Form, dense, compared, Regions}

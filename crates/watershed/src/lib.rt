@@ -50,7 +50,8 @@ pub fn build_distance_field(
     ) {
         Verdict::Refused(r) => DistanceAnswer::Refused(r),
         Verdict::Sound => {
-            calculate_distance_field(width, height, index, count, area, con, raw);
+            // Until the blur its list has the cell of each span.
+            calculate_distance_field(width, height, index, count, area, con, raw, blurred);
             box_blur(width, height, index, count, area, con, raw, blurred);
             DistanceAnswer::Done(greatest(raw))
         }

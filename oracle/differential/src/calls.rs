@@ -77,11 +77,24 @@ impl Call {
         }
     }
 
-    /// Calls the region entry. Gives the answer's sort, or what differs.
+    /// Calls the region entry in both forms: the compared one beside the Rust, the dense one beside what the oracle makes of it. Gives the
+    /// answer's sort, or what differs.
     pub fn compare_regions(&self) -> Result<String, String> {
+        let expected = self.regions();
+        let dense = expected.clone().map(run::Regions::dense);
+        self.compare_form(library::regions, dense)
+            .map_err(|what| format!("dense form: {what}"))?;
+        self.compare_form(library::regions_compared, expected)
+    }
+
+    fn compare_form(
+        &self,
+        entry: fn(&Field, &[u16], u16, Settings, &mut [u16], &mut [u16]) -> RegionAnswer,
+        expected: Result<run::Regions, Refusal>,
+    ) -> Result<String, String> {
         let (mut workspace, mut ids) = (Lent::new(self.workspace_len), Lent::new(self.ids_len));
         let (lent, lent_distances) = (self.field.clone(), self.distances.clone());
-        let answer = library::regions(
+        let answer = entry(
             &lent,
             &lent_distances,
             self.max_distance,
@@ -89,7 +102,6 @@ impl Call {
             workspace.lend(),
             ids.lend(),
         );
-        let expected = self.regions();
         let numbers = match &expected {
             Ok(done) => RegionAnswer {
                 refusal: 0,

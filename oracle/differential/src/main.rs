@@ -1,6 +1,7 @@
 //! Compares what is proved with the unchanged Rust, and with the models of document 02, on fields by seed. `oracle/compare` runs it.
 
 mod calls;
+mod doors;
 mod edited;
 mod faults;
 mod files;
@@ -24,6 +25,7 @@ struct Order {
     large: u64,
     edited: u64,
     edges: u64,
+    doors: u64,
     seed: u64,
 }
 
@@ -71,7 +73,11 @@ fn run() -> Result<bool, String> {
     if files.fields > 0 {
         print!("files mended by kind, and their answers:\n{files}");
     }
-    if [&small, &large, &winding, &stops, &edited, &files]
+    let doors = doors::compare(seed, order.doors);
+    if doors.fields > 0 {
+        print!("refreshes by kind, and their answers:\n{doors}");
+    }
+    if [&small, &large, &winding, &stops, &edited, &files, &doors]
         .iter()
         .any(|tally| tally.is_enough())
     {
@@ -82,13 +88,15 @@ fn run() -> Result<bool, String> {
         + winding.differences
         + stops.differences
         + edited.differences
-        + files.differences;
+        + files.differences
+        + doors.differences;
     println!(
-        "compared {} small, {} large, {} edited fields, {} files mended: {differences} differences",
+        "compared {} small, {} large, {} edited fields, {} files mended, {} fields with doors: {differences} differences",
         small.fields,
         large.fields + winding.fields + stops.fields,
         edited.fields,
-        files.fields
+        files.fields,
+        doors.fields
     );
     Ok(differences == 0)
 }
@@ -103,6 +111,7 @@ fn order() -> Result<Order, String> {
         large: 38,
         edited: 7_000,
         edges: 2,
+        doors: 3_000,
         seed: 0,
     };
     while let Some(option) = arguments.next() {
@@ -117,6 +126,7 @@ fn order() -> Result<Order, String> {
             "--large" => order.large = number,
             "--edited" => order.edited = number,
             "--edges" => order.edges = number,
+            "--doors" => order.doors = number,
             "--seed" => order.seed = number,
             _ => {
                 return Err(format!(

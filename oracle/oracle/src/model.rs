@@ -79,7 +79,7 @@ impl Model {
         distance::distances(self, &Spans::new(self, field))
     }
 
-    /// The region entry on a field, distances and a greatest distance that 1 to 8 let pass; or what stops growth.
+    /// The region entry, in the compared form, on a field, distances and a greatest distance that 1 to 8 let pass; or what stops growth.
     pub fn regions(
         self,
         field: &Field,
@@ -95,11 +95,17 @@ impl Model {
 
     /// What the program prints for a file.
     pub fn answer(self, file: &[u8]) -> String {
-        self.listing(file)
+        self.listing(file, merge::dense)
             .unwrap_or_else(|number| format!("refused {number}\n"))
     }
 
-    fn listing(self, file: &[u8]) -> Result<String, u8> {
+    /// The same in the compared form, in which every mistake is judged: the dense form hides some.
+    pub fn compared(self, file: &[u8]) -> String {
+        self.listing(file, |regions| regions)
+            .unwrap_or_else(|number| format!("refused {number}\n"))
+    }
+
+    fn listing(self, file: &[u8], form: fn(Regions) -> Regions) -> Result<String, u8> {
         let (field, settings) = file::read(self, file)?;
         refusals::field(self, &field)?;
         let Distances {
@@ -111,6 +117,7 @@ impl Model {
         let regions = self
             .regions(&field, &blurred, max_distance, settings)
             .map_err(|stop| stop as u8)?;
+        let regions = form(regions);
         Ok(file::listing(self, &field, max_distance, &regions))
     }
 }

@@ -44,7 +44,7 @@ pub fn distances(field: &Field) -> Result<Distances, Refusal> {
     })
 }
 
-/// The region entry, with a workspace that is long enough. The distances may be any that it takes, not only those of
+/// The region entry in the compared form, with a workspace that is long enough. The distances may be any that it takes, not only those of
 /// the distance entry.
 pub fn regions(
     field: &Field,
@@ -108,8 +108,34 @@ fn cut(modelled: &model::Regions, ids: &[u16]) -> usize {
     modelled.cut
 }
 
-/// Both entries in turn.
+impl Regions {
+    /// The dense form (request A4): ids in use become 1, 2, .. in the order of their numbers; flagged ids and 0 stay.
+    pub fn dense(mut self) -> Self {
+        let mut used: Vec<_> = (self.ids.iter().copied())
+            .filter(|&id| id != 0 && id & 0x8000 == 0)
+            .collect();
+        used.sort_unstable();
+        used.dedup();
+        for id in &mut self.ids {
+            if let Ok(place) = used.binary_search(id) {
+                *id = place as u16 + 1;
+            }
+        }
+        self.max_region = used.len() as u16;
+        self
+    }
+}
+
+/// Both entries in turn, in the dense form.
 pub fn both(field: &Field, settings: Settings) -> Result<(Distances, Regions), Refusal> {
+    both_compared(field, settings).map(|(distances, regions)| (distances, regions.dense()))
+}
+
+/// Both entries in turn, in the compared form.
+pub fn both_compared(
+    field: &Field,
+    settings: Settings,
+) -> Result<(Distances, Regions), Refusal> {
     let distances = distances(field)?;
     let regions = regions(field, &distances.blurred, distances.max_distance, settings)?;
     Ok((distances, regions))

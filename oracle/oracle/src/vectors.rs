@@ -79,9 +79,9 @@ pub fn answers(files: &[Vec<u8>]) -> String {
 pub fn count_caught(files: &[Vec<u8>]) -> Vec<(Mistake, usize)> {
     let mut counts: Vec<_> = Mistake::ALL.iter().map(|&mistake| (mistake, 0)).collect();
     for file in files {
-        let right = listing::answer(file, Limits::PROGRAM);
+        let right = Model::RIGHT.compared(file);
         for (mistake, count) in &mut counts {
-            *count += usize::from(Model::with(*mistake).answer(file) != right);
+            *count += usize::from(Model::with(*mistake).compared(file) != right);
         }
     }
     counts

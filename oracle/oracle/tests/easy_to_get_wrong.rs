@@ -39,10 +39,10 @@ fn flagged_corner_objects_and_a_failed_flood_takes_no_number() {
         con: con.concat(),
     };
     let text = "\
-max_distance 2 max_region 7 overlaps 0 cut 0
+max_distance 2 max_region 2 overlaps 0 cut 0
 - - -
-- 6/5 -
-32769 6 32770
+- 2/1 -
+32769 2 32770
 - 32772 -
 ";
     assert_eq!(answer_with_border(field), text);
@@ -70,10 +70,10 @@ fn flagged_neighbour_ends_the_looking() {
         con: con.concat(),
     };
     let text = "\
-max_distance 2 max_region 7 overlaps 0 cut 0
+max_distance 2 max_region 2 overlaps 0 cut 0
 - - 32771 - -
-32769 5/6 5 5 -
-- - 5 - -
+32769 1/2 1 1 -
+- - 1 - -
 - - - - -
 ";
     assert_eq!(answer_with_border(field), text);

@@ -1,4 +1,4 @@
-//! The figures of document 01, "Figures at the edges".
+//! The figures of document 01, "Figures at the edges", which are those of the compared form; and request A4's of the dense form.
 
 use oracle::{
     field::{Field, Settings},
@@ -17,7 +17,7 @@ fn border(border_size: u16) -> Settings {
 }
 
 fn both(field: &Field, settings: Settings) -> (Distances, Regions) {
-    run::both(field, settings).expect("the figures are of fields that are not refused")
+    run::both_compared(field, settings).expect("the figures are of fields that are not refused")
 }
 
 /// One cell of so many layers.
@@ -54,6 +54,24 @@ fn empty_field() {
                 cut: 0
             }
         );
+    }
+}
+
+/// Request A4: ids in use run from 1 to max_region, which is 0 where none is.
+#[test]
+fn dense_form() {
+    let most = |field: Field, settings| {
+        let (_, regions) = run::both(&field, settings).expect("a sound field");
+        let used = |&id: &u16| id != 0 && id < FLAG;
+        (
+            regions.ids.into_iter().find(used).unwrap_or(0),
+            regions.max_region,
+        )
+    };
+    assert_eq!(most(Field::open(3, 3), border(0)), (1, 1));
+    assert_eq!(most(Field::open(5, 5), border(1)), (1, 1));
+    for (size, settings) in [(0, border(0)), (0, border(1)), (1, border(0)), (1, border(1))] {
+        assert_eq!(most(Field::open(size, size), settings), (0, 0));
     }
 }
 

@@ -76,7 +76,7 @@ fn check_kinds(size: Size, seeds: u64, mut check: impl FnMut(&Case, &Regions, &s
         for seed in 0..seeds {
             let name = format!("{} {seed}", kind.name);
             let case = kind.make(size, seed);
-            let (_, regions) = run::both(&case.field, case.settings)
+            let (_, regions) = run::both_compared(&case.field, case.settings)
                 .unwrap_or_else(|refusal| panic!("{name}: {refusal}"));
             check(&case, &regions, &name);
         }

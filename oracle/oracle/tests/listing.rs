@@ -13,13 +13,13 @@ fn answer(field: Field, settings: Settings) -> String {
 
 #[test]
 fn example_of_document_01() {
-    let text = "max_distance 2 max_region 2 overlaps 0 cut 0\n1 1 1\n1 1 1\n1 1 1\n";
+    let text = "max_distance 2 max_region 1 overlaps 0 cut 0\n1 1 1\n1 1 1\n1 1 1\n";
     assert_eq!(answer(Field::open(3, 3), Settings::default()), text);
 }
 
 #[test]
 fn rows_without_cells_are_empty_lines() {
-    let numbers = "max_distance 0 max_region 1 overlaps 0 cut 0\n";
+    let numbers = "max_distance 0 max_region 0 overlaps 0 cut 0\n";
     assert_eq!(
         answer(Field::open(0, 3), Settings::default()),
         format!("{numbers}\n\n\n")
@@ -34,7 +34,7 @@ fn flagged_ids_are_decimal() {
         border_size: 1,
         ..Settings::default()
     };
-    let text = "max_distance 0 max_region 5 overlaps 0 cut 0\n32771 32771\n32772 32772\n";
+    let text = "max_distance 0 max_region 0 overlaps 0 cut 0\n32771 32771\n32772 32772\n";
     assert_eq!(answer(Field::open(2, 2), settings), text);
 }
 
@@ -75,6 +75,6 @@ fn two_floors() {
             .collect(),
         ..floor
     };
-    let text = "max_distance 2 max_region 3 overlaps 0 cut 0\n1/2 1/2 1/2\n1/2 1/2 1/2\n1/2 1/2 1/2\n";
+    let text = "max_distance 2 max_region 2 overlaps 0 cut 0\n1/2 1/2 1/2\n1/2 1/2 1/2\n1/2 1/2 1/2\n";
     assert_eq!(answer(field, Settings::default()), text);
 }

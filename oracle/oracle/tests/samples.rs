@@ -65,7 +65,7 @@ fn stories_are_true() {
     for (name, mistake) in stories {
         let sample = samples.iter().find(|sample| sample.name == name);
         let sample = sample.unwrap_or_else(|| panic!("no sample {name}"));
-        let mistaken = Model::with(mistake).answer(&sample.file);
-        assert_ne!(mistaken, sample.listing, "{name} {mistake:?}");
+        let mistaken = Model::with(mistake).compared(&sample.file);
+        assert_ne!(mistaken, Model::RIGHT.compared(&sample.file), "{name} {mistake:?}");
     }
 }

@@ -15,10 +15,10 @@ enum-told : tie.Need-enum-told
 enum-told c = search needs
 
 calculate-distance-field-requires : tie.Need-calculate-distance-field-requires
-calculate-distance-field-requires c κs = (search (needs, sound-reached), search (needs, sound-raw))
+calculate-distance-field-requires c κs = (search (needs, sound-reached), search (needs, sound-raw), search (needs, sound-blurred))
 
 box-blur-requires : tie.Need-box-blur-requires
-box-blur-requires c κs = (search (needs, sound-reached), raw-sized _ _ _ _ _ _ _ (c .before .before .before .before .calculate-distance-field .ensures), search (needs, sound-blurred))
+box-blur-requires c κs = (search (needs, sound-reached), raw-sized _ _ _ _ _ _ _ (c .before .before .before .before .before .before .calculate-distance-field .ensures .0), search needs)
 
 greatest-requires : tie.Need-greatest-requires
 greatest-requires c κs = search needs

@@ -84,7 +84,8 @@ fn region_answer(call: &RegionCall) -> String {
         field.spans(),
         call.workspace,
     )
-    .and_then(|()| run::regions(&field, call.distances, call.max_distance, settings));
+    .and_then(|()| run::regions(&field, call.distances, call.max_distance, settings))
+    .map(run::Regions::dense);
     let (line, ids, workspace) = match result {
         Ok(done) => (
             format!(

@@ -1,7 +1,7 @@
 //! Filter, merge and numbering.
 
 use super::{
-    Mistake, Model, Regions,
+    FLAG, Mistake, Model, Regions,
     growth::Grown,
     is_flagged, is_grown,
     records::{Built, Record},
@@ -57,6 +57,33 @@ pub fn finish(
         max_region,
         overlaps,
         cut: table.records.iter().filter(|record| record.cut).count(),
+    }
+}
+
+/// "From now on an id that no span bears takes no number" (request A4): each id in use becomes the number of ids in use
+/// up to it.
+pub fn dense(regions: Regions) -> Regions {
+    let mut in_use = vec![false; usize::from(FLAG)];
+    for &id in regions.ids.iter().filter(|&&id| is_grown(id)) {
+        in_use[usize::from(id)] = true;
+    }
+    let mut last = 0;
+    let mut numbers = vec![0; in_use.len()];
+    for (id, _) in in_use.iter().enumerate().filter(|(_, used)| **used) {
+        last += 1;
+        numbers[id] = last;
+    }
+    let number = |&id: &u16| {
+        if is_flagged(id) {
+            id
+        } else {
+            numbers[usize::from(id)]
+        }
+    };
+    Regions {
+        ids: regions.ids.iter().map(number).collect(),
+        max_region: last,
+        ..regions
     }
 }
 

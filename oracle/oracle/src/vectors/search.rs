@@ -77,18 +77,18 @@ pub fn extend(files: &mut Vec<Vec<u8>>) {
 /// The plan of a file that is not refused.
 fn plan_of(file: &[u8]) -> Option<Plan> {
     let case = file::read(file, Limits::PROGRAM).ok()?;
-    let is_refused = Model::RIGHT.answer(file).starts_with("refused");
+    let is_refused = Model::RIGHT.compared(file).starts_with("refused");
     (!is_refused).then(|| Plan::new(&case))
 }
 
 fn shows(file: &[u8], right: &str, mistake: Mistake) -> bool {
-    Model::with(mistake).answer(file) != right
+    Model::with(mistake).compared(file) != right
 }
 
 impl Search {
     /// The places of the mistakes that a file shows, of those that fewer than so many files have shown.
     fn look_at(&self, file: &[u8], wanted: usize) -> Vec<usize> {
-        let right = Model::RIGHT.answer(file);
+        let right = Model::RIGHT.compared(file);
         let is_seen = |&place: &usize| {
             let shown = &self.shown[place];
             shown.files < wanted && shows(file, &right, shown.mistake)
@@ -132,7 +132,7 @@ impl Search {
             let mut smaller = plan.clone();
             smaller.lessen(&mut self.rng);
             let file = file::write(&smaller.case());
-            let right = Model::RIGHT.answer(&file);
+            let right = Model::RIGHT.compared(&file);
             let shows_all = seen
                 .iter()
                 .all(|&place| shows(&file, &right, self.shown[place].mistake));

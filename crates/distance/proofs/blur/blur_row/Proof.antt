@@ -1,34 +1,34 @@
--- Invariant: the columns below x are blurred. The row's first cell is w·y, and w·y + x is in the grid.
+-- Invariant: the columns below x are blurred.
 -- Assumes nothing.
-use Prim.Native.Nat.{_≤_, _-_, _*_}
+use Prim.Native.Nat.{_≤_, _-_}
 use mathlib.Core.Path.{_≡_}
 use lib.ListN.{length}
 use Rattle.rules.specs.Base.{upto}
-use Rattle.field.specs.Lent.{lent}
 use Rattle.rules.specs.Rows.{column, blurTo}
-use Rattle.distance.proofs.Walks.{row-go, row-end, row-fits, column-fits, column-in}
+use Rattle.field.specs.Lent.{lent}
+use Rattle.distance.proofs.Walks.{block-go, blur-row-end}
 use borrow.Author.Needs.{needs}
 use Rattle.distance.proofs.blur.blur_row.Statement.{statement}
 use Rattle.distance.proofs.blur.blur_row.Tie as tie
 
 abbrev Inv-loop : tie.InvT-loop
-Inv-loop w h index count area con raw blurred₀ y first x₀ blurred x = (x ≤ w) × (first ≡ w * y) × (length blurred ≡ length area) × (blurred ≡ upto x (column (lent w h index count area con) (blurTo (lent w h index count area con) raw) y) blurred₀)
+Inv-loop w h index count area con raw blurred₀ y x₀ blurred x = (x ≤ w) × (length blurred ≡ length area) × (blurred ≡ upto x (column (lent w h index count area con) (blurTo (lent w h index count area con) raw) y) blurred₀)
 
 abbrev μ-loop : tie.MeasureT-loop
-μ-loop w h index count area con raw blurred₀ y first x₀ blurred x = w - x
-
-mul-first : tie.Need-mul-first Inv-loop μ-loop
-mul-first c = search (needs, row-fits)
+μ-loop w h index count area con raw blurred₀ y x₀ blurred x = w - x
 
 loop-holds : tie.Need-loop-holds Inv-loop μ-loop
 unfolding upto
 loop-holds c = search needs
 
-add-blur-cell : tie.Need-add-blur-cell Inv-loop μ-loop
-add-blur-cell c = search (needs, column-fits)
+sub-block-of : tie.Need-sub-block-of Inv-loop μ-loop
+sub-block-of c = search needs
 
-blur-cell-requires : tie.Need-blur-cell-requires Inv-loop μ-loop
-blur-cell-requires c κs = (search needs, search needs, search needs, search (needs, column-in))
+block-of-requires : tie.Need-block-of-requires Inv-loop μ-loop
+block-of-requires c κs = search needs
+
+blur-block-requires : tie.Need-blur-block-requires Inv-loop μ-loop
+blur-block-requires c κs = search needs
 
 add-x : tie.Need-add-x Inv-loop μ-loop
 add-x c = search needs
@@ -37,13 +37,13 @@ loop-less : tie.Need-loop-less Inv-loop μ-loop
 loop-less c = search needs
 
 loop-again : tie.Need-loop-again Inv-loop μ-loop
-loop-again c = (search needs, search needs, search needs, search (needs, row-go))
+loop-again c = (search needs, search needs, search (needs, block-go))
 
 same-length : tie.Need-same-length Inv-loop μ-loop
 same-length c = search needs
 
 returns : tie.Need-returns Inv-loop μ-loop
-returns c = search (needs, row-end)
+returns c = search (needs, blur-row-end)
 
 pub blur-row-spec : {M : Type 1} → statement M
 blur-row-spec =
@@ -51,10 +51,10 @@ blur-row-spec =
     (tie.spec
     Inv-loop
     μ-loop
-    mul-first
     loop-holds
-    add-blur-cell
-    blur-cell-requires
+    sub-block-of
+    block-of-requires
+    blur-block-requires
     add-x
     loop-less
     loop-again

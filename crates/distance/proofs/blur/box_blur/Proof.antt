@@ -1,38 +1,47 @@
--- Invariant: the rows below y are blurred. The rows in order are all spans in order, and a list stored to at each place is the rule's list.
--- Assumes nothing.
+-- Invariant: the spans below s are blurred, and the others still have their cells.
+-- A list stored to at each place is the rule's list. Assumes nothing.
 use Prim.Native.Nat.{_≤_, _-_}
 use mathlib.Core.Path.{_≡_}
 use lib.ListN.{length}
 use Rattle.rules.specs.Base.{upto}
+use Rattle.rules.specs.Rows.{blurTo}
 use Rattle.field.specs.Lent.{lent}
-use Rattle.field.proofs.Loops.{upto-go}
-use Rattle.rules.specs.Rows.{rowUp, blurTo}
-use Rattle.distance.proofs.Walks.{blur-end}
+use Rattle.distance.proofs.Walks.{blur-stands, cells-sized, blur-end}
+use Rattle.distance.proofs.Blurs.{blur-sized, blur-next}
 use borrow.Author.Needs.{needs}
 use Rattle.distance.proofs.blur.box_blur.Statement.{statement}
 use Rattle.distance.proofs.blur.box_blur.Tie as tie
 
 abbrev Inv-loop : tie.InvT-loop
-Inv-loop w h index count area con raw blurred₀ y₀ blurred y = (y ≤ h) × (length blurred ≡ length area) × (blurred ≡ upto y (rowUp (lent w h index count area con) (blurTo (lent w h index count area con) raw)) blurred₀)
+Inv-loop w h index count area con raw blurred₀ s₀ s-end blurred s = (s ≤ length area) × (s-end ≡ length area) × (length blurred ≡ length area) × (blurred ≡ upto s (blurTo (lent w h index count area con) raw) blurred₀) × (length blurred ≡ length blurred₀)
 
 abbrev μ-loop : tie.MeasureT-loop
-μ-loop w h index count area con raw blurred₀ y₀ blurred y = h - y
+μ-loop w h index count area con raw blurred₀ s₀ s-end blurred s = length area - s
 
 loop-holds : tie.Need-loop-holds Inv-loop μ-loop
 unfolding upto
-loop-holds c = search needs
+loop-holds c = (search needs, search needs, search (needs, cells-sized), search needs, search needs)
 
-blur-row-requires : tie.Need-blur-row-requires Inv-loop μ-loop
-blur-row-requires c κs = search needs
+at16-requires : tie.Need-at16-requires Inv-loop μ-loop
+at16-requires c κs = search needs
 
-add-y : tie.Need-add-y Inv-loop μ-loop
-add-y c = search needs
+blur-span-requires : tie.Need-blur-span-requires Inv-loop μ-loop
+blur-span-requires c κs = blur-sized _ _ _ _ (c .before .before .before .before .before .before .before .before .before .before .pre .0) (c .before .before .before .before .before .before .before .before .before .before .pre .1) (blur-stands _ _ _ _ _ _ _ (c .before .before .before .before .before .before .before .before .before .before .pre .2) (c .before .before .before .loop .inv .3) (c .before .before .loop-test .taken) (c .before .before .before .loop .inv .1) (c .at16 .ensures .0))
+
+mul-blurred : tie.Need-mul-blurred Inv-loop μ-loop
+mul-blurred c = search needs
+
+slice-write-blurred : tie.Need-slice-write-blurred Inv-loop μ-loop
+slice-write-blurred c = search needs
+
+add-s : tie.Need-add-s Inv-loop μ-loop
+add-s c = search needs
 
 loop-less : tie.Need-loop-less Inv-loop μ-loop
 loop-less c = search needs
 
 loop-again : tie.Need-loop-again Inv-loop μ-loop
-loop-again c = (search needs, search needs, search (needs, upto-go))
+loop-again c = (search needs, search needs, search needs, blur-next _ _ _ _ _ _ _ (c .before .before .before .before .before .before .before .before .before .before .before .pre .0) (blur-stands _ _ _ _ _ _ _ (c .before .before .before .before .before .before .before .before .before .before .before .pre .2) (c .before .before .before .before .loop .inv .3) (c .before .before .before .loop-test .taken) (c .before .before .before .before .loop .inv .1) (c .before .at16 .ensures .0)) (c .before .before .before .before .loop .inv .3) (c .blur-span .ensures), search needs)
 
 same-length : tie.Need-same-length Inv-loop μ-loop
 same-length c = search needs
@@ -47,8 +56,11 @@ box-blur-spec =
     Inv-loop
     μ-loop
     loop-holds
-    blur-row-requires
-    add-y
+    at16-requires
+    blur-span-requires
+    mul-blurred
+    slice-write-blurred
+    add-s
     loop-less
     loop-again
     same-length

@@ -1,39 +1,46 @@
--- Invariant: pass 1 has gone through the layers below j, each of which came to at most twice its column; the cells before c did before.
--- What a span reads stands in cells before its own, so it is at most 510.
-use Prim.Native.Nat.{ℕ, _≤_, _<_, _-_, _+_, _*_, _%_}
+-- Invariant: pass 1 has gone through the layers below j, each of which came to at most twice its column; the columns before x and the rows before y did
+-- before. What a span reads stands in cells before its own, so it is at most 510.
+use Prim.Native.Nat.{ℕ, _≤_, _<_, _-_, _+_, _*_}
 use mathlib.Core.Path.{_≡_}
 use Rattle.rules.specs.Base.{upto}
-use Rattle.rules.specs.Distance.{lower, far}
+use Rattle.rules.specs.Distance.{far}
+use Rattle.rules.specs.Rows.{fromStart}
 use Rattle.field.specs.Lent.{lent}
 use Rattle.distance.specs.Value.{Passing}
-use Rattle.distance.proofs.Walks.{cell-end}
-use Rattle.distance.proofs.Bounds.{room-left, room-up, passing-in, pass-go, passing-go, layers-go, passing-end}
+use Rattle.distance.proofs.Walks.{row-fits, column-fits, column-in, column-indexed, cell-end}
+use Rattle.distance.proofs.Bounds.{layer-stood, room-left, room-up, passing-in, start-go, passing-go, layers-go, passing-end}
 use borrow.Author.Needs.{needs}
 use native.Mathlib.Omega.{arith}
 use Rattle.distance.proofs.pass.pass1_cell.Statement.{statement}
 use Rattle.distance.proofs.pass.pass1_cell.Tie as tie
 
 abbrev Inv-loop : tie.InvT-loop
-Inv-loop w h index count area con raw₀ c i k j₀ raw j = (j ≤ k) × (raw ≡ upto j (λ t. lower (lent w h index count area con) 0 3 3 2 (i + t)) raw₀) × Passing (lent w h index count area con) c raw × ((t : ℕ) → t < j → far raw (i + t) ≤ 2 * (c % w))
+Inv-loop w h index count area con raw₀ x y c i k j₀ raw j = (j ≤ k) × (c ≡ w * y + x) × (raw ≡ upto j (λ t. fromStart (lent w h index count area con) (i + t)) raw₀) × Passing (lent w h index count area con) y x raw × ((t : ℕ) → t < j → far raw (i + t) ≤ 2 * x)
 
 abbrev μ-loop : tie.MeasureT-loop
-μ-loop w h index count area con raw₀ c i k j₀ raw j = k - j
+μ-loop w h index count area con raw₀ x y c i k j₀ raw j = k - j
+
+mul-c : tie.Need-mul-c Inv-loop μ-loop
+mul-c c = search (needs, row-fits)
+
+add-c : tie.Need-add-c Inv-loop μ-loop
+add-c c = search (needs, column-fits)
 
 at32-requires : tie.Need-at32-requires Inv-loop μ-loop
-at32-requires c κs = search needs
+at32-requires c κs = search (needs, column-indexed)
 
 at8-requires : tie.Need-at8-requires Inv-loop μ-loop
-at8-requires c κs = search needs
+at8-requires c κs = search (needs, column-in)
 
 loop-holds : tie.Need-loop-holds Inv-loop μ-loop
 unfolding upto
-loop-holds c = (search needs, search needs, search needs, λ t h. absurd (omega arith))
+loop-holds c = (search needs, search needs, search needs, search needs, λ t h. absurd (omega arith))
 
 add-s : tie.Need-add-s Inv-loop μ-loop
 add-s c = search needs
 
-lowered-requires : tie.Need-lowered-requires Inv-loop μ-loop
-lowered-requires c κs = (search (needs, room-left), search (needs, room-up), search needs, search needs, search needs, search needs)
+from-start-requires : tie.Need-from-start-requires Inv-loop μ-loop
+from-start-requires c κs = ((search needs, search (needs, layer-stood)), (search (needs, room-left), search (needs, room-up)))
 
 mul-raw : tie.Need-mul-raw Inv-loop μ-loop
 mul-raw c = search needs
@@ -48,7 +55,7 @@ loop-less : tie.Need-loop-less Inv-loop μ-loop
 loop-less c = search needs
 
 loop-again : tie.Need-loop-again Inv-loop μ-loop
-loop-again c = (search needs, pass-go _ _ _ _ _ _ _ _ _ _ _ (c .before .before .before .before .before .before .before .before .before .before .before .pre .0) (c .before .before .before .before .before .at32 .ensures .0) (c .before .before .before .before .at8 .ensures .0) (c .before .before .loop-test .taken) _ _ _ _ _ (c .lowered .ensures) _ (c .before .before .before .loop .inv .1), passing-go _ _ _ _ _ _ _ _ _ _ _ (c .before .before .before .before .before .before .before .before .before .before .before .pre .0) (c .before .before .before .before .before .at32 .ensures .0) (c .before .before .before .before .at8 .ensures .0) (c .before .before .loop-test .taken) _ (c .lowered .ensures) (c .before .before .before .loop .inv .2), layers-go _ _ _ _ _ _ _ _ _ _ _ (c .before .before .before .before .before .before .before .before .before .before .before .pre .0) (c .before .before .before .before .before .at32 .ensures .0) (c .before .before .before .before .at8 .ensures .0) (c .before .before .loop-test .taken) _ (c .lowered .ensures) (c .before .before .before .loop .inv .2) (c .before .before .before .loop .inv .3))
+loop-again c = (search needs, search needs, start-go _ _ _ _ _ _ _ _ _ _ _ (c .before .before .before .before .before .before .before .before .before .before .before .pre .0) (c .before .before .before .before .before .at32 .ensures .0) (c .before .before .before .before .at8 .ensures .0) (c .before .before .loop-test .taken) _ _ (c .before .before .before .loop .inv .1) (c .before .before .before .before .before .before .before .before .before .before .before .pre .1) (c .before .before .before .loop .inv .3) _ (c .from-start .ensures) _ (c .before .before .before .loop .inv .2), passing-go _ _ _ _ _ _ _ _ _ _ _ (c .before .before .before .before .before .before .before .before .before .before .before .pre .0) (c .before .before .before .before .before .at32 .ensures .0) (c .before .before .before .before .at8 .ensures .0) (c .before .before .loop-test .taken) _ _ (c .before .before .before .loop .inv .1) (c .before .before .before .before .before .before .before .before .before .before .before .pre .1) (c .before .before .before .loop .inv .3) _ (c .from-start .ensures), layers-go _ _ _ _ _ _ _ _ _ _ _ (c .before .before .before .before .before .before .before .before .before .before .before .pre .0) (c .before .before .before .before .before .at32 .ensures .0) (c .before .before .before .before .at8 .ensures .0) (c .before .before .loop-test .taken) _ _ (c .before .before .before .loop .inv .1) (c .before .before .before .before .before .before .before .before .before .before .before .pre .1) (c .before .before .before .loop .inv .3) _ (c .from-start .ensures) (λ r. omega (arith, c .before .before .before .before .before .before .before .before .shared-slice-known3 .given r)) (c .before .before .before .loop .inv .4))
 
 same-length : tie.Need-same-length Inv-loop μ-loop
 same-length c = search needs
@@ -62,11 +69,13 @@ pass1-cell-spec =
     (tie.spec
     Inv-loop
     μ-loop
+    mul-c
+    add-c
     at32-requires
     at8-requires
     loop-holds
     add-s
-    lowered-requires
+    from-start-requires
     mul-raw
     slice-write-raw
     add-j

@@ -32,7 +32,7 @@ add-s : tie.Need-add-s Inv-loop μ-loop
 add-s c = search needs
 
 lowered-requires : tie.Need-lowered-requires Inv-loop μ-loop
-lowered-requires c κs = (search (needs, room-low), search (needs, room-low), search needs, search needs, search needs, search needs)
+lowered-requires c κs = (search (needs, room-low), search (needs, room-low))
 
 mul-raw : tie.Need-mul-raw Inv-loop μ-loop
 mul-raw c = search needs

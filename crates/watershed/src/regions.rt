@@ -208,7 +208,7 @@ fn find_regions(
     );
     let all = ws.len();
     if g.stop != GOES_ON {
-        clear_part(ws, 0, all);
+        clear(ws);
         return Found {
             stop: g.stop,
             regions: Regions {
@@ -220,18 +220,11 @@ fn find_regions(
     }
     let next = g.next as usize;
     build_records(w, h, index, count, area, con, ids, ws, table, next);
-    let regions = merge_and_filter_regions(
-        ws,
-        ids,
-        next + 1,
-        n,
-        min_region_area,
-        merge_region_area,
-    );
+    let r = merge_and_filter_regions(ws, ids, next + 1, n, min_region_area, merge_region_area);
     clear_part(ws, 0, all);
     Found {
         stop: GOES_ON,
-        regions,
+        regions: r,
     }
 }
 

@@ -44,8 +44,8 @@ records-end-requires c κs =
 grow-regions-requires : tie.Need-grow-regions-requires
 grow-regions-requires c κs = (S c .pre, N c .records-end .ensures)
 
-clear-part-requires : tie.Need-clear-part-requires
-clear-part-requires c κs = search needs
+clear-requires : tie.Need-clear-requires
+clear-requires c κs = search needs
 
 same-length : tie.Need-same-length
 same-length c = search needs
@@ -59,7 +59,7 @@ returns c =
     let t = x .before .before in
     let g = G (t .before) in (
       finds-stop _ _ _ _ _ _ _ _ _ _ (g .grow-regions .ensures) (t .if1 .taken) _ refl,
-      (all-clear _ _ (x .clear-part .kept .0) (x .clear-part .ensures .0) ∙ ap (λ (l : ℕ). replicate l 0) (g .grow-regions .kept .1 .1 .1 .1 .1 .1 .1 .1 .1 .0), areas-are-bytes _ _ _ _ _ _ (bytes (g .before))),
+      (x .clear .ensures ∙ ap (λ (l : ℕ). replicate l 0) (g .grow-regions .kept .1 .1 .1 .1 .1 .1 .1 .1 .1 .0), areas-are-bytes _ _ _ _ _ _ (bytes (g .before))),
     )
 
 cast-next : tie.Need-cast-next
@@ -91,8 +91,8 @@ merge-and-filter-regions-requires c κs =
     ready _ _ _ _ _ _ _ _ _ (s .pre) _ (N (g .before) .records-end .ensures) (bytes (g .before)) _ _ _ _ _ _ (g .grow-regions .ensures) (e .if1 .left) (g .grow-regions .kept .1 .1 .1 .1 .1 .1 .1 .1 .1 .0)
     _ (b .build-records .ensures)
 
-clear-part-requires-2 : tie.Need-clear-part-requires-2
-clear-part-requires-2 c κs =
+clear-part-requires : tie.Need-clear-part-requires
+clear-part-requires c κs =
     let m = c .before .before .before .before .before in
     let b = B (m .before) in
     (omega arith, omega (arith, m .merge-and-filter-regions .kept .0, b .build-records .ensures .size))
@@ -117,7 +117,7 @@ returns-2 c =
           (whole _ _ _ _ _ _ _ _ _ (s .pre) _ (N (g .before) .records-end .ensures) (bytes (g .before)) _ _ _ _ _ _ r (e .if1 .left) z _ (b .build-records .ensures) _ _ _
           (m .merge-and-filter-regions .ensures)),
       (
-        all-clear _ _ (x .clear-part2 .kept .0 ∙ m .merge-and-filter-regions .kept .0 ∙ b .build-records .ensures .size) (x .clear-part2 .ensures .0) ∙ ap (λ (l : ℕ). replicate l 0) z,
+        all-clear _ _ (x .clear-part .kept .0 ∙ m .merge-and-filter-regions .kept .0 ∙ b .build-records .ensures .size) (x .clear-part .ensures .0) ∙ ap (λ (l : ℕ). replicate l 0) z,
         areas-are-bytes _ _ _ _ _ _ (bytes (g .before)),
       ),
     )
@@ -129,7 +129,7 @@ find-regions-spec =
     add-records-end
     records-end-requires
     grow-regions-requires
-    clear-part-requires
+    clear-requires
     same-length
     same-length-2
     returns
@@ -137,7 +137,7 @@ find-regions-spec =
     build-records-requires
     add-merge-and-filter-regions
     merge-and-filter-regions-requires
-    clear-part-requires-2
+    clear-part-requires
     same-length-3
     same-length-4
     returns-2)

@@ -1,6 +1,7 @@
 -- Two results that satisfy the promise of an exported function coincide:
 -- the promise is an equation for each number and for each lent list at exit.
 use Prim.Native.Nat.{ℕ}
+use native.Mathlib.Decide.{ℕ-discrete}
 use mathlib.Core.Path.{_≡_, sym, _∙_}
 use mathlib.Core.List.{List}
 use Rattle.rules.specs.Outcomes.{DistanceOutcome, RegionOutcome}
@@ -56,13 +57,23 @@ one-stages-answer o a b l m n x y z p q = (
   p .third ∙ sym (q .third),
 )
 
--- `gussetraft_refresh_distance_field_into`, with a list of eight
-pub one-refresh-answer : (F : Field) (q : Rect) (p₀ r₀ b₀ a₀ : List ℕ) (k j : ℕ) (p r b a p′ r′ b′ a′ : List ℕ) → length a₀ ≡ 8
+-- `gussetraft_refresh_distance_field_into`, with a list of eight or of another length
+pub one-refresh-answer : (F : Field) (q : Rect) (p₀ r₀ b₀ a₀ : List ℕ) (k j : ℕ) (p r b a p′ r′ b′ a′ : List ℕ)
     → GivesInto F q p₀ r₀ b₀ a₀ k p r b a → GivesInto F q p₀ r₀ b₀ a₀ j p′ r′ b′ a′ → (k ≡ j) × (p ≡ p′) × (r ≡ r′) × (b ≡ b′) × (a ≡ a′)
-one-refresh-answer F q p₀ r₀ b₀ a₀ k j p r b a p′ r′ b′ a′ e u v = (
-  u .refused e ∙ sym (v .refused e),
-  u .pass1 e ∙ sym (v .pass1 e),
-  u .raw e ∙ sym (v .raw e),
-  u .blurred e ∙ sym (v .blurred e),
-  u .numbers e ∙ sym (v .numbers e),
-)
+one-refresh-answer F q p₀ r₀ b₀ a₀ k j p r b a p′ r′ b′ a′ u v =
+    elim (ℕ-discrete (length a₀) 8) [
+      | yes e ↦ (
+        u .refused e ∙ sym (v .refused e),
+        u .pass1 e ∙ sym (v .pass1 e),
+        u .raw e ∙ sym (v .raw e),
+        u .blurred e ∙ sym (v .blurred e),
+        u .numbers e ∙ sym (v .numbers e),
+      )
+      | no n ↦ (
+        u .other n ∙ sym (v .other n),
+        u .as-was n .0 ∙ sym (v .as-was n .0),
+        u .as-was n .1 .0 ∙ sym (v .as-was n .1 .0),
+        u .as-was n .1 .1 .0 ∙ sym (v .as-was n .1 .1 .0),
+        u .as-was n .1 .1 .1 ∙ sym (v .as-was n .1 .1 .1),
+      )
+    ]

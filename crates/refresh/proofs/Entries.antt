@@ -1,6 +1,6 @@
 -- The entries' ways out are the cases of their outcomes. What is redone first, whatever it comes to, and then until a row comes out as stored, is what the
 -- rule redoes; the rows of the blurred list that were used for comparing are blurred again.
-use Prim.Native.Nat.{ℕ, zero, suc, _+_, _*_, _-_, _≤_, _<_, min}
+use Prim.Native.Nat.{ℕ, zero, suc, _+_, _-_, _≤_, _<_, min}
 use native.Mathlib.Omega.{arith}
 use native.Mathlib.Decide.{decLt, ℕ-discrete}
 use mathlib.Core.Path.{_≡_, refl, sym, ap, _∙_}

@@ -1,4 +1,4 @@
--- Eight stores are the eight numbers; the answer's numbers are the outcome's; and an outcome has one answer.
+-- Eight stores are the eight numbers, and the answer's numbers are the outcome's.
 -- Assumes nothing.
 use Prim.Native.Nat.{ℕ, _+_, _<_}
 use native.Mathlib.Omega.{arith}
@@ -15,7 +15,6 @@ use Rattle.checker.specs.declared.Verdict.{Verdict}
 use Rattle.checker.specs.declared.Verdict.the-variants as verdict
 use Rattle.refresh.specs.Answer.{refreshRefusedBy, refreshGiven}
 use Rattle.refresh.specs.Into.{numbersOf, GivesInto}
-use Rattle.refresh.specs.declared.StagesAnswer.the-variants as stages
 use Rattle.refresh.specs.declared.RefreshAnswer.{RefreshAnswer}
 use Rattle.refresh.specs.declared.RefreshAnswer.the-variants.{Refused, WrongRect, WrongStored, Done}
 use Rattle.refresh.specs.declared.Refreshed.{Refreshed}

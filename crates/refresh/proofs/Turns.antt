@@ -189,9 +189,6 @@ pass1-low F ok y l m v e u =
       ];
     }
 
-pub low-size : (F : Field) (l : List ℕ) → Low F l → length l ≡ spans F
-low-size F l v = v .size
-
 -- ---------------------------------------------------------------- rows that are redone whatever they come to
 
 module _ (F : Field) (a y : ℕ) (l m n : List ℕ) (h : a ≤ y) (e : m ≡ pass1Rows F a y l) where

@@ -15,6 +15,7 @@ use checker::Verdict;
 use checker::check;
 use distance::blur::box_blur;
 use distance::blur::greatest;
+use distance::cells::spread;
 use distance::pass::pass1 as pass1_whole;
 use distance::pass::pass2 as pass2_whole;
 use table::any_above;
@@ -28,6 +29,7 @@ ghost use Rattle.rules.specs.Refresh.{wrongRect, wrongStored, onward, backward,
 ghost use Rattle.field.specs.Lent.{lent, Sound};
 ghost use Rattle.checker.specs.Answer.{verdictNumber};
 ghost use Rattle.distance.specs.Value.{Low};
+ghost use Rattle.distance.specs.Walk.{cellsOf};
 ghost use Rattle.refresh.specs.Redo.{redone, Kept, Passed};
 ghost use Rattle.refresh.specs.Answer.{rect, stagesGiven, refreshGiven, oddLength, ownRefusal, refusalOf, refreshVerdictNumber};
 
@@ -103,7 +105,7 @@ fn check_three(
     check(w, h, index, count, area, con, odd, c)
 }
 
-// The raw distances from the pass 1 values.
+// The raw distances from the pass 1 values; cells has the cell of each span.
 fn raw_from(
     w: usize,
     h: usize,
@@ -113,17 +115,18 @@ fn raw_from(
     con: &[u8],
     pass1: &[u16],
     raw: &mut [u16],
+    cells: &[u16],
 )
     requires { ⌜ (let F = lent w h (now index) (now count) (now area) (now con) in
-        Sound F × Low F (now pass1) × (length (now raw) ≡ length (now area))) ⌝ }
+        Sound F × Low F (now pass1) × (length (now raw) ≡ length (now area)) × (now cells ≡ cellsOf F)) ⌝ }
     ensures { λ _. ⌜ (let F = lent w h (now (index .entry)) (now (count .entry)) (now (area .entry)) (now (con .entry)) in
-        (now (raw .exit) ≡ rules.pass2 F (now (pass1 .entry))) × Low F (now (raw .exit))) ⌝ }
+        now (raw .exit) ≡ rules.pass2 F (now (pass1 .entry))) ⌝ }
 {
     copy_part(pass1, raw, 0, area.len());
-    pass2_whole(w, h, index, count, area, con, raw);
+    pass2_whole(w, h, index, count, area, con, raw, cells);
 }
 
-// The three lists of a field that is not refused; max_distance.
+// The three lists of a field that is not refused; max_distance. Until the blur its list has the cell of each span.
 fn build_stages(
     w: usize,
     h: usize,
@@ -141,8 +144,9 @@ fn build_stages(
         (now (pass1 .exit) ≡ rules.pass1 F (rules.start F)) × (now (raw .exit) ≡ rules.pass2 F (now (pass1 .exit)))
         × (now (blurred .exit) ≡ rules.blur F (now (raw .exit))) × (r ≡ rules.greatest (now (raw .exit)))) ⌝ }
 {
-    pass1_whole(w, h, index, count, area, con, pass1);
-    raw_from(w, h, index, count, area, con, pass1, raw);
+    spread(w, h, index, count, area, con, blurred);
+    pass1_whole(w, h, index, count, area, con, pass1, blurred);
+    raw_from(w, h, index, count, area, con, pass1, raw, blurred);
     box_blur(w, h, index, count, area, con, raw, blurred);
     greatest(raw)
 }

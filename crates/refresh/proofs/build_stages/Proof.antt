@@ -1,19 +1,21 @@
 -- Each stage's list is what the next requires.
 -- Assumes nothing.
 use Rattle.field.proofs.Passed.{sound-reached}
-use Rattle.refresh.proofs.Turns.{low-size}
 use borrow.Author.Needs.{needs}
 use Rattle.refresh.proofs.build_stages.Statement.{statement}
 use Rattle.refresh.proofs.build_stages.Tie as tie
 
+spread-requires : tie.Need-spread-requires
+spread-requires c κs = (search (needs, sound-reached), search needs)
+
 pass1-requires : tie.Need-pass1-requires
-pass1-requires c κs = (search (needs, sound-reached), search needs)
+pass1-requires c κs = (search (needs, sound-reached), search needs, search needs)
 
 raw-from-requires : tie.Need-raw-from-requires
-raw-from-requires c κs = (search needs, search needs, search needs)
+raw-from-requires c κs = (search needs, search needs, search needs, search needs)
 
 box-blur-requires : tie.Need-box-blur-requires
-box-blur-requires c κs = (search (needs, sound-reached), search (needs, low-size), search needs)
+box-blur-requires c κs = (search (needs, sound-reached), search needs, search needs)
 
 greatest-requires : tie.Need-greatest-requires
 greatest-requires c κs = search needs
@@ -34,6 +36,7 @@ pub build-stages-spec : {M : Type 1} → statement M
 build-stages-spec =
     tie.close
     (tie.spec
+    spread-requires
     pass1-requires
     raw-from-requires
     box-blur-requires

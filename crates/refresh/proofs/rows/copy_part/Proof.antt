@@ -2,7 +2,7 @@
 -- Assumes nothing.
 use Rattle.refresh.specs.Part.{partTo}
 use Rattle.refresh.proofs.Parts.{copy-first}
-use Prim.Native.Nat.{_≤_, _-_, _+_}
+use Prim.Native.Nat.{_≤_, _-_}
 use mathlib.Core.Path.{_≡_}
 use lib.ListN.{length}
 use Rattle.refresh.proofs.Parts.{copy-go, copy-end}

@@ -33,18 +33,20 @@ extern "C" {
 /* The least number of elements of the workspace, for n spans. */
 #define GUSSETRAFT_WORKSPACE_LEN(n) ((size_t)128 * (size_t)(n) + (size_t)4096)
 
-/* Refusals, looked for in this order; the first that applies is given. 7 and 8 are given by the two region functions alone, 27 by
- * gussetraft_mend alone, which gives 1 to 4 beside it. */
+/* Refusals, looked for in this order; the first that applies is given. 7 and 8 are given by the two region functions alone, 11 and 31 by
+ * gussetraft_refresh_distance_field alone, 27 by gussetraft_mend alone, which gives 1 to 4 beside it. */
 enum {
     GUSSETRAFT_TOO_WIDE = 1,     /* w or h above 256 */
     GUSSETRAFT_TOO_MANY = 2,     /* n above 32,000 */
-    GUSSETRAFT_WRONG_LENGTH = 3, /* a list has the wrong length: w*h (index, count), n (raw, blurred, dist, ids) or 4*n (con) */
+    GUSSETRAFT_WRONG_LENGTH = 3, /* a list has the wrong length: w*h (index, count), n (pass1, raw, blurred, dist, ids) or 4*n (con) */
     GUSSETRAFT_WRONG_CELLS = 4,  /* a cell's count is above 63, a nonempty cell's index is wrong, or the counts do not sum to n */
     GUSSETRAFT_WRONG_REACH = 5,  /* a connection leaves the grid or names a layer that the cell lacks */
     GUSSETRAFT_WRONG_BACK = 6,   /* a connection is not answered from the other side */
     GUSSETRAFT_TOO_SHORT = 7,    /* workspace_len is below GUSSETRAFT_WORKSPACE_LEN(n) */
     GUSSETRAFT_TOO_FAR = 8,      /* max_distance is above 510, or a distance is above max_distance */
-    GUSSETRAFT_NO_ROOM = 27      /* there are more changes than places in their list */
+    GUSSETRAFT_WRONG_RECT = 11,  /* the rectangle is empty or not in the field */
+    GUSSETRAFT_NO_ROOM = 27,     /* there are more changes than places in their list */
+    GUSSETRAFT_WRONG_STORED = 31 /* a stored pass 1 or raw value is above 510 */
 };
 
 /* What the number of a refusal means; of 0, "not refused". The text is constant. */
@@ -59,6 +61,8 @@ static inline const char *gussetraft_refusal_text(uint16_t refusal) {
     case GUSSETRAFT_WRONG_BACK: return "a connection is not answered from the other side";
     case GUSSETRAFT_TOO_SHORT: return "the workspace is shorter than 128 numbers a span and 4,096";
     case GUSSETRAFT_TOO_FAR: return "the greatest distance is above 510, or a distance is above the greatest";
+    case GUSSETRAFT_WRONG_RECT: return "the rectangle is empty or not in the field";
+    case GUSSETRAFT_WRONG_STORED: return "a stored pass 1 or raw value is above 510";
     case GUSSETRAFT_NO_ROOM: return "there are more changes than places in their list";
     default: return "no such refusal";
     }
@@ -83,6 +87,70 @@ gussetraft_distance_answer gussetraft_build_distance_field(
     const uint8_t *con, size_t con_len,
     uint16_t *raw, size_t raw_len,
     uint16_t *blurred, size_t blurred_len);
+
+/* As gussetraft_build_distance_field, and writes the values of pass 1 too: the three lists that gussetraft_refresh_distance_field takes. */
+gussetraft_distance_answer gussetraft_build_distance_stages(
+    uint16_t w, uint16_t h,
+    const uint32_t *index, size_t index_len,
+    const uint8_t *count, size_t count_len,
+    const uint8_t *area, size_t area_len,
+    const uint8_t *con, size_t con_len,
+    uint16_t *pass1, size_t pass1_len,
+    uint16_t *raw, size_t raw_len,
+    uint16_t *blurred, size_t blurred_len);
+
+/* refusal: 0, or the number of the refusal; max_distance; and the first and the last row redone in each stage, which are the only rows of its
+ * list that can have changed. All are 0 where refused. */
+typedef struct {
+    uint16_t refusal;
+    uint16_t max_distance;
+    uint16_t pass1_first, pass1_last;
+    uint16_t pass2_first, pass2_last;
+    uint16_t blur_first, blur_last;
+} gussetraft_refresh_answer;
+
+/* The same with the answer's eight numbers, in their order, written to a list of eight; gives the refusal. A list of another length is refused 3,
+ * and every list then holds what it held. Most callers use the function below. */
+uint16_t gussetraft_refresh_distance_field_into(
+    uint16_t w, uint16_t h,
+    const uint32_t *index, size_t index_len,
+    const uint8_t *count, size_t count_len,
+    const uint8_t *area, size_t area_len,
+    const uint8_t *con, size_t con_len,
+    uint16_t x0, uint16_t z0, uint16_t x1, uint16_t z1,
+    uint16_t *pass1, size_t pass1_len,
+    uint16_t *raw, size_t raw_len,
+    uint16_t *blurred, size_t blurred_len,
+    uint16_t *answer, size_t answer_len);
+
+/* After a change of area codes in columns x0 to x1 of rows z0 to z1, both ends included, connections unchanged: brings the three lists of
+ * gussetraft_build_distance_stages up to date. Where they are those of the field before the change, or of a refresh after it, all three and
+ * max_distance are then what a build of the changed field gives; only rows near the change are worked out again. With other lists the answer
+ * is what the steps of docs/02-change-requests.md, A5, give. */
+static inline gussetraft_refresh_answer gussetraft_refresh_distance_field(
+    uint16_t w, uint16_t h,
+    const uint32_t *index, size_t index_len,
+    const uint8_t *count, size_t count_len,
+    const uint8_t *area, size_t area_len,
+    const uint8_t *con, size_t con_len,
+    uint16_t x0, uint16_t z0, uint16_t x1, uint16_t z1,
+    uint16_t *pass1, size_t pass1_len,
+    uint16_t *raw, size_t raw_len,
+    uint16_t *blurred, size_t blurred_len) {
+    uint16_t a[8] = {0, 0, 0, 0, 0, 0, 0, 0};
+    gussetraft_refresh_answer answer;
+    gussetraft_refresh_distance_field_into(
+        w, h, index, index_len, count, count_len, area, area_len, con, con_len, x0, z0, x1, z1, pass1, pass1_len, raw, raw_len, blurred, blurred_len, a, 8);
+    answer.refusal = a[0];
+    answer.max_distance = a[1];
+    answer.pass1_first = a[2];
+    answer.pass1_last = a[3];
+    answer.pass2_first = a[4];
+    answer.pass2_last = a[5];
+    answer.blur_first = a[6];
+    answer.blur_last = a[7];
+    return answer;
+}
 
 /* refusal: 0, or the number of the refusal; max_region, the greatest id in use: the ids in use are exactly 1 to max_region, and those of
  * the border, and it is 0 where none is in use; overlaps: how many regions, before the merge, lie over themselves; cut: how many regions,

@@ -92,7 +92,7 @@ fn open(n: usize) -> Field {
 }
 
 /// Rooms of 7 by 7 with a door to the right and one below.
-fn buildings(n: usize) -> Field {
+pub(crate) fn buildings(n: usize) -> Field {
     flat(n, (n * 5 / 4).isqrt() as u16, |x, z| match (x % 8, z % 8) {
         (7, 7) => false,
         (7, along) | (along, 7) => along == 3,

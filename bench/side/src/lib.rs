@@ -1,5 +1,6 @@
 //! Gussetraft and the unchanged Rust on the same levels.
 
+pub mod door;
 pub mod level;
 pub mod measured;
 pub mod run;

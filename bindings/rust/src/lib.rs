@@ -129,13 +129,17 @@ pub enum Refusal {
     TooShort = 7,
     /// 8: the greatest distance is above 510, or a distance is above the greatest.
     TooFar = 8,
+    /// 11: the rectangle is empty or not in the field.
+    WrongRect = 11,
     /// 27: there are more changes than places in their list.
     NoRoom = 27,
+    /// 31: a stored pass 1 or raw value is above 510.
+    WrongStored = 31,
 }
 
 impl Refusal {
     /// Every refusal, in the order of the numbers.
-    pub const ALL: [Self; 9] = [
+    pub const ALL: [Self; 11] = [
         Self::TooWide,
         Self::TooMany,
         Self::WrongLength,
@@ -144,10 +148,12 @@ impl Refusal {
         Self::WrongBack,
         Self::TooShort,
         Self::TooFar,
+        Self::WrongRect,
         Self::NoRoom,
+        Self::WrongStored,
     ];
 
-    /// The number, 1 to 8 or 27.
+    /// The number, 1 to 8, 11, 27 or 31.
     pub const fn number(self) -> u16 {
         self as u16
     }
@@ -156,7 +162,9 @@ impl Refusal {
     pub const fn from_number(number: u16) -> Option<Self> {
         match number {
             1..=8 => Some(Self::ALL[number as usize - 1]),
+            11 => Some(Self::WrongRect),
             27 => Some(Self::NoRoom),
+            31 => Some(Self::WrongStored),
             _ => None,
         }
     }
@@ -176,6 +184,8 @@ impl Refusal {
             Self::TooFar => {
                 "the greatest distance is above 510, or a distance is above the greatest"
             }
+            Self::WrongRect => "the rectangle is empty or not in the field",
+            Self::WrongStored => "a stored pass 1 or raw value is above 510",
             Self::NoRoom => "there are more changes than places in their list",
         }
     }
@@ -342,4 +352,105 @@ fn accepted(number: u16) -> Result<(), Refusal> {
             Ok(())
         }
     }
+}
+
+/// The lists that [`build_distance_stages`] writes and [`refresh_distance_field`] brings up to date, each with a number a span.
+#[derive(Debug)]
+pub struct Stages<'a> {
+    /// The values of pass 1.
+    pub pass1: &'a mut [u16],
+    /// The raw distances.
+    pub raw: &'a mut [u16],
+    /// The blurred distances.
+    pub blurred: &'a mut [u16],
+}
+
+/// Columns x0 to x1 of rows z0 to z1, both ends included.
+#[derive(Debug, Clone, Copy, PartialEq, Eq)]
+pub struct Rect {
+    /// The first column.
+    pub x0: u16,
+    /// The first row.
+    pub z0: u16,
+    /// The last column.
+    pub x1: u16,
+    /// The last row.
+    pub z1: u16,
+}
+
+/// What a refresh gives: the greatest raw distance, and the rows redone in each stage, the only ones of its list that can have changed.
+#[derive(Debug, Clone, PartialEq, Eq)]
+pub struct Refreshed {
+    /// The greatest raw distance.
+    pub max_distance: u16,
+    /// The rows of pass 1.
+    pub pass1_rows: core::ops::RangeInclusive<u16>,
+    /// The rows of pass 2.
+    pub pass2_rows: core::ops::RangeInclusive<u16>,
+    /// The rows of the blur.
+    pub blur_rows: core::ops::RangeInclusive<u16>,
+}
+
+/// As [`build_distance_field`], and writes the values of pass 1 too: the three lists that [`refresh_distance_field`] takes.
+///
+/// # Errors
+///
+/// Refusals 1 to 6. Nothing is written then.
+pub fn build_distance_stages(field: &Field<'_>, stages: &mut Stages<'_>) -> Result<u16, Refusal> {
+    let answer = sys::distance_stages(field, stages.pass1, stages.raw, stages.blurred);
+    accepted(answer.refusal)?;
+    Ok(answer.max_distance)
+}
+
+/// Brings the three lists up to date after a change of area codes in a rectangle, connections unchanged.
+///
+/// Where they are those of the field before the change, all three and the greatest distance are then what a build of the changed field gives; only
+/// rows near the change are worked out again.
+///
+/// ```
+/// use gussetraft::{build_distance_stages, refresh_distance_field, Field, Rect, Refusal, Stages, NO_CONNECTION};
+///
+/// // a corridor of 1 by 7 cells, and a door in its middle
+/// let (index, count) = ([0, 1, 2, 3, 4, 5, 6], [1; 7]);
+/// let mut con = [NO_CONNECTION; 28];
+/// for z in 0..6 {
+///     con[4 * z + 1] = 0;
+///     con[4 * (z + 1) + 3] = 0;
+/// }
+/// let mut area = [1; 7];
+/// let (mut pass1, mut raw, mut blurred) = ([0; 7], [0; 7], [0; 7]);
+/// let mut stages = Stages { pass1: &mut pass1, raw: &mut raw, blurred: &mut blurred };
+/// let field = Field { w: 1, h: 7, index: &index, count: &count, area: &area, con: &con };
+/// build_distance_stages(&field, &mut stages)?;
+/// let door = Rect { x0: 0, z0: 3, x1: 0, z1: 3 };
+/// for code in [2, 1, 2] {
+///     area[3] = code; // it closes, opens and closes
+///     let field = Field { w: 1, h: 7, index: &index, count: &count, area: &area, con: &con };
+///     let done = refresh_distance_field(&field, door, &mut stages)?;
+///     for z in done.blur_rows {
+///         let sent = stages.blurred[usize::from(z)]; // only these rows are sent on
+///         assert_eq!(sent, 0);
+///     }
+/// }
+/// # Ok::<(), Refusal>(())
+/// ```
+///
+/// # Errors
+///
+/// Refusals 1 to 6, 11 and 31. Nothing is written then.
+pub fn refresh_distance_field(
+    field: &Field<'_>,
+    rect: Rect,
+    stages: &mut Stages<'_>,
+) -> Result<Refreshed, Refusal> {
+    let corners = [rect.x0, rect.z0, rect.x1, rect.z1];
+    let [refusal, max_distance, a, b, c, d, e, f] =
+        sys::refresh(field, corners, stages.pass1, stages.raw, stages.blurred);
+    accepted(refusal)?;
+    Ok(Refreshed {
+        max_distance,
+        pass1_rows: a..=b,
+        pass2_rows: c..=d,
+        blur_rows: e..=f,
+    })
 }

@@ -86,6 +86,50 @@ extern "C" {
         ids_len: usize,
     ) -> RegionAnswer;
 
+    fn gussetraft_build_distance_stages(
+        w: u16,
+        h: u16,
+        index: *const u32,
+        index_len: usize,
+        count: *const u8,
+        count_len: usize,
+        area: *const u8,
+        area_len: usize,
+        con: *const u8,
+        con_len: usize,
+        pass1: *mut u16,
+        pass1_len: usize,
+        raw: *mut u16,
+        raw_len: usize,
+        blurred: *mut u16,
+        blurred_len: usize,
+    ) -> DistanceAnswer;
+
+    fn gussetraft_refresh_distance_field_into(
+        w: u16,
+        h: u16,
+        index: *const u32,
+        index_len: usize,
+        count: *const u8,
+        count_len: usize,
+        area: *const u8,
+        area_len: usize,
+        con: *const u8,
+        con_len: usize,
+        x0: u16,
+        z0: u16,
+        x1: u16,
+        z1: u16,
+        pass1: *mut u16,
+        pass1_len: usize,
+        raw: *mut u16,
+        raw_len: usize,
+        blurred: *mut u16,
+        blurred_len: usize,
+        answer: *mut u16,
+        answer_len: usize,
+    ) -> u16;
+
     fn gussetraft_mend(
         w: u16,
         h: u16,
@@ -220,4 +264,71 @@ pub fn mend(
             changes.len(),
         )
     }
+}
+
+pub fn distance_stages(
+    field: &Field<'_>,
+    pass1: &mut [u16],
+    raw: &mut [u16],
+    blurred: &mut [u16],
+) -> DistanceAnswer {
+    // SAFETY: as above.
+    unsafe {
+        gussetraft_build_distance_stages(
+            field.w,
+            field.h,
+            field.index.as_ptr(),
+            field.index.len(),
+            field.count.as_ptr(),
+            field.count.len(),
+            field.area.as_ptr(),
+            field.area.len(),
+            field.con.as_ptr(),
+            field.con.len(),
+            pass1.as_mut_ptr(),
+            pass1.len(),
+            raw.as_mut_ptr(),
+            raw.len(),
+            blurred.as_mut_ptr(),
+            blurred.len(),
+        )
+    }
+}
+
+pub fn refresh(
+    field: &Field<'_>,
+    [x0, z0, x1, z1]: [u16; 4],
+    pass1: &mut [u16],
+    raw: &mut [u16],
+    blurred: &mut [u16],
+) -> [u16; 8] {
+    let mut answer = [0; 8];
+    // SAFETY: as above.
+    unsafe {
+        gussetraft_refresh_distance_field_into(
+            field.w,
+            field.h,
+            field.index.as_ptr(),
+            field.index.len(),
+            field.count.as_ptr(),
+            field.count.len(),
+            field.area.as_ptr(),
+            field.area.len(),
+            field.con.as_ptr(),
+            field.con.len(),
+            x0,
+            z0,
+            x1,
+            z1,
+            pass1.as_mut_ptr(),
+            pass1.len(),
+            raw.as_mut_ptr(),
+            raw.len(),
+            blurred.as_mut_ptr(),
+            blurred.len(),
+            answer.as_mut_ptr(),
+            answer.len(),
+        );
+    }
+    answer
 }

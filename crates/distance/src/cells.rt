@@ -79,7 +79,7 @@ fn spread_block(
 }
 
 // For all spans, block by block.
-pub(crate) fn spread(
+pub fn spread(
     w: usize,
     h: usize,
     index: &[u32],

@@ -1,6 +1,6 @@
 // The distance field: `watershed_distance_field.rs`. Every function over cells takes the whole field, as the Rust's take `&self`.
 pub mod blur;
-mod cells;
+pub mod cells;
 pub mod distances;
 pub mod pass;
 pub mod start;

@@ -209,7 +209,7 @@ pub fn pass1_row(
 }
 
 // The start and pass 1 over all spans; cells has the cell of each.
-pub(crate) fn pass1(
+pub fn pass1(
     w: usize,
     h: usize,
     index: &[u32],
@@ -336,7 +336,7 @@ pub fn pass2_row(
 }
 
 // Pass 2 over all spans from the last to the first; cells has the cell of each. A cell's layers do not read each other, so their order is free.
-pub(crate) fn pass2(
+pub fn pass2(
     w: usize,
     h: usize,
     index: &[u32],

@@ -7,13 +7,17 @@ use Rattle.rules.specs.Field.{Field}
 use Rattle.rules.specs.Numbering.{Form}
 use Rattle.rules.specs.Outcomes.{RegionOutcome}
 use Rattle.rules.specs.Mend.{MendOutcome}
+use Rattle.rules.specs.Refresh.{StagesOutcome}
+use Rattle.refresh.specs.declared.StagesAnswer.{StagesAnswer}
+use Rattle.refresh.specs.Answer.{stagesRefusedBy, stagesMostIn, stagesGiven}
 use Rattle.watershed.specs.declared.regions.RegionAnswer.{RegionAnswer}
 use Rattle.watershed.specs.Answer.{regionsRefusedBy, maxRegionIn, overlapsIn, cutIn, AnswersRegions, GivesRooms}
 use Rattle.mend.specs.declared.MendAnswer.{MendAnswer}
 use Rattle.mend.specs.Answer.{mendRefusedBy, changesIn, outcome}
+use Rattle.gussetraft.specs.declared.Distances.{Distances}
 use Rattle.gussetraft.specs.declared.Regions.{Regions}
 use Rattle.gussetraft.specs.declared.Mending.{Mending}
-use Rattle.gussetraft.specs.Exported.{GivesRegions, LeavesRooms, GivesMending}
+use Rattle.gussetraft.specs.Exported.{GivesRegions, LeavesRooms, GivesMending, GivesStages}
 
 pub gives-regions : (o : RegionOutcome) (a : RegionAnswer) (r : Regions) (ws ids : List ℕ) → AnswersRegions o a ws ids
     → r .refusal ≡ regionsRefusedBy a → r .«max_region» ≡ maxRegionIn a → r .overlaps ≡ overlapsIn a → r .cut ≡ cutIn a → GivesRegions o r ws ids
@@ -32,4 +36,15 @@ gives-mending o a r con changes p e f =
       many = f ∙ ap (λ v. v .count) p;
       left = ap (λ v. v .con) p;
       listed = ap (λ v. v .changes) p;
+    }
+
+pub gives-stages : (o : StagesOutcome) (a : StagesAnswer) (r : Distances) (p l b : List ℕ) → stagesGiven a p l b ≡ o
+    → r .refusal ≡ stagesRefusedBy a → r .«max_distance» ≡ stagesMostIn a → GivesStages o r p l b
+gives-stages o a r p l b q e f =
+    record {
+      refusal = e ∙ ap (λ v. v .refused) q;
+      most = f ∙ ap (λ v. v .most) q;
+      first = ap (λ v. v .pass1) q;
+      second = ap (λ v. v .raw) q;
+      third = ap (λ v. v .blurred) q;
     }

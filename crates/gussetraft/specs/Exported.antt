@@ -6,6 +6,7 @@ use Rattle.rules.specs.Field.{Field}
 use Rattle.rules.specs.Numbering.{Form}
 use Rattle.rules.specs.Outcomes.{DistanceOutcome, RegionOutcome}
 use Rattle.rules.specs.Mend.{MendOutcome}
+use Rattle.rules.specs.Refresh.{StagesOutcome}
 use Rattle.rooms.specs.Rooms.{Rooms}
 use Rattle.rooms.specs.Dense.{firstIn, pastIn}
 use Rattle.gussetraft.specs.declared.Distances.{Distances}
@@ -35,3 +36,10 @@ pub record GivesMending (o : MendOutcome) (r : Mending) (con changes : List ℕ)
   pub many : r .count ≡ o .count
   pub left : con ≡ o .con
   pub listed : changes ≡ o .changes
+
+pub record GivesStages (o : StagesOutcome) (r : Distances) (pass1 raw blurred : List ℕ) : Type 0 where
+  pub refusal : r .refusal ≡ o .refused
+  pub most : r .«max_distance» ≡ o .most
+  pub first : pass1 ≡ o .pass1
+  pub second : raw ≡ o .raw
+  pub third : blurred ≡ o .blurred

@@ -2,6 +2,9 @@
 use checker::refusal_number;
 use mend::MendAnswer;
 use mend::mend;
+use refresh::StagesAnswer;
+use refresh::build_distance_stages;
+use refresh::into::refresh_into;
 use watershed::DistanceAnswer;
 use watershed::RegionAnswer;
 use watershed::build_distance_field;
@@ -11,10 +14,13 @@ ghost use mathlib.Core.Path.{_≡_};
 ghost use Rattle.rules.specs.Numbering.{dense, compared};
 ghost use Rattle.rules.specs.Outcomes.{Sizes, distanceOutcome, regionOutcome};
 ghost use Rattle.rules.specs.Mend.{mendOutcome};
+ghost use Rattle.rules.specs.Refresh.{stagesOutcome};
 ghost use Rattle.field.specs.Lent.{lent};
 ghost use Rattle.mend.specs.Answer.{mendRefusedBy, changesIn};
+ghost use Rattle.refresh.specs.Answer.{rect, stagesRefusedBy, stagesMostIn};
+ghost use Rattle.refresh.specs.Into.{GivesInto};
 ghost use Rattle.watershed.specs.Answer.{refusedBy, mostIn, regionsRefusedBy, maxRegionIn, overlapsIn, cutIn};
-ghost use Rattle.gussetraft.specs.Exported.{Gives, GivesRegions, LeavesRooms, GivesMending};
+ghost use Rattle.gussetraft.specs.Exported.{Gives, GivesRegions, LeavesRooms, GivesMending, GivesStages};
 
 // The answer of the distance entry: 0 or the refusal number, and max_distance.
 #[repr(C)]
@@ -88,6 +94,21 @@ fn mend_numbers(a: MendAnswer) -> Mending
         MendAnswer::Done(k) => Mending {
             refusal: 0,
             count: k,
+        },
+    }
+}
+
+fn stages_numbers(a: StagesAnswer) -> Distances
+    ensures { λ r. ⌜ (r .refusal ≡ stagesRefusedBy a) × (r .«max_distance» ≡ stagesMostIn a) ⌝ }
+{
+    match a {
+        StagesAnswer::Refused(r) => Distances {
+            refusal: refusal_number(r),
+            max_distance: 0,
+        },
+        StagesAnswer::Done(m) => Distances {
+            refusal: 0,
+            max_distance: m,
         },
     }
 }
@@ -207,4 +228,63 @@ pub extern "C" fn gussetraft_mend(
         GivesMending o r (now (con .exit)) (now (changes .exit))) ⌝ }
 {
     mend_numbers(mend(w, h, index, count, area, con, changes))
+}
+
+#[no_mangle]
+pub extern "C" fn gussetraft_build_distance_stages(
+    w: u16,
+    h: u16,
+    index: &[u32],
+    count: &[u8],
+    area: &[u8],
+    con: &[u8],
+    pass1: &mut [u16],
+    raw: &mut [u16],
+    blurred: &mut [u16],
+) -> Distances
+    ensures { λ r. ⌜ (let F = lent w h (now (index .entry)) (now (count .entry)) (now (area .entry)) (now (con .entry)) in
+        let o = stagesOutcome F (now (pass1 .entry)) (now (raw .entry)) (now (blurred .entry)) in
+        GivesStages o r (now (pass1 .exit)) (now (raw .exit)) (now (blurred .exit))) ⌝ }
+{
+    stages_numbers(build_distance_stages(w, h, index, count, area, con, pass1, raw, blurred))
+}
+
+// The answer's eight numbers are more than every machine returns by value in the same way, so they are written to a list; the refusal is given too.
+#[no_mangle]
+pub extern "C" fn gussetraft_refresh_distance_field_into(
+    w: u16,
+    h: u16,
+    index: &[u32],
+    count: &[u8],
+    area: &[u8],
+    con: &[u8],
+    x0: u16,
+    z0: u16,
+    x1: u16,
+    z1: u16,
+    pass1: &mut [u16],
+    raw: &mut [u16],
+    blurred: &mut [u16],
+    answer: &mut [u16],
+) -> u16
+    ensures { λ r. ⌜ (let F = lent w h (now (index .entry)) (now (count .entry)) (now (area .entry)) (now (con .entry)) in
+        GivesInto F (rect x0 z0 x1 z1) (now (pass1 .entry)) (now (raw .entry)) (now (blurred .entry)) (now (answer .entry))
+        r (now (pass1 .exit)) (now (raw .exit)) (now (blurred .exit)) (now (answer .exit))) ⌝ }
+{
+    refresh_into(
+        w,
+        h,
+        index,
+        count,
+        area,
+        con,
+        x0,
+        z0,
+        x1,
+        z1,
+        pass1,
+        raw,
+        blurred,
+        answer,
+    )
 }

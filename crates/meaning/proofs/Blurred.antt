@@ -37,7 +37,7 @@ unfolding greatest
 greatest-below [] m h = omega arith
 greatest-below (x ∷ l) m h = omega (arith, h 0 (omega arith), greatest-below l m (λ i g. h (suc i) (omega arith)))
 
-none-above : (l : List ℕ) (m : ℕ) → ((i : ℕ) → getD l i 0 ≤ m) → any (ltb m) l ≡ false
+pub none-above : (l : List ℕ) (m : ℕ) → ((i : ℕ) → getD l i 0 ≤ m) → any (ltb m) l ≡ false
 unfolding any _or_
 none-above [] m h = refl
 none-above (x ∷ l) m h = rw (le-ltb m x (h 0)) (none-above l m (λ i. h (suc i)))

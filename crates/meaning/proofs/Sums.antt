@@ -99,6 +99,9 @@ module _ (F : Field) (lens : List ℕ) (ok : Passed F lens) (bytes : Bytes F) wh
   unfolding pass1
   pass1-low = let v = passing (spans F) (omega arith) in record { size = v .size; low = λ t h. omega (arith, v .low t h, column-low F lens ok t h) }
 
+  pub pass1-at-most-510 : (t : ℕ) → t < spans F → far (pass1 F (start F)) t ≤ 510
+  pass1-at-most-510 = pass1-low .low
+
   low-next : (l : List ℕ) (s : ℕ) → s < spans F → Low l → Low (lower F 2 1 1 0 s l)
   low-next l s h v =
       record {

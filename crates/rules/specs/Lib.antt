@@ -17,3 +17,4 @@ pub mod File
 pub mod Listing
 pub mod Open
 pub mod Mend
+pub mod Refresh

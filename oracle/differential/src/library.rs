@@ -2,7 +2,10 @@
 //! too, which the safe package does not hand out.
 
 use gussetraft as _; // links the archive
-use oracle::field::{Field, Settings};
+use oracle::{
+    doors::{Rect, Stages},
+    field::{Field, Settings},
+};
 
 /// What the distance entry answers.
 #[repr(C)]
@@ -76,6 +79,68 @@ unsafe extern "C" {
         con: *mut u8, con_len: usize,
         changes: *mut u16, changes_len: usize,
     ) -> MendAnswer;
+
+    fn gussetraft_build_distance_stages(
+        w: u16, h: u16,
+        index: *const u32, index_len: usize,
+        count: *const u8, count_len: usize,
+        area: *const u8, area_len: usize,
+        con: *const u8, con_len: usize,
+        pass1: *mut u16, pass1_len: usize,
+        raw: *mut u16, raw_len: usize,
+        blurred: *mut u16, blurred_len: usize,
+    ) -> DistanceAnswer;
+
+    fn gussetraft_refresh_distance_field_into(
+        w: u16, h: u16,
+        index: *const u32, index_len: usize,
+        count: *const u8, count_len: usize,
+        area: *const u8, area_len: usize,
+        con: *const u8, con_len: usize,
+        x0: u16, z0: u16, x1: u16, z1: u16,
+        pass1: *mut u16, pass1_len: usize,
+        raw: *mut u16, raw_len: usize,
+        blurred: *mut u16, blurred_len: usize,
+        answer: *mut u16, answer_len: usize,
+    ) -> u16;
+}
+
+/// The build of all three lists.
+#[rustfmt::skip]
+pub fn stages(field: &Field, lists: &mut Stages) -> DistanceAnswer {
+    // SAFETY: as below.
+    unsafe {
+        gussetraft_build_distance_stages(
+            field.w, field.h,
+            field.index.as_ptr(), field.index.len(),
+            field.count.as_ptr(), field.count.len(),
+            field.area.as_ptr(), field.area.len(),
+            field.con.as_ptr(), field.con.len(),
+            lists.pass1.as_mut_ptr(), lists.pass1.len(),
+            lists.raw.as_mut_ptr(), lists.raw.len(),
+            lists.blurred.as_mut_ptr(), lists.blurred.len(),
+        )
+    }
+}
+
+/// The refresh, its numbers in a lent list.
+#[rustfmt::skip]
+pub fn refresh(field: &Field, rect: Rect, lists: &mut Stages, answer: &mut [u16]) -> u16 {
+    // SAFETY: as below.
+    unsafe {
+        gussetraft_refresh_distance_field_into(
+            field.w, field.h,
+            field.index.as_ptr(), field.index.len(),
+            field.count.as_ptr(), field.count.len(),
+            field.area.as_ptr(), field.area.len(),
+            field.con.as_ptr(), field.con.len(),
+            rect.x0, rect.z0, rect.x1, rect.z1,
+            lists.pass1.as_mut_ptr(), lists.pass1.len(),
+            lists.raw.as_mut_ptr(), lists.raw.len(),
+            lists.blurred.as_mut_ptr(), lists.blurred.len(),
+            answer.as_mut_ptr(), answer.len(),
+        )
+    }
 }
 
 /// The distance entry.

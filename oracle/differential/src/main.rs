@@ -1,6 +1,7 @@
 //! Compares what is proved with the unchanged Rust, and with the models of document 02, on fields by seed. `oracle/compare` runs it.
 
 mod calls;
+mod doors;
 mod edited;
 mod faults;
 mod files;
@@ -22,6 +23,7 @@ struct Order {
     small: u64,
     large: u64,
     edited: u64,
+    doors: u64,
     seed: u64,
 }
 
@@ -65,7 +67,11 @@ fn run() -> Result<bool, String> {
     if files.fields > 0 {
         print!("files mended by kind, and their answers:\n{files}");
     }
-    if [&small, &large, &winding, &edited, &files]
+    let doors = doors::compare(seed, order.doors);
+    if doors.fields > 0 {
+        print!("refreshes by kind, and their answers:\n{doors}");
+    }
+    if [&small, &large, &winding, &edited, &files, &doors]
         .iter()
         .any(|tally| tally.is_enough())
     {
@@ -75,13 +81,15 @@ fn run() -> Result<bool, String> {
         + large.differences
         + winding.differences
         + edited.differences
-        + files.differences;
+        + files.differences
+        + doors.differences;
     println!(
-        "compared {} small, {} large, {} edited fields, {} files mended: {differences} differences",
+        "compared {} small, {} large, {} edited fields, {} files mended, {} fields with doors: {differences} differences",
         small.fields,
         large.fields + winding.fields,
         edited.fields,
-        files.fields
+        files.fields,
+        doors.fields
     );
     Ok(differences == 0)
 }
@@ -95,6 +103,7 @@ fn order() -> Result<Order, String> {
         small: 20_000,
         large: 38,
         edited: 7_000,
+        doors: 3_000,
         seed: 0,
     };
     while let Some(option) = arguments.next() {
@@ -108,6 +117,7 @@ fn order() -> Result<Order, String> {
             "--small" => order.small = number,
             "--large" => order.large = number,
             "--edited" => order.edited = number,
+            "--doors" => order.doors = number,
             "--seed" => order.seed = number,
             _ => {
                 return Err(format!(

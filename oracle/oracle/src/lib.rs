@@ -1,6 +1,7 @@
 //! Answers of the unchanged Rust watershed, in the terms of document 01.
 
 pub mod damage;
+pub mod doors;
 pub mod field;
 pub mod file;
 pub mod levels;

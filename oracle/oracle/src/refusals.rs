@@ -22,12 +22,16 @@ pub enum Refusal {
     WorkspaceTooShort = 7,
     /// The greatest distance is above 510, or a distance above the greatest.
     DistanceTooGreat = 8,
+    /// A rectangle that is empty or not in the field.
+    WrongRect = 11,
     /// A file with an unknown or misplaced record, cut short, or with bytes after the end.
     BadFile = 20,
     /// A file with too many cells or spans for the program.
     FileTooLarge = 21,
     /// More changes than the list of changes has places.
     NoRoom = 27,
+    /// A stored pass 1 or raw value above 510.
+    WrongStored = 31,
 }
 
 impl fmt::Display for Refusal {
@@ -48,7 +52,7 @@ pub fn workspace_needed(spans: usize) -> usize {
 
 /// Whether the distance entry refuses the field, lent lists of these lengths to write to.
 pub fn distance_entry(field: &Field, raw_len: usize, blurred_len: usize) -> Result<(), Refusal> {
-    field_with_lists(field, [raw_len, blurred_len])
+    field_with_lists(field, &[raw_len, blurred_len])
 }
 
 /// Whether the region entry refuses the field, lent these distances and lists of these lengths to write to.
@@ -59,7 +63,7 @@ pub fn region_entry(
     ids_len: usize,
     workspace_len: usize,
 ) -> Result<(), Refusal> {
-    field_with_lists(field, [distances.len(), ids_len])?;
+    field_with_lists(field, &[distances.len(), ids_len])?;
     require(
         workspace_len >= workspace_needed(field.spans()),
         Refusal::WorkspaceTooShort,
@@ -70,8 +74,8 @@ pub fn region_entry(
 }
 
 /// Refusals 1 to 6. The lists beside the field's own have one entry a span.
-fn field_with_lists(field: &Field, span_lists: [usize; 2]) -> Result<(), Refusal> {
-    cells_with_lists(field, &span_lists)?;
+pub fn field_with_lists(field: &Field, span_lists: &[usize]) -> Result<(), Refusal> {
+    cells_with_lists(field, span_lists)?;
     require(
         every_connection(field, stays_inside),
         Refusal::ConnectionAstray,

@@ -1,14 +1,15 @@
 //! side levels|growing FOLDER: writes the levels. side gussetraft|checker|rust distance|regions FILE: runs the distance entry, or both, on one.
-//! side time FILE [LIBRARY]: the least times of all on one, C++ Recast being in that library.
+//! side time FILE [LIBRARY]: the least times of all on one, C++ Recast being in that library. side door build|refresh|time N: a door in buildings of some N spans.
 
 use side::{
+    door,
     measured::{compare, mark, read_level, write_levels},
     run::{self, Entries},
     timed::{self, Recast},
 };
 use std::env;
 
-const USAGE: &str = "side levels|growing FOLDER, side gussetraft|checker|rust distance|regions FILE, or side time FILE [LIBRARY]";
+const USAGE: &str = "side levels|growing FOLDER, side gussetraft|checker|rust distance|regions FILE, side time FILE [LIBRARY], or side door build|refresh|time N";
 
 fn main() {
     let words: Vec<_> = env::args().skip(1).collect();
@@ -26,6 +27,15 @@ fn main() {
                 "{}",
                 timed::line(&timed::times(&read_level(path), path, Some(&recast)))
             );
+        }
+        ["door", what, n] => {
+            let n = n.parse().expect(USAGE);
+            match what {
+                "build" => door::counted(n, false, mark),
+                "refresh" => door::counted(n, true, mark),
+                "time" => println!("{}", door::timed(n)),
+                _ => panic!("{USAGE}"),
+            }
         }
         [who, entries, path] => {
             let entries = match entries {

@@ -1,0 +1,4 @@
+pub mod Part
+pub mod Redo
+pub mod Answer
+pub mod Into

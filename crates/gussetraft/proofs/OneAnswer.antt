@@ -72,8 +72,8 @@ one-refresh-answer F q p₀ r₀ b₀ a₀ k j p r b a p′ r′ b′ a′ u v =
       | no n ↦ (
         u .other n ∙ sym (v .other n),
         u .as-was n .0 ∙ sym (v .as-was n .0),
-        u .as-was n .1 .0 ∙ sym (v .as-was n .1 .0),
-        u .as-was n .1 .1 .0 ∙ sym (v .as-was n .1 .1 .0),
-        u .as-was n .1 .1 .1 ∙ sym (v .as-was n .1 .1 .1),
+        u .as-was n .1 ∙ sym (v .as-was n .1),
+        u .as-was n .2 ∙ sym (v .as-was n .2),
+        u .as-was n .3 ∙ sym (v .as-was n .3),
       )
     ]

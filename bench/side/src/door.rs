@@ -26,6 +26,21 @@ pub fn side_door_refresh(
     refresh_distance_field(field, door, stages)
 }
 
+/// The checks of a refresh and nothing else: refused for a rectangle that goes past the last column, which is asked after all of them.
+#[unsafe(no_mangle)]
+#[inline(never)]
+pub fn side_door_checks(
+    field: &gussetraft::Field,
+    door: Rect,
+    stages: &mut Stages,
+) -> Result<Refreshed, Refusal> {
+    let past = Rect {
+        x1: field.w,
+        ..door
+    };
+    refresh_distance_field(field, past, stages)
+}
+
 /// The three lists.
 #[derive(Debug, Clone, Default, PartialEq, Eq)]
 struct Lists {
@@ -98,6 +113,16 @@ pub fn counted(n: usize, refreshed: bool, mark: impl Fn(u64)) {
     let built = build_distance_stages(&lent(&field), &mut other.stages());
     assert_eq!(most, built);
     assert_eq!(lists, other, "a refresh does not give what a build gives");
+}
+
+/// The checks of a refresh.
+pub fn checked(n: usize, mark: impl Fn(u64)) {
+    let (field, door) = level(n);
+    let mut kept = Lists::new(field.spans());
+    mark(901);
+    let refused = side_door_checks(&lent(&field), door, &mut kept.stages());
+    mark(2);
+    assert_eq!(refused, Err(Refusal::WrongRect));
 }
 
 /// The number of spans, the rows of the field, those redone in pass 1, pass 2 and the blur, and the least nanoseconds of a build and of a refresh.

@@ -404,15 +404,16 @@ fn an_empty_field_takes_empty_lists() {
 
 #[test]
 fn a_refusal_names_its_number_and_meaning() {
-    for (number, refusal) in (1..=8).chain([27]).zip(Refusal::ALL) {
-        assert_eq!(refusal.number(), number);
+    let numbers: Vec<u16> = (1..=8).chain([11, 27, 31]).collect();
+    assert_eq!(Refusal::ALL.map(Refusal::number)[..], numbers);
+    for (number, refusal) in numbers.into_iter().zip(Refusal::ALL) {
         assert_eq!(Refusal::from_number(number), Some(refusal));
         assert_eq!(
             refusal.to_string(),
             format!("refused {number}: {}", refusal.meaning())
         );
     }
-    for number in [0, 9, 20, 21, 26, 28, u16::MAX] {
+    for number in [0, 9, 10, 20, 21, 26, 28, 30, 32, u16::MAX] {
         assert_eq!(Refusal::from_number(number), None);
     }
     assert_eq!(

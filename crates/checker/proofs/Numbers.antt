@@ -33,6 +33,19 @@ number-low TooFar = omega arith
 number-low NoIds = omega arith
 number-low NoSum = omega arith
 
+-- 11 is the refresh's own
+pub number-not-11 : (r : Refusal) → numberOf r ≡ 11 → ⊥
+number-not-11 TooWide e = omega arith
+number-not-11 TooMany e = omega arith
+number-not-11 WrongLength e = omega arith
+number-not-11 WrongCells e = omega arith
+number-not-11 WrongReach e = omega arith
+number-not-11 WrongBack e = omega arith
+number-not-11 TooShort e = omega arith
+number-not-11 TooFar e = omega arith
+number-not-11 NoIds e = omega arith
+number-not-11 NoSum e = omega arith
+
 -- the table of the refusals, by number
 table : List Refusal
 table = TooWide ∷ TooWide ∷ TooMany ∷ WrongLength ∷ WrongCells ∷ WrongReach ∷ WrongBack ∷ TooShort ∷ TooFar ∷ TooWide ∷ TooWide ∷ TooWide ∷ NoIds ∷ NoSum ∷ []

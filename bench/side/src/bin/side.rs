@@ -1,5 +1,5 @@
 //! side levels|growing FOLDER: writes the levels. side gussetraft|checker|rust distance|regions FILE: runs the distance entry, or both, on one.
-//! side time FILE [LIBRARY]: the least times of all on one, C++ Recast being in that library. side door build|refresh|time N: a door in buildings of some N spans.
+//! side time FILE [LIBRARY]: the least times of all on one, C++ Recast being in that library. side door build|refresh|checks|time N: a door in buildings of some N spans.
 
 use side::{
     door,
@@ -9,7 +9,7 @@ use side::{
 };
 use std::env;
 
-const USAGE: &str = "side levels|growing FOLDER, side gussetraft|checker|rust distance|regions FILE, side time FILE [LIBRARY], or side door build|refresh|time N";
+const USAGE: &str = "side levels|growing FOLDER, side gussetraft|checker|rust distance|regions FILE, side time FILE [LIBRARY], or side door build|refresh|checks|time N";
 
 fn main() {
     let words: Vec<_> = env::args().skip(1).collect();
@@ -33,6 +33,7 @@ fn main() {
             match what {
                 "build" => door::counted(n, false, mark),
                 "refresh" => door::counted(n, true, mark),
+                "checks" => door::checked(n, mark),
                 "time" => println!("{}", door::timed(n)),
                 _ => panic!("{USAGE}"),
             }

@@ -7,10 +7,10 @@ use Rattle.limits.proofs.fields.count_up.Statement.{statement}
 use Rattle.limits.proofs.fields.count_up.Tie as tie
 
 abbrev Inv-loop : tie.InvT-loop
-Inv-loop l₀ i₀ i-end l i = (i-end ≡ length l) × (i ≤ i-end) × (length l ≡ length l₀)
+Inv-loop l₀ step i₀ i-end l i = (i-end ≡ length l) × (i ≤ i-end) × (length l ≡ length l₀)
 
 abbrev μ-loop : tie.MeasureT-loop
-μ-loop l₀ i₀ i-end l i = i-end - i
+μ-loop l₀ step i₀ i-end l i = i-end - i
 
 loop-holds : tie.Need-loop-holds Inv-loop μ-loop
 loop-holds c = search needs

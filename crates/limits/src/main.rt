@@ -12,7 +12,7 @@ use fields::LAYERS_AREA;
 use fields::LAYERS_CON;
 use fields::LAYERS_COUNT;
 use fields::LAYERS_INDEX;
-use fields::count_up;
+use fields::count_in_twos;
 use regions::distances;
 use regions::regions;
 use show::run;
@@ -46,7 +46,7 @@ fn sides() {
 // Refusal 2: 250 by 130 cells of two spans each.
 fn spans() {
     let mut index = [0u32; 32500];
-    count_up(&mut index, 2);
+    count_in_twos(&mut index);
     run(
         b"n 65,000",
         250,

@@ -3,14 +3,14 @@ use Prim.Native.Nat.{_-_, _≤_}
 use mathlib.Core.Path.{_≡_}
 use lib.ListN.{length}
 use borrow.Author.Needs.{needs}
-use Rattle.limits.proofs.fields.count_up.Statement.{statement}
-use Rattle.limits.proofs.fields.count_up.Tie as tie
+use Rattle.limits.proofs.fields.count_in_twos.Statement.{statement}
+use Rattle.limits.proofs.fields.count_in_twos.Tie as tie
 
 abbrev Inv-loop : tie.InvT-loop
-Inv-loop l₀ step i₀ i-end l i = (i-end ≡ length l) × (i ≤ i-end) × (length l ≡ length l₀)
+Inv-loop l₀ i₀ i-end l i = (i-end ≡ length l) × (i ≤ i-end) × (length l ≡ length l₀)
 
 abbrev μ-loop : tie.MeasureT-loop
-μ-loop l₀ step i₀ i-end l i = i-end - i
+μ-loop l₀ i₀ i-end l i = i-end - i
 
 loop-holds : tie.Need-loop-holds Inv-loop μ-loop
 loop-holds c = search needs
@@ -39,8 +39,8 @@ same-length c = search needs
 returns : tie.Need-returns Inv-loop μ-loop
 returns c = search needs
 
-pub count-up-spec : {M : Type 1} → statement M
-count-up-spec =
+pub count-in-twos-spec : {M : Type 1} → statement M
+count-in-twos-spec =
     tie.close
     (tie.spec
     Inv-loop

@@ -21,6 +21,9 @@ cast-l c = search needs
 mul-l : tie.Need-mul-l Inv-loop μ-loop
 mul-l c = search needs
 
+mul-l-2 : tie.Need-mul-l-2 Inv-loop μ-loop
+mul-l-2 c = search needs
+
 slice-write-l : tie.Need-slice-write-l Inv-loop μ-loop
 slice-write-l c = search needs
 
@@ -48,6 +51,7 @@ count-in-twos-spec =
     loop-holds
     cast-l
     mul-l
+    mul-l-2
     slice-write-l
     add-i
     loop-less

@@ -33,11 +33,12 @@ extern "C" {
 /* The least number of elements of the workspace, for n spans. */
 #define GUSSETRAFT_WORKSPACE_LEN(n) ((size_t)128 * (size_t)(n) + (size_t)4096)
 
-/* Refusals, looked for in this order; the first that applies is given. 7 and 8 are given by the two region functions alone, 11 and 31 by
- * gussetraft_refresh_distance_field alone, 27 by gussetraft_mend alone, which gives 1 to 4 beside it. */
+/* Refusals, looked for in this order; the first that applies is given. 7, 8, 12 and 13 are given by the two region functions alone, 11 and 31 by
+ * gussetraft_refresh_distance_field alone, 27 by gussetraft_mend alone, which gives 1 to 4 beside it. A refused call changes nothing that was
+ * lent, but 12 and 13 leave a workspace of zeros. */
 enum {
     GUSSETRAFT_TOO_WIDE = 1,     /* w or h above 256 */
-    GUSSETRAFT_TOO_MANY = 2,     /* n above 32,000 */
+    GUSSETRAFT_TOO_MANY = 2,     /* n above 65,000 */
     GUSSETRAFT_WRONG_LENGTH = 3, /* a list has the wrong length: w*h (index, count), n (pass1, raw, blurred, dist, ids) or 4*n (con) */
     GUSSETRAFT_WRONG_CELLS = 4,  /* a cell's count is above 63, a nonempty cell's index is wrong, or the counts do not sum to n */
     GUSSETRAFT_WRONG_REACH = 5,  /* a connection leaves the grid or names a layer that the cell lacks */
@@ -45,6 +46,8 @@ enum {
     GUSSETRAFT_TOO_SHORT = 7,    /* workspace_len is below GUSSETRAFT_WORKSPACE_LEN(n) */
     GUSSETRAFT_TOO_FAR = 8,      /* max_distance is above 510, or a distance is above max_distance */
     GUSSETRAFT_WRONG_RECT = 11,  /* the rectangle is empty or not in the field */
+    GUSSETRAFT_NO_IDS = 12,      /* a successful flood would make the next id 0x8000; never with at most 32,000 spans */
+    GUSSETRAFT_NO_SUM = 13,      /* a source distance in expansion would exceed 65,535; never with at most 32,000 spans */
     GUSSETRAFT_NO_ROOM = 27,     /* there are more changes than places in their list */
     GUSSETRAFT_WRONG_STORED = 31 /* a stored pass 1 or raw value is above 510 */
 };
@@ -54,7 +57,7 @@ static inline const char *gussetraft_refusal_text(uint16_t refusal) {
     switch (refusal) {
     case 0: return "not refused";
     case GUSSETRAFT_TOO_WIDE: return "the width or the height is above 256";
-    case GUSSETRAFT_TOO_MANY: return "there are more than 32,000 spans";
+    case GUSSETRAFT_TOO_MANY: return "there are more than 65,000 spans";
     case GUSSETRAFT_WRONG_LENGTH: return "a list other than the workspace has the wrong length";
     case GUSSETRAFT_WRONG_CELLS: return "a cell's count is above 63, its index is wrong, or the counts do not sum to the number of spans";
     case GUSSETRAFT_WRONG_REACH: return "a connection leaves the grid or names a layer that the cell lacks";
@@ -62,6 +65,8 @@ static inline const char *gussetraft_refusal_text(uint16_t refusal) {
     case GUSSETRAFT_TOO_SHORT: return "the workspace is shorter than 128 numbers a span and 4,096";
     case GUSSETRAFT_TOO_FAR: return "the greatest distance is above 510, or a distance is above the greatest";
     case GUSSETRAFT_WRONG_RECT: return "the rectangle is empty or not in the field";
+    case GUSSETRAFT_NO_IDS: return "ids run out: a successful flood would make the next id 0x8000";
+    case GUSSETRAFT_NO_SUM: return "a source distance in expansion would exceed 65,535";
     case GUSSETRAFT_WRONG_STORED: return "a stored pass 1 or raw value is above 510";
     case GUSSETRAFT_NO_ROOM: return "there are more changes than places in their list";
     default: return "no such refusal";
@@ -165,7 +170,7 @@ typedef struct {
 
 /* Writes the region id of each span; 0 is none. dist and max_distance are the blurred distances and the number that
  * gussetraft_build_distance_field gives, or any others up to 510. What the workspace holds before does not matter; where the call is
- * not refused it holds zeros after, all of it. The two areas are numbers of spans. */
+ * not refused it holds zeros after, all of it (so too where it is refused 12 or 13). The two areas are numbers of spans. */
 gussetraft_region_answer gussetraft_build_regions(
     uint16_t w, uint16_t h,
     const uint32_t *index, size_t index_len,

@@ -75,7 +75,7 @@ pub struct Field<'a> {
     pub index: &'a [u32],
     /// For each cell, how many spans it has, 63 at most.
     pub count: &'a [u8],
-    /// For each span its area; [`NOT_WALKABLE`] is 0. There are 32,000 spans at most.
+    /// For each span its area; [`NOT_WALKABLE`] is 0. There are 65,000 spans at most.
     pub area: &'a [u8],
     /// For each span four bytes, in the directions (-1, 0), (0, 1), (1, 0), (0, -1): a layer of the cell there, or
     /// [`NO_CONNECTION`]. Each connection must be answered from the other side. (`<[[u8; 4]]>::as_flattened` gives such a
@@ -107,7 +107,7 @@ pub struct Regions {
     pub cut: u16,
 }
 
-/// Why a call was refused. Every lent list then holds what it held before.
+/// Why a call was refused. Every lent list then holds what it held before; but after 12 and 13 the workspace holds zeros.
 ///
 /// They are looked for in this order, and the first that applies is given.
 #[derive(Debug, Clone, Copy, PartialEq, Eq, PartialOrd, Ord, Hash)]
@@ -115,7 +115,7 @@ pub struct Regions {
 pub enum Refusal {
     /// 1: the width or the height is above 256.
     TooWide = 1,
-    /// 2: there are more than 32,000 spans.
+    /// 2: there are more than 65,000 spans.
     TooMany = 2,
     /// 3: a list other than the workspace has the wrong length.
     WrongLength = 3,
@@ -131,6 +131,10 @@ pub enum Refusal {
     TooFar = 8,
     /// 11: the rectangle is empty or not in the field.
     WrongRect = 11,
+    /// 12: ids run out: a successful flood would make the next id 0x8000. Never with at most 32,000 spans.
+    NoIds = 12,
+    /// 13: a source distance in expansion would exceed 65,535. Never with at most 32,000 spans.
+    NoSum = 13,
     /// 27: there are more changes than places in their list.
     NoRoom = 27,
     /// 31: a stored pass 1 or raw value is above 510.
@@ -139,7 +143,7 @@ pub enum Refusal {
 
 impl Refusal {
     /// Every refusal, in the order of the numbers.
-    pub const ALL: [Self; 11] = [
+    pub const ALL: [Self; 13] = [
         Self::TooWide,
         Self::TooMany,
         Self::WrongLength,
@@ -149,11 +153,13 @@ impl Refusal {
         Self::TooShort,
         Self::TooFar,
         Self::WrongRect,
+        Self::NoIds,
+        Self::NoSum,
         Self::NoRoom,
         Self::WrongStored,
     ];
 
-    /// The number, 1 to 8, 11, 27 or 31.
+    /// The number, 1 to 8, 11 to 13, 27 or 31.
     pub const fn number(self) -> u16 {
         self as u16
     }
@@ -163,6 +169,8 @@ impl Refusal {
         match number {
             1..=8 => Some(Self::ALL[number as usize - 1]),
             11 => Some(Self::WrongRect),
+            12 => Some(Self::NoIds),
+            13 => Some(Self::NoSum),
             27 => Some(Self::NoRoom),
             31 => Some(Self::WrongStored),
             _ => None,
@@ -173,7 +181,7 @@ impl Refusal {
     pub const fn meaning(self) -> &'static str {
         match self {
             Self::TooWide => "the width or the height is above 256",
-            Self::TooMany => "there are more than 32,000 spans",
+            Self::TooMany => "there are more than 65,000 spans",
             Self::WrongLength => "a list other than the workspace has the wrong length",
             Self::WrongCells => {
                 "a cell's count is above 63, its index is wrong, or the counts do not sum to the number of spans"
@@ -185,6 +193,8 @@ impl Refusal {
                 "the greatest distance is above 510, or a distance is above the greatest"
             }
             Self::WrongRect => "the rectangle is empty or not in the field",
+            Self::NoIds => "ids run out: a successful flood would make the next id 0x8000",
+            Self::NoSum => "a source distance in expansion would exceed 65,535",
             Self::WrongStored => "a stored pass 1 or raw value is above 510",
             Self::NoRoom => "there are more changes than places in their list",
         }

@@ -334,13 +334,13 @@ fn noise() {
 fn limits_and_one_past_them() {
     let apart = |spans: usize| Field {
         w: 250,
-        h: 128,
-        index: (0..32_000).collect(),
-        count: vec![1; 32_000],
+        h: 130,
+        index: (0..32_500).map(|cell| 2 * cell).collect(),
+        count: vec![2; 32_500],
         area: vec![1; spans],
         con: vec![255; 4 * spans],
     };
-    for n in [32_000, 32_001] {
+    for n in [65_000, 65_001] {
         let field = apart(n);
         let name = format!("n {n}");
         check_distances(&name, &field, n, n);
@@ -404,7 +404,7 @@ fn an_empty_field_takes_empty_lists() {
 
 #[test]
 fn a_refusal_names_its_number_and_meaning() {
-    let numbers: Vec<u16> = (1..=8).chain([11, 27, 31]).collect();
+    let numbers: Vec<u16> = (1..=8).chain([11, 12, 13, 27, 31]).collect();
     assert_eq!(Refusal::ALL.map(Refusal::number)[..], numbers);
     for (number, refusal) in numbers.into_iter().zip(Refusal::ALL) {
         assert_eq!(Refusal::from_number(number), Some(refusal));
@@ -443,7 +443,7 @@ fn calls_on_several_threads() {
 #[test]
 fn the_workspace_of_too_many_spans_is_no_wrapped_number() {
     assert_eq!(workspace_len(0), 4_096);
-    assert_eq!(workspace_len(32_000), 4_100_096);
+    assert_eq!(workspace_len(65_000), 8_324_096);
     assert_eq!(workspace_len(usize::MAX), usize::MAX);
 }
 

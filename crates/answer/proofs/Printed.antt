@@ -4,15 +4,16 @@ use Prim.Native.Nat.{ℕ, zero, suc, _+_, _*_, _≤_}
 use native.Mathlib.Omega.{arith}
 use native.Mathlib.Decide.{ℕ-discrete}
 use mathlib.Core.Path.{_≡_, refl, sym, ap, subst, _∙_}
+use mathlib.Core.Bool.{true, false, not}
 use mathlib.Core.List.{List, [], _∷_, _++_}
 use lib.ListN.{length, take, replicate, length-replicate, length-take}
 use lib.Dec.{eqb}
-use borrow.Author.Tests.{eq-eqb, ne-eqb, eqb-true, eqb-false}
+use borrow.Author.Tests.{eq-eqb, ne-eqb, eqb-true, eqb-false, not-true, not-false}
 use Rattle.rules.specs.Base.{if_then_else_}
 use Rattle.rules.specs.Field.{Field, spans}
 use Rattle.rules.specs.Refusals.{refusal, regionRefusal}
 use Rattle.rules.specs.Distance.{raw as rawOf, greatest, blur}
-use Rattle.rules.specs.Growth.{grown}
+use Rattle.rules.specs.Growth.{grown, stops}
 use Rattle.rules.specs.Numbering.{dense, regions, formed}
 use Rattle.rules.specs.Outcomes.{Sizes, DistanceOutcome, RegionOutcome, distanceOutcome, regionOutcome}
 use Rattle.rules.specs.File.{refused, described, readFile}
@@ -77,8 +78,11 @@ regions-accepted : (F : Field) (dist : List ℕ) (most : ℕ) (z : Sizes) (ws id
 unfolding regionOutcome
 regions-accepted F dist most z ws ids =
     if-ind (λ (o : RegionOutcome). o .refused ≡ 0 → refusal F (length dist ∷ length ids ∷ []) ≡ 0)
-    (eqb (regionRefusal F (length dist ∷ length ids ∷ []) (length ws) dist most) 0)
-    (λ e _. accepted F (length dist ∷ length ids ∷ []) (length ws) dist most (eqb-true _ _ e)) (λ e h. absurd (eqb-false _ _ e h))
+    (not (eqb (regionRefusal F (length dist ∷ length ids ∷ []) (length ws) dist most) 0))
+    (λ e h. absurd (eqb-false _ _ (not-true _ e) h))
+    (λ e. if-ind (λ (o : RegionOutcome). o .refused ≡ 0 → refusal F (length dist ∷ length ids ∷ []) ≡ 0) (not (eqb (stops F dist most (z .border)) 0))
+    (λ u h. absurd (eqb-false _ _ (not-true _ u) h))
+    (λ _ _. accepted F (length dist ∷ length ids ∷ []) (length ws) dist most (eqb-true _ _ (not-false _ e))))
 
 -- the field is as the listing needs it
 pub listable : (w h : ℕ) (is ks ar cs dist : List ℕ) (most : ℕ) (z : Sizes) (ws ids ws′ ids′ out : List ℕ) (x : RegionAnswer) (m o u : ℕ) → Fitting w h ar ids out
@@ -115,16 +119,29 @@ module _ (F : Field) (raw bl : List ℕ) where
       (λ e _. eqb-true _ _ e) (λ e h. absurd (eqb-false _ _ e h))
 
 module _ (F : Field) (z : Sizes) (dist : List ℕ) (most : ℕ) (ws ids : List ℕ) where
-  second-listed : regionRefusal F (length dist ∷ length ids ∷ []) (length ws) dist most ≡ 0
+  passes : regionRefusal F (length dist ∷ length ids ∷ []) (length ws) dist most ≡ 0 → not (eqb (regionRefusal F (length dist ∷ length ids ∷ []) (length ws) dist most) 0) ≡ false
+  passes e = rw (eq-eqb (regionRefusal F (length dist ∷ length ids ∷ []) (length ws) dist most) 0 e) refl
+
+  second-listed : regionRefusal F (length dist ∷ length ids ∷ []) (length ws) dist most ≡ 0 → stops F dist most (z .border) ≡ 0
       → let v = formed dense (regions F (z .least) (z .merge) (grown F dist most (z .border) .ids) (grown F dist most (z .border) .next)) in
       second F dist most z ws ids ≡ listing F most (record { refused = 0; most = v .most; over = v .over; cut = v .cut; workspace = replicate (length ws) 0; ids = v .ids })
   unfolding second regionOutcome if_then_else_
-  second-listed e = rw (eq-eqb _ 0 e)
+  second-listed e o = let p : not (eqb (stops F dist most (z .border)) 0) ≡ false = rw (eq-eqb (stops F dist most (z .border)) 0 o) refl in rw (passes e, p)
+
+  second-stopped : regionRefusal F (length dist ∷ length ids ∷ []) (length ws) dist most ≡ 0 → (stops F dist most (z .border) ≡ 0 → ⊥)
+      → second F dist most z ws ids ≡ refusedLine (stops F dist most (z .border))
+  unfolding second regionOutcome if_then_else_
+  second-stopped e o =
+      let f = ne-eqb (stops F dist most (z .border)) 0 o in
+      let p : not (eqb (stops F dist most (z .border)) 0) ≡ true = rw f refl in
+      rw (passes e, p, f)
 
   region-number : (regionRefusal F (length dist ∷ length ids ∷ []) (length ws) dist most ≡ 0 → ⊥)
       → regionOutcome dense F dist most z ws ids .refused ≡ regionRefusal F (length dist ∷ length ids ∷ []) (length ws) dist most
   unfolding regionOutcome if_then_else_
-  region-number e = rw (ne-eqb _ 0 e)
+  region-number e =
+      let p : not (eqb (regionRefusal F (length dist ∷ length ids ∷ []) (length ws) dist most) 0) ≡ true = rw (ne-eqb (regionRefusal F (length dist ∷ length ids ∷ []) (length ws) dist most) 0 e) refl in
+      rw p
 
   second-number : (regionRefusal F (length dist ∷ length ids ∷ []) (length ws) dist most ≡ 0 → ⊥)
       → second F dist most z ws ids ≡ refusedLine (regionRefusal F (length dist ∷ length ids ∷ []) (length ws) dist most)
@@ -137,7 +154,10 @@ second-same : (F : Field) (z : Sizes) (dist : List ℕ) (most : ℕ) (ws ids ws�
 second-same F z dist most ws ids ws₂ ids₂ p q =
     let e : regionRefusal F (length dist ∷ length ids ∷ []) (length ws) dist most ≡ regionRefusal F (length dist ∷ length ids₂ ∷ []) (length ws₂) dist most = rw (p, q) in
     elim (ℕ-discrete (regionRefusal F (length dist ∷ length ids ∷ []) (length ws) dist most) 0) [
-      | yes h ↦ second-listed F z dist most ws ids h ∙ rw p (sym (second-listed F z dist most ws₂ ids₂ (sym e ∙ h)))
+      | yes h ↦ elim (ℕ-discrete (stops F dist most (z .border)) 0) [
+        | yes o ↦ second-listed F z dist most ws ids h o ∙ rw p (sym (second-listed F z dist most ws₂ ids₂ (sym e ∙ h) o))
+        | no o ↦ second-stopped F z dist most ws ids h o ∙ sym (second-stopped F z dist most ws₂ ids₂ (sym e ∙ h) o)
+      ]
       | no h ↦ second-number F z dist most ws ids (λ y. h y) ∙ ap refusedLine e ∙ sym (second-number F z dist most ws₂ ids₂ (λ y. h (e ∙ y)))
     ]
 

@@ -14,6 +14,7 @@ use mir.Val.{Fits}
 use mir.Syntax.{w64}
 use Rattle.rules.specs.Base.{_and_, if_then_else_}
 use Rattle.rules.specs.Field.{Field, spans, conOf}
+use Rattle.rules.specs.Refusals.{mostSpans}
 use Rattle.laws.proofs.Basics.{if-ind, tests, getD-any, and-no}
 use Rattle.field.proofs.Loops.{and-yes}
 use Rattle.checker.specs.Links.{howMany, inHalf, linksIn}
@@ -109,7 +110,7 @@ pub parts-turn : (cs : List ℕ) (o b k m r : ℕ) → k ≡ linksIn cs o 0 b �
 unfolding linksIn
 parts-turn cs o b k m r e f = rw (e, f, from-start cs o b, from-start cs o (b + m)) (sym (many-join b m (inHalf cs o)))
 
-pub parts-fit : (cs : List ℕ) (o b k m n r : ℕ) → k ≡ linksIn cs o 0 b → r ≡ linksIn cs o b m → b + m ≤ n → n ≤ 128000 → Fits w64 (k + r)
+pub parts-fit : (cs : List ℕ) (o b k m n r : ℕ) → k ≡ linksIn cs o 0 b → r ≡ linksIn cs o b m → b + m ≤ n → n ≤ 4 * mostSpans → Fits w64 (k + r)
 unfolding linksIn
 parts-fit cs o b k m n r e f h g = omega (arith, many-le b (λ j. inHalf cs o (0 + j)), many-le m (λ j. inHalf cs o (b + j)))
 

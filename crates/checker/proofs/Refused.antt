@@ -9,7 +9,7 @@ use lib.ListN.{length}
 use borrow.Author.Tests.{lt-ltb, le-ltb}
 use Rattle.rules.specs.Base.{_and_, _or_, if_then_else_, every}
 use Rattle.rules.specs.Field.{Field, spans}
-use Rattle.rules.specs.Refusals.{goodCells, tooWide, tooMany, wrongLength, wrongCells, wrongReach, wrongBack, refusal}
+use Rattle.rules.specs.Refusals.{goodCells, tooWide, tooMany, wrongLength, wrongCells, wrongReach, wrongBack, refusal, mostSpans}
 use Rattle.laws.proofs.Basics.{both}
 use Rattle.field.proofs.Passed.{lengths, celled-of}
 use Rattle.field.specs.Lent.{Celled, lent}
@@ -21,9 +21,9 @@ not-wide : (F : Field) → F .w ≤ 256 → F .h ≤ 256 → tooWide F ≡ false
 unfolding tooWide _or_
 not-wide F p q = rw (le-ltb 256 (F .w) p, le-ltb 256 (F .h) q)
 
-not-many : (F : Field) → spans F ≤ 32000 → tooMany F ≡ false
+not-many : (F : Field) → spans F ≤ mostSpans → tooMany F ≡ false
 unfolding tooMany
-not-many F p = le-ltb 32000 (spans F) p
+not-many F p = le-ltb mostSpans (spans F) p
 
 -- ---------------------------------------------------------------- the numbers, as the code's branches have them
 
@@ -38,11 +38,11 @@ module _ (w h : ℕ) (is ks ar cs : List ℕ) (a b : ℕ) where
     refused-h q = rw (le-ltb 256 w p, lt-ltb 256 h q)
 
     module _ (q : h ≤ 256) where
-      pub refused-2 : 32000 < length ar → 2 ≡ refusal (lent w h is ks ar cs) (a ∷ b ∷ [])
+      pub refused-2 : mostSpans < length ar → 2 ≡ refusal (lent w h is ks ar cs) (a ∷ b ∷ [])
       unfolding refusal if_then_else_ tooMany
-      refused-2 n = rw (not-wide (lent w h is ks ar cs) p q, lt-ltb 32000 (length ar) n)
+      refused-2 n = rw (not-wide (lent w h is ks ar cs) p q, lt-ltb mostSpans (length ar) n)
 
-      module _ (n : length ar ≤ 32000) (r₃ : Bool) (e₃ : r₃ ≡ not (wrongLength (lent w h is ks ar cs) (a ∷ b ∷ []))) where
+      module _ (n : length ar ≤ mostSpans) (r₃ : Bool) (e₃ : r₃ ≡ not (wrongLength (lent w h is ks ar cs) (a ∷ b ∷ []))) where
         pub refused-3 : r₃ ≡ false → 3 ≡ refusal (lent w h is ks ar cs) (a ∷ b ∷ [])
         unfolding refusal if_then_else_
         refused-3 z = rw (not-wide (lent w h is ks ar cs) p q, not-many (lent w h is ks ar cs) n, flip r₃ (wrongLength (lent w h is ks ar cs) (a ∷ b ∷ [])) false e₃ z)

@@ -12,11 +12,11 @@ ghost use mathlib.Core.List.{[], _∷_};
 ghost use mathlib.Core.Bool.{not};
 ghost use Prim.Native.Nat.{_≤_};
 ghost use lib.ListN.{length};
-ghost use Rattle.rules.specs.Refusals.{refusal, wrongLength};
+ghost use Rattle.rules.specs.Refusals.{refusal, wrongLength, mostSpans};
 ghost use Rattle.field.specs.Lent.{lent};
 ghost use Rattle.checker.specs.Answer.{numberOf, verdictNumber};
 
-// Document 01's table of refusals. The last two are the region entry's.
+// The table of refusals of documents 01 and 02. The last four are the region entry's.
 pub enum Refusal {
     TooWide,
     TooMany,
@@ -26,9 +26,11 @@ pub enum Refusal {
     WrongBack,
     TooShort,
     TooFar,
+    NoIds,
+    NoSum,
 }
 
-// Document 01's number of a refusal.
+// The number of a refusal.
 pub fn refusal_number(r: Refusal) -> u16
     ensures { λ k. ⌜ k ≡ numberOf r ⌝ }
 {
@@ -41,6 +43,8 @@ pub fn refusal_number(r: Refusal) -> u16
         Refusal::WrongBack => 6,
         Refusal::TooShort => 7,
         Refusal::TooFar => 8,
+        Refusal::NoIds => 12,
+        Refusal::NoSum => 13,
     }
 }
 
@@ -53,7 +57,7 @@ pub enum Verdict {
 const MOST_CELLS_A_SIDE: usize = 256;
 
 // The most spans of a field.
-const MOST_SPANS: usize = 32000;
+const MOST_SPANS: usize = 65000;
 
 // The lists are as long as w, h and the number of spans say; a and b are the lengths of the entry's own two.
 fn lengths_ok(
@@ -66,7 +70,7 @@ fn lengths_ok(
     a: usize,
     b: usize,
 ) -> bool
-    requires { ⌜ (w ≤ 256) × (h ≤ 256) × (length (now area) ≤ 32000) ⌝ }
+    requires { ⌜ (w ≤ 256) × (h ≤ 256) × (length (now area) ≤ mostSpans) ⌝ }
     ensures { λ r. ⌜ (let F = lent w h (now (index .entry)) (now (count .entry)) (now (area .entry)) (now (con .entry)) in
         r ≡ not (wrongLength F (a ∷ b ∷ []))) ⌝ }
 {

@@ -2,10 +2,11 @@
 // Counted in bytes, part by part, so that sixteen are counted at once when compiled.
 use field::place::NO_LAYER;
 ghost use mathlib.Core.Path.{_≡_};
-ghost use Prim.Native.Nat.{_+_, _%_, _<_, _≤_};
+ghost use Prim.Native.Nat.{_+_, _*_, _%_, _<_, _≤_};
 ghost use lib.ListN.{length};
 ghost use lib.Dec.{eqb, ltb};
 ghost use Rattle.rules.specs.Base.{if_then_else_};
+ghost use Rattle.rules.specs.Refusals.{mostSpans};
 ghost use Rattle.checker.specs.Links.{linksIn};
 
 // As many connections as are counted in a byte.
@@ -31,7 +32,7 @@ fn counted(k: u8, x: u8, a: u8) -> u8
 
 // How many of the m connections from b on, the first of a span, are in the half o. A weight, not a branch, tells the direction.
 fn part(con: &[u8], b: usize, m: u8, o: u8) -> u8
-    requires { ⌜ (b % 4 ≡ 0) × (b + m ≤ length (now con)) × (length (now con) ≤ 128000) × (m ≤ 224) × (o ≤ 2) ⌝ }
+    requires { ⌜ (b % 4 ≡ 0) × (b + m ≤ length (now con)) × (length (now con) ≤ 4 * mostSpans) × (m ≤ 224) × (o ≤ 2) ⌝ }
     ensures { λ r. ⌜ r ≡ linksIn (now (con .entry)) o b m ⌝ }
 {
     let mut k: u8 = 0;
@@ -45,7 +46,7 @@ fn part(con: &[u8], b: usize, m: u8, o: u8) -> u8
 
 // How many connections are in the half o: 2 for directions 0 and 1, 0 for directions 2 and 3.
 pub(crate) fn links_in(con: &[u8], o: u8) -> usize
-    requires { ⌜ (length (now con) % 4 ≡ 0) × (length (now con) ≤ 128000) × (o ≤ 2) ⌝ }
+    requires { ⌜ (length (now con) % 4 ≡ 0) × (length (now con) ≤ 4 * mostSpans) × (o ≤ 2) ⌝ }
     ensures { λ r. ⌜ r ≡ linksIn (now (con .entry)) o 0 (length (now (con .entry))) ⌝ }
 {
     let mut k: usize = 0;

@@ -17,6 +17,7 @@ use Rattle.field.specs.Lent.{Stands, Reached, Spot, SomeSpot, Leaf, SomeLeaf, c
 use Rattle.field.proofs.Loops.{upto-go}
 use Rattle.field.proofs.Places.{near-stands, near-spot, spot-con, spot-leaf, some-leaf, step-spot, leaf-none, turned, layer-spot}
 use Rattle.rules.specs.Rows.{blurTo}
+use Rattle.rules.specs.Refusals.{mostSpans}
 use Rattle.distance.specs.Value.{Sized}
 
 -- ---------------------------------------------------------------- the greatest value
@@ -38,7 +39,7 @@ greatest-end l i best h e =
 -- ---------------------------------------------------------------- the terms of a direction
 
 module _ (w : ℕ) (is cs l cons : List ℕ) (c s d v : ℕ) (o : Sized w is cs l c s) (q : cons ≡ consAt cs s) (g : d < 4) where
-  few : length l ≤ 32000
+  few : length l ≤ mostSpans
   few = omega (arith, o .spot .reached .celled .few, o .size)
 
   pub term-none : getD cons d 0 ≡ 255 → (F : Field) → Spot F w is cs c s → v * 2 ≡ term F l s v d

@@ -7,6 +7,7 @@ use mathlib.Core.List.{List}
 use lib.ListN.{length, getD, List·getD-eq-default}
 use Rattle.rules.specs.Field.{Field, spans, near, cellTo}
 use Rattle.rules.specs.Distance.{far, startAt}
+use Rattle.rules.specs.Refusals.{mostSpans}
 use Rattle.laws.proofs.Basics.{getD-any}
 use Rattle.laws.proofs.Passes.{none-near}
 use Rattle.field.specs.Lent.{Stands, Reached, Spot, SomeSpot, Leaf, SomeLeaf, consAt, lent}
@@ -27,7 +28,7 @@ module _ (w : ℕ) (is cs l : List ℕ) (c s d e : ℕ) (v : Room w is cs l c s 
   pub room-leaf : (cons : List ℕ) → cons ≡ consAt cs s → SomeLeaf w is cons c
   room-leaf cons q = sized-leaf w is cs l c s room-sized cons q
 
-  room-few : length l ≤ 32000
+  room-few : length l ≤ mostSpans
   room-few = omega (arith, v .size, v .spot .reached .celled .few)
 
   module _ (cons : List ℕ) (q : cons ≡ consAt cs s) (g : d < 4) where

@@ -12,15 +12,15 @@ use lib.ListN.{length, getD, set, drop, length-set, length-drop}
 use lib.Seq.{ext-getD, getD-drop, getD-set-same, getD-set-other, take-set-le}
 use borrow.Author.Tests.{eq-eqb, ne-eqb}
 use Rattle.rules.specs.Base.{_and_, if_then_else_, tab, keep}
-use Rattle.rules.specs.Growth.{walkable, Spread, expand, blank}
+use Rattle.rules.specs.Growth.{walkable, Spread, expand, expandStrays, blank}
 use Rattle.laws.proofs.Basics.{and-no, getD-any}
 use Rattle.space.specs.Space.{sec, Frame, Clear}
 use Rattle.space.proofs.Laws.{cases, getD-after}
 use Rattle.net.specs.Table.{netAt, Mutual}
 use Rattle.net.proofs.Tables.{net-same}
 use Rattle.flood.specs.Stack.{marksAt}
-use Rattle.expand.specs.Layout.{listAt, vacant, pushAt, fillAt, Low, Kept, Given, Filling, Last}
-use Rattle.expand.proofs.Lists.{listAt-cong, listAt-snoc, length-listAt, listAt-sec, seam, marks-same}
+use Rattle.expand.specs.Layout.{listAt, vacant, pushAt, fillAt, Kept, Given, Filling, Last}
+use Rattle.expand.proofs.Lists.{listAt-cong, listAt-snoc, listAt-sec, seam, marks-same}
 use Rattle.expand.proofs.Ends.{sizes-kept}
 
 -- ---------------------------------------------------------------- one span
@@ -165,9 +165,6 @@ module _ (ar : List ℕ) (e b : ℕ) (ids ws ws₁ : List ℕ) (fill : ℕ) (v :
   unfolding tab keep blank
   filled-list = let z : length ar - length ar ≡ 0 = omega arith in sym (append-nil _) ∙ sym (rw z at (v .stack))
 
-  pub last-count : fill ≡ length (blank ar ids)
-  last-count = sym (length-listAt ws₁ (length ar) fill) ∙ ap length filled-list
-
   module _ (g : Last (length ar) e b ids ws) where
     filled-past : (x : ℕ) → b ≤ x → getD ws₁ x 0 ≡ getD ws x 0
     filled-past x l = v .unseen x (omega (arith, v .few, g .sizes .apart, g .sizes .past))
@@ -182,12 +179,15 @@ module _ (ar : List ℕ) (e b : ℕ) (ids ws ws₁ : List ℕ) (fill : ℕ) (v :
     filled-given = record {
       sizes = sizes-kept ids ws₁ (g .sizes) refl (v .size);
       entries = record { filled = v .few; spans = λ j h z. v .spans j h };
-      low = rw (marks-same (length ar) ids ws ws₁ (v .marks)) (g .low);
       clear = record { blank = λ x l u. v .unseen x (omega (arith, v .few, g .sizes .apart)) ∙ g .clear .blank x l u };
     }
 
     filled-room : length ar + fill ≤ length ws₁
     filled-room = omega (arith, v .few, v .size, g .sizes .apart, g .sizes .past, g .sizes .room)
+
+    pub last-strays : (o : Bool) → o ≡ expandStrays (netAt b ar ws₁) 0 (marksAt (length ar) ids ws₁) (sec (length ar) fill ws₁)
+        → o ≡ expandStrays (netAt b ar ws) 0 (marksAt (length ar) ids ws) (blank ar ids)
+    last-strays o r = r ∙ rw (filled-net, marks-same (length ar) ids ws ws₁ (v .marks), ← listAt-sec ws₁ (length ar) fill filled-room, filled-list)
 
     module _ (ids₂ ws₂ : List ℕ) (k : Kept (length ar) (length ar) fill ws₁ ws₂) (ws₃ : List ℕ) (size : length ws₃ ≡ length ws₂)
         (q : Clear (length ar) (length ar + fill) ws₃) (cleared : Frame (length ar) (length ar + fill) ws₂ ws₃) where
@@ -199,9 +199,6 @@ module _ (ar : List ℕ) (e b : ℕ) (ids ws ws₁ : List ℕ) (fill : ℕ) (v :
       last-view r =
           cleared-marks ∙ ap (λ (p : Spread). p .marks) r
           ∙ rw (filled-net, marks-same (length ar) ids ws ws₁ (v .marks), ← listAt-sec ws₁ (length ar) fill filled-room, filled-list)
-
-      pub last-low : Given (length ar) (length ar) e b fill ids₂ ws₂ → Low (length ar) (marksAt (length ar) ids₂ ws₃)
-      last-low r = rw cleared-marks (r .low)
 
       last-size : length ws₃ ≡ length ws
       last-size = size ∙ k .size ∙ v .size

@@ -2,6 +2,7 @@
 -- zeros stood before, and the stack is marked by the ids, which is what the rule's rounds leave of it. Assumes nothing.
 use mathlib.Core.Path.{_≡_, refl, sym, ap, _∙_}
 use mathlib.Core.Logic.{⊎-elim, _⊎_, inl, inr}
+use mathlib.Core.Bool.{Bool}
 use mathlib.Core.List.{List, map}
 use Prim.Native.Nat.{ℕ, _+_, _-_, _*_, _≤_, _<_}
 use native.Mathlib.Omega.{arith}
@@ -13,14 +14,14 @@ use borrow.Author.Tests.{eq-eqb, ne-eqb}
 use Rattle.rules.specs.Base.{if_then_else_}
 use Rattle.rules.specs.Field.{none}
 use Rattle.rules.specs.Net.{Net}
-use Rattle.rules.specs.Growth.{rounds, expand}
+use Rattle.rules.specs.Growth.{rounds, roundsStray, expand, expandStrays}
 use Rattle.laws.proofs.Basics.{All, map-all}
 use Rattle.space.specs.Space.{sec, Frame, Clear}
 use Rattle.space.proofs.Laws.{getD-before, getD-after}
 use Rattle.net.specs.Table.{netAt, Mutual}
 use Rattle.net.proofs.Tables.{net-same}
 use Rattle.flood.specs.Stack.{marksAt}
-use Rattle.expand.specs.Layout.{fresh, mostAt, listAt, Sizes, Past, Entries, Low, Kept, Given, Unheld, Ok, Using}
+use Rattle.expand.specs.Layout.{fresh, mostAt, listAt, Sizes, Past, Entries, Kept, Given, Unheld, Ok, Using}
 use Rattle.expand.specs.Front.{Up, Entry, Flagging, frontOf, Lit, Gone, Settled}
 use Rattle.expand.proofs.Lists.{listAt-cong, length-listAt, listAt-sec, all-at, all-of, marks-same}
 use Rattle.expand.proofs.Sources.{fresh-unheld}
@@ -94,7 +95,7 @@ module _ (n a e b fill : ℕ) (ids ws ws₁ : List ℕ) (y : Using (length ids) 
 
   given-ok : Ok n (frontOf n a fill ids ws)
   unfolding frontOf
-  given-ok = record { idents = g .sizes .idents; entries = unheld; low = g .low }
+  given-ok = record { idents = g .sizes .idents; entries = unheld }
 
   -- past the stack all is as it was
   used-past : (x : ℕ) → a + fill ≤ x → getD ws₁ x 0 ≡ getD ws x 0
@@ -217,14 +218,14 @@ expand-is : (N : Net) (n a fill level : ℕ) (ids ws : List ℕ) → expand N le
 unfolding expand mostAt fresh frontOf
 expand-is N n a fill level ids ws = rw (length-listAt ws a fill)
 
+strays-is : (N : Net) (n a fill level : ℕ) (ids ws : List ℕ) → expandStrays N level (marksAt n ids ws) (listAt ws a fill) ≡ roundsStray N (mostAt level fill) (frontOf n a fill ids ws)
+unfolding expandStrays mostAt fresh frontOf
+strays-is N n a fill level ids ws = rw (length-listAt ws a fill)
+
 front-view : (n a fill : ℕ) (ids ws ws′ : List ℕ) → take n ws′ ≡ take n ws → listAt ws′ a fill ≡ map (fresh ids) (listAt ws a fill) → a + fill ≤ length ws′
     → record { marks = marksAt n ids ws′; stack = sec a fill ws′ } ≡ frontOf n a fill ids ws
 unfolding frontOf
 front-view n a fill ids ws ws′ t s h = rw (← listAt-sec ws′ a fill h, s, marks-same n ids ws ws′ t)
-
-front-low : (n a fill : ℕ) (ids ws ws′ : List ℕ) → take n ws′ ≡ take n ws → Ok n (frontOf n a fill ids ws) → Low n (marksAt n ids ws′)
-unfolding frontOf
-front-low n a fill ids ws ws′ t o = rw (marks-same n ids ws ws′ t) (o .low)
 
 front-entries : (n a fill : ℕ) (ids ws ws′ : List ℕ) → listAt ws′ a fill ≡ map (fresh ids) (listAt ws a fill) → fill ≤ n → Ok n (frontOf n a fill ids ws) → Entries n a fill ws′
 unfolding frontOf
@@ -235,7 +236,7 @@ kept-clear n a e fill ws ws₂ h l o c k = record { blank = λ x g u. k .same x 
 
 module _ (ar : List ℕ) (a e b fill level p : ℕ) (ids ws ws₁ : List ℕ) (fl : p ≡ e + 3 * length ar) (y : Using (length ids) a fill ids ws ws₁ fill)
     (g : Given (length ar) a e b fill ids ws) (ws₂ : List ℕ) (f₀ : Flagging (length ar) a p fill 1 ws₁ ws₂ fill) (most : ℕ) (q : most ≡ mostAt level fill)
-    (ids₃ ws₃ : List ℕ) (k : ℕ) (r : Gone ar a e b fill most ids ws₂ ids₃ ws₃ k) where
+    (ids₃ ws₃ : List ℕ) (k : ℕ) (o : Bool) (r : Gone ar a e b fill most ids ws₂ ids₃ ws₃ k o) where
   raised : Flagging (length ar) a (e + 3 * length ar) fill 1 ws₁ ws₂ fill
   raised = rw fl at f₀
 
@@ -258,6 +259,13 @@ module _ (ar : List ℕ) (a e b fill level p : ℕ) (ids ws ws₁ : List ℕ) (f
   gone-entries =
       let t = lit (length ar) a e b fill ids ws ws₁ y g ws₂ raised .entries in
       record { filled = g .entries .filled; spans = λ j h z. let p = gone-stack (a + j) (omega arith) (omega arith) in rw p (t .spans j h (λ v. z (p ∙ v))) }
+
+  pub expanded-strays : o ≡ expandStrays (netAt b ar ws) level (marksAt (length ar) ids ws) (sec a fill ws)
+  expanded-strays =
+      let i : a + fill ≤ length ws = omega (arith, g .entries .filled, g .sizes .apart, g .sizes .past, g .sizes .room) in
+      rw (lit-net ar a e b fill ids ws ws₁ y g ws₂ raised) at (r .stray)
+      ∙ ap (roundsStray (netAt b ar ws) most) (lit-front (length ar) a e b fill ids ws ws₁ y g ws₂ raised) ∙ ap (λ (m : ℕ). roundsStray (netAt b ar ws) m (frontOf (length ar) a fill ids ws)) q
+      ∙ sym (strays-is (netAt b ar ws) (length ar) a fill level ids ws) ∙ ap (λ (t : List ℕ). expandStrays (netAt b ar ws) level (marksAt (length ar) ids ws) t) (listAt-sec ws a fill i)
 
   module _ (ws₄ : List ℕ) (s : Settled (length ar) a e fill k ids₃ ws₃ ws₄) where
     room₄ : a + fill ≤ length ws₄
@@ -308,6 +316,5 @@ module _ (ar : List ℕ) (a e b fill level p : ℕ) (ids ws ws₁ : List ℕ) (f
     expanded-given = record {
       sizes = sizes-kept ids₃ ws₄ gone-sizes refl (s .size);
       entries = front-entries (length ar) a fill ids₃ ws₃ ws₄ (s .stack) (g .entries .filled) (r .ok);
-      low = front-low (length ar) a fill ids₃ ws₃ ws₄ (s .marks) (r .ok);
       clear = kept-clear (length ar) a e fill ws ws₄ (g .entries .filled) (g .sizes .apart) (g .sizes .low) (g .clear) expanded-kept;
     }

@@ -1,7 +1,7 @@
 -- A round by its frontier: what is noted are the round's changes (`Front`), so writing them gives the rule's round, and trying beside them notes the next
 -- round's. A span that is not beside a change finds what it found. Assumes nothing.
 use mathlib.Core.Path.{_≡_, refl, sym, ap, _∙_}
-use mathlib.Core.Bool.{true, false, true≢false}
+use mathlib.Core.Bool.{Bool, true, false, true≢false}
 use mathlib.Core.Logic.{⊎-elim}
 use mathlib.Core.List.{List, [], _∷_, map}
 use Prim.Native.Nat.{ℕ, zero, suc, _+_, _-_, _*_, _%_, _≤_, _<_}
@@ -10,19 +10,22 @@ use native.Mathlib.Nat.{add-zero}
 use native.Mathlib.Decide.{ℕ-discrete}
 use lib.ListN.{length, getD, take}
 use lib.Seq.{length-take-le}
+use Rattle.rules.specs.Base.{any}
 use Rattle.rules.specs.Field.{none}
 use Rattle.rules.specs.Net.{Net, near}
-use Rattle.rules.specs.Growth.{Marks, put, finds, wrote, written, Spread, round, rounds}
+use Rattle.rules.specs.Growth.{Marks, put, finds, strays, wrote, written, Spread, round, rounds}
+use Rattle.rules.specs.Refusals.{mostSpans}
 use Rattle.laws.proofs.Basics.{All}
 use Rattle.space.proofs.Laws.{cases}
 use Rattle.net.specs.Table.{netAt, Mutual}
 use Rattle.flood.specs.Stack.{marksAt}
 use Rattle.expand.specs.Layout.{fresh, listAt, changesAt, applied, Unheld, Ok}
-use Rattle.expand.specs.Front.{Up, Entry, Queued, Found, FoundAt, Moved, Beside, Writing, frontOf, Front}
+use Rattle.expand.specs.Front.{Up, Entry, Queued, Found, FoundAt, Strayed, Moved, Beside, Writing, frontOf, Front}
 use Rattle.expand.proofs.Lists.{listAt-cong, marks-same}
 use Rattle.expand.proofs.Halves.{finds-used, wrote-yes}
-use Rattle.expand.proofs.Sources.{written-keeps, ok-round}
-use Rattle.expand.proofs.Waves.{has, has-nil, has-head, has-tail, has-split, keep-in, keep-out, any-in, any-out, changes, still-nothing, fresh-zero, fresh-some, round-fresh, wave-marks, round-left, rounds-on, rounds-off}
+use Rattle.expand.proofs.Sources.{ok-round}
+use Rattle.laws.proofs.Suffice.{written-keeps}
+use Rattle.expand.proofs.Waves.{has, has-nil, has-head, has-tail, has-split, keep-in, keep-out, any-in, any-out, changes, strays-used, still-nothing, still-calm, fresh-zero, fresh-some, round-fresh, wave-marks, round-left, rounds-on, rounds-off}
 
 -- ---------------------------------------------------------------- entries of the stack
 
@@ -100,7 +103,7 @@ applied-written N m n ws c (suc k) out h =
 
 -- ---------------------------------------------------------------- the next changes
 
-front-marks : (n a fill : ℕ) (ids ws : List ℕ) → frontOf n a fill ids ws .marks ≡ marksAt n ids ws
+pub front-marks : (n a fill : ℕ) (ids ws : List ℕ) → frontOf n a fill ids ws .marks ≡ marksAt n ids ws
 unfolding frontOf
 front-marks n a fill ids ws = refl
 
@@ -132,9 +135,9 @@ unfolding round frontOf
 round-keeps N n a fill ids ws x z = written-keeps N (marksAt n ids ws) x z (map (fresh ids) (listAt ws a fill)) (marksAt n ids ws)
 
 -- tries of every span that could find something, where flags are up for the stack's spans, note the changes of the round
-module _ (ar : List ℕ) (a e b fill : ℕ) (ids ws : List ℕ) (k : ℕ) (ws′ : List ℕ) (k′ : ℕ)
+module _ (ar : List ℕ) (a e b fill : ℕ) (ids ws : List ℕ) (k : ℕ) (w : Bool) (ws′ : List ℕ) (k′ : ℕ) (w′ : Bool)
     (lo : length ar ≤ a) (lie : a + length ar ≤ e) (few : fill ≤ length ar)
-    (ok : Ok (length ar) (frontOf (length ar) a fill ids ws)) (v : Moved ar e b ids ws k ws′ k′)
+    (ok : Ok (length ar) (frontOf (length ar) a fill ids ws)) (v : Moved ar e b ids ws k w ws′ k′ w′)
     (only : (x : ℕ) → x < length ar → Up (length ar) e ws x → Entry ws a fill x × (getD ids x 0 ≡ 0))
     (up : (x : ℕ) → x < length ar → Entry ws a fill x → getD ids x 0 ≡ 0 → Up (length ar) e ws x)
     (cold : (x : ℕ) → x < length ar → Up (length ar) e ws′ x → finds (netAt b ar ws) (marksAt (length ar) ids ws) x ≡ false) where
@@ -152,9 +155,29 @@ module _ (ar : List ℕ) (a e b fill : ℕ) (ids ws : List ℕ) (k : ℕ) (ws′
         all = λ x h y z. v .fall x h (up x h (entry-on ws′ ws a fill x (λ y g u. sym (stays y g u)) y) z);
       }
 
+  -- a span that was tried and computes a sum above 65,535 is an entry of the round
+  pub front-stray : Strayed ar e b ids ws → any (strays (netAt b ar ws) (marksAt (length ar) ids ws)) (frontOf (length ar) a fill ids ws′ .stack) ≡ true
+  front-stray y =
+      let o = only (y .at) (y .span) (y .up) in
+      any-in (strays (netAt b ar ws) (marksAt (length ar) ids ws)) (y .at) (frontOf (length ar) a fill ids ws′ .stack)
+      (front-has (length ar) a fill ids ws′ (y .at) (entry-on ws ws′ a fill (y .at) stays (o .0)) (o .1)) (y .strays)
+
+  -- and where no tried span does, no entry does
+  pub front-calm : w′ ≡ false → ((x : ℕ) → x < length ar → Up (length ar) e ws′ x → strays (netAt b ar ws) (marksAt (length ar) ids ws) x ≡ false)
+      → any (strays (netAt b ar ws) (marksAt (length ar) ids ws)) (frontOf (length ar) a fill ids ws′ .stack) ≡ false
+  unfolding frontOf
+  front-calm q calm =
+      any-out (strays (netAt b ar ws) (marksAt (length ar) ids ws)) (map (fresh ids) (listAt ws′ a fill)) (λ x h z.
+      let s : x ≡ none → ⊥ = λ y. strays-used (netAt b ar ws) (marksAt (length ar) ids ws) x y z in
+      let t = has-entry ids ws′ a fill x s h in
+      let i = has-all (Unheld (length ar) ids) x (map (fresh ids) (listAt ws′ a fill)) (front-tried .ok .entries) h s .0 in
+      ⊎-elim (λ (u : Up (length ar) e ws′ x). true≢false (sym z ∙ calm x i u))
+      (λ (u : Queued ws′ e k k′ x). true≢false (sym z ∙ rw (u .is) at (v .calm q (u .at) (u .from) (u .to))))
+      (front-tried .all x i (t .0) (t .1)))
+
 -- ---------------------------------------------------------------- the changes written
 
-module _ (N : Net) (n a e fill : ℕ) (ids ws : List ℕ) (lo hi : ℕ) (v : Front N n a e fill ids ws lo hi) (o : lo ≤ hi) (room : n ≤ length ws) (few : n ≤ 32000) where
+module _ (N : Net) (n a e fill : ℕ) (ids ws : List ℕ) (lo hi : ℕ) (v : Front N n a e fill ids ws lo hi) (o : lo ≤ hi) (room : n ≤ length ws) (few : n ≤ mostSpans) where
   -- what the round changes stands in the queue
   pub change-queued : (x : ℕ) → has x (changes N (frontOf n a fill ids ws)) ≡ true → (x < n) × Queued ws e lo hi x
   unfolding changes frontOf
@@ -229,9 +252,18 @@ module _ (N : Net) (n a e fill : ℕ) (ids ws : List ℕ) (lo hi : ℕ) (v : Fro
 -- ---------------------------------------------------------------- beside the changes
 
 module _ (ar : List ℕ) (a e b fill : ℕ) (ids ws : List ℕ) (lo hi : ℕ) (N : Net) (v : Front N (length ar) a e fill ids ws lo hi)
-    (o : lo ≤ hi) (room : length ar ≤ length ws) (few : length ar ≤ 32000) (low : length ar ≤ a) (lie : a + length ar ≤ e) (fit : fill ≤ length ar)
+    (o : lo ≤ hi) (room : length ar ≤ length ws) (few : length ar ≤ mostSpans) (low : length ar ≤ a) (lie : a + length ar ≤ e) (fit : fill ≤ length ar)
     (ids₁ ws₁ : List ℕ) (u : Writing (length ar) e lo hi ids ws ids₁ ws₁ hi) (q₁ : netAt b ar ws₁ ≡ N) (x : Mutual N) (sized : length (N .areas) ≡ length ar)
-    (ws₂ : List ℕ) (k : ℕ) (m : Moved ar e b ids₁ ws₁ hi ws₂ k) (t : Beside ar e b ids₁ ws₁ ws₂ lo hi) where
+    (w : Bool) (ws₂ : List ℕ) (k : ℕ) (w₂ : Bool) (m : Moved ar e b ids₁ ws₁ hi w ws₂ k w₂) (t : Beside ar e b ids₁ ws₁ ws₂ w₂ lo hi) where
+  ok₁ : Ok (length ar) (frontOf (length ar) a fill ids₁ ws₁)
+  ok₁ = round-ok N (length ar) a e fill ids ws lo hi v o room few ids₁ ws₁ u low
+
+  only₁ : (s : ℕ) → s < length ar → Up (length ar) e ws₁ s → Entry ws₁ a fill s × (getD ids₁ s 0 ≡ 0)
+  only₁ = round-only N (length ar) a e fill ids ws lo hi v o room few ids₁ ws₁ u low (omega arith)
+
+  up₁ : (s : ℕ) → s < length ar → Entry ws₁ a fill s → getD ids₁ s 0 ≡ 0 → Up (length ar) e ws₁ s
+  up₁ = round-up N (length ar) a e fill ids ws lo hi v o room few ids₁ ws₁ u low (omega arith)
+
   -- a span whose flag is still up finds nothing: it found nothing before, and was tried if a neighbour changed
   next-cold : (s : ℕ) → s < length ar → Up (length ar) e ws₂ s → finds N (marksAt (length ar) ids₁ ws₁) s ≡ false
   next-cold s h y =
@@ -259,30 +291,77 @@ module _ (ar : List ℕ) (a e b fill : ℕ) (ids ws : List ℕ) (lo hi : ℕ) (N
           (λ (p : has (near N s d) (changes N (frontOf (length ar) a fill ids ws)) ≡ false). p)
           (cases (has (near N s d) (changes N (frontOf (length ar) a fill ids ws)))))
 
+  -- nor does it compute a sum above 65,535, if no entry did before
+  next-calm : w₂ ≡ false → any (strays N (frontOf (length ar) a fill ids ws .marks)) (frontOf (length ar) a fill ids ws .stack) ≡ false
+      → (s : ℕ) → s < length ar → Up (length ar) e ws₂ s → strays N (marksAt (length ar) ids₁ ws₁) s ≡ false
+  next-calm q calm s h y =
+      ⊎-elim
+      (λ (z : strays N (marksAt (length ar) ids₁ ws₁) s ≡ true). absurd (true≢false (sym z ∙ rw (← round-marks N (length ar) a e fill ids ws lo hi v o room few ids₁ ws₁ u low) at still z)))
+      (λ (z : strays N (marksAt (length ar) ids₁ ws₁) s ≡ false). z)
+      (cases (strays N (marksAt (length ar) ids₁ ws₁) s))
+    where
+      flag : Up (length ar) e ws s
+      flag z = m .down s h y (u .kept (e + 3 * length ar + s) (omega arith) ∙ z)
+
+      before : strays N (frontOf (length ar) a fill ids ws .marks) s ≡ false
+      before =
+          let c = v .cold s h flag in
+          ⊎-elim
+          (λ (z : strays N (frontOf (length ar) a fill ids ws .marks) s ≡ true).
+          absurd (true≢false (sym (any-in (strays N (frontOf (length ar) a fill ids ws .marks)) s (frontOf (length ar) a fill ids ws .stack) (front-has (length ar) a fill ids ws s (c .0) (c .1)) z) ∙ calm)))
+          (λ (z : strays N (frontOf (length ar) a fill ids ws .marks) s ≡ false). z)
+          (cases (strays N (frontOf (length ar) a fill ids ws .marks) s))
+
+      tried : (d : ℕ) → d < 4 → has (near N s d) (changes N (frontOf (length ar) a fill ids ws)) ≡ true → strays N (marksAt (length ar) ids₁ ws₁) s ≡ false
+      tried d g z =
+          let c = change-queued N (length ar) a e fill ids ws lo hi v o room few (near N s d) z in
+          let p = c .1 in
+          let r = x .answered .back s d (rw sized h) g (λ p. omega (arith, c .0)) in
+          let j : getD ws₁ (e + 3 * p .at) 0 ≡ near N s d = u .kept (e + 3 * p .at) (omega arith) ∙ p .is in
+          (rw (j, q₁, r) at (t .tried (p .at) (p .from) (p .to) .tried ((d + 2) % 4) (omega arith) .calm)) q h y
+
+      still : strays N (marksAt (length ar) ids₁ ws₁) s ≡ true → strays N (round N (frontOf (length ar) a fill ids ws) .marks) s ≡ false
+      still z =
+          still-calm N (frontOf (length ar) a fill ids ws) s before
+          (λ d g.
+          ⊎-elim (λ (p : has (near N s d) (changes N (frontOf (length ar) a fill ids ws)) ≡ true). absurd (true≢false (sym z ∙ tried d g p)))
+          (λ (p : has (near N s d) (changes N (frontOf (length ar) a fill ids ws)) ≡ false). p)
+          (cases (has (near N s d) (changes N (frontOf (length ar) a fill ids ws)))))
+
   pub front-next : Front N (length ar) a e fill ids₁ ws₂ hi k
-  front-next = rw q₁ at (front-tried ar a e b fill ids₁ ws₁ hi ws₂ k low (omega arith) fit
-      (round-ok N (length ar) a e fill ids ws lo hi v o room few ids₁ ws₁ u low) m
-      (round-only N (length ar) a e fill ids ws lo hi v o room few ids₁ ws₁ u low (omega arith))
-      (round-up N (length ar) a e fill ids ws lo hi v o room few ids₁ ws₁ u low (omega arith))
-      (λ s h y. rw q₁ (next-cold s h y)))
+  front-next = rw q₁ at (front-tried ar a e b fill ids₁ ws₁ hi w ws₂ k w₂ low (omega arith) fit ok₁ m only₁ up₁ (λ s h y. rw q₁ (next-cold s h y)))
+
+  pub next-stray : Strayed ar e b ids₁ ws₁ → any (strays N (frontOf (length ar) a fill ids₁ ws₂ .marks)) (frontOf (length ar) a fill ids₁ ws₂ .stack) ≡ true
+  next-stray y = rw (front-marks (length ar) a fill ids₁ ws₂, marks-same (length ar) ids₁ ws₁ ws₂ (m .marks))
+      (rw q₁ at (front-stray ar a e b fill ids₁ ws₁ hi w ws₂ k w₂ low (omega arith) fit ok₁ m only₁ up₁ (λ s h y. rw q₁ (next-cold s h y)) y))
+
+  pub next-still : w₂ ≡ false → any (strays N (frontOf (length ar) a fill ids ws .marks)) (frontOf (length ar) a fill ids ws .stack) ≡ false
+      → any (strays N (frontOf (length ar) a fill ids₁ ws₂ .marks)) (frontOf (length ar) a fill ids₁ ws₂ .stack) ≡ false
+  next-still q calm = rw (front-marks (length ar) a fill ids₁ ws₂, marks-same (length ar) ids₁ ws₁ ws₂ (m .marks))
+      (rw q₁ at (front-calm ar a e b fill ids₁ ws₁ hi w ws₂ k w₂ low (omega arith) fit ok₁ m only₁ up₁ (λ s h y. rw q₁ (next-cold s h y)) q (λ s h y. rw q₁ (next-calm q calm s h y))))
 
 -- ---------------------------------------------------------------- rounds
 
-module _ (N : Net) (n a e fill : ℕ) (ids ws : List ℕ) (lo hi : ℕ) (v : Front N n a e fill ids ws lo hi) (room : n ≤ length ws) (few : n ≤ 32000) where
-  -- with nothing noted, that is all
-  pub front-off : (k : ℕ) → hi ≤ lo → lo ≤ hi → 0 < k → rounds N k (frontOf n a fill ids ws) ≡ frontOf n a fill ids ws
+module _ (N : Net) (n a e fill : ℕ) (ids ws : List ℕ) (lo hi : ℕ) (v : Front N n a e fill ids ws lo hi) (room : n ≤ length ws) (few : n ≤ mostSpans) where
+  -- something is noted exactly if an entry finds something
+  pub front-still : hi ≤ lo → lo ≤ hi → any (finds N (frontOf n a fill ids ws .marks)) (frontOf n a fill ids ws .stack) ≡ false
   unfolding changes
-  front-off k g o h =
-      let s : k ≡ suc (k - 1) = omega arith in
-      rw s (rounds-off N (k - 1) (frontOf n a fill ids ws)
-      (any-out (finds N (frontOf n a fill ids ws .marks)) (frontOf n a fill ids ws .stack)
-      (λ x y z. let q = change-queued N n a e fill ids ws lo hi v o room few x (keep-in (finds N (frontOf n a fill ids ws .marks)) x (frontOf n a fill ids ws .stack) y z) .1 in omega (arith, q .from, q .to))))
+  front-still g o =
+      any-out (finds N (frontOf n a fill ids ws .marks)) (frontOf n a fill ids ws .stack)
+      (λ x y z. let q = change-queued N n a e fill ids ws lo hi v o room few x (keep-in (finds N (frontOf n a fill ids ws .marks)) x (frontOf n a fill ids ws .stack) y z) .1 in omega (arith, q .from, q .to))
 
-  pub front-on : (k : ℕ) → lo < hi → 0 < k → rounds N k (frontOf n a fill ids ws) ≡ rounds N (k - 1) (round N (frontOf n a fill ids ws))
+  pub front-finds : lo < hi → any (finds N (frontOf n a fill ids ws .marks)) (frontOf n a fill ids ws .stack) ≡ true
   unfolding changes
-  front-on k g h =
-      let s : k ≡ suc (k - 1) = omega arith in
+  front-finds g =
       let c = queued-change N n a e fill ids ws lo hi v (omega arith) room few (getD ws (e + 3 * lo) 0) (record { at = lo; from = omega arith; to = g; is = refl }) in
       let p = keep-out (finds N (frontOf n a fill ids ws .marks)) (getD ws (e + 3 * lo) 0) (frontOf n a fill ids ws .stack) c in
-      ap (λ (j : ℕ). rounds N j (frontOf n a fill ids ws)) s
-      ∙ rounds-on N (k - 1) (frontOf n a fill ids ws) (any-in (finds N (frontOf n a fill ids ws .marks)) (getD ws (e + 3 * lo) 0) (frontOf n a fill ids ws .stack) (p .0) (p .1))
+      any-in (finds N (frontOf n a fill ids ws .marks)) (getD ws (e + 3 * lo) 0) (frontOf n a fill ids ws .stack) (p .0) (p .1)
+
+  -- with nothing noted, that is all
+  pub front-off : (k : ℕ) → hi ≤ lo → lo ≤ hi → 0 < k → rounds N k (frontOf n a fill ids ws) ≡ frontOf n a fill ids ws
+  front-off k g o h = let s : k ≡ suc (k - 1) = omega arith in rw s (rounds-off N (k - 1) (frontOf n a fill ids ws) (front-still g o))
+
+  pub front-on : (k : ℕ) → lo < hi → 0 < k → rounds N k (frontOf n a fill ids ws) ≡ rounds N (k - 1) (round N (frontOf n a fill ids ws))
+  front-on k g h =
+      let s : k ≡ suc (k - 1) = omega arith in
+      ap (λ (j : ℕ). rounds N j (frontOf n a fill ids ws)) s ∙ rounds-on N (k - 1) (frontOf n a fill ids ws) (front-finds g)

@@ -10,6 +10,7 @@ use lib.Seq.{getD-set-same, getD-set-other, set-getD, take-set-le}
 use borrow.Author.Tests.{eq-eqb, ne-eqb}
 use Rattle.rules.specs.Base.{if_then_else_}
 use Rattle.rules.specs.Field.{none}
+use Rattle.rules.specs.Refusals.{mostSpans}
 use Rattle.net.specs.Table.{lastPlace}
 use Rattle.expand.specs.Layout.{fresh, listAt, Past, Entries, Using}
 use Rattle.expand.proofs.Lists.{listAt-cong, listAt-snoc, listAt-next, seam}
@@ -17,7 +18,7 @@ use Rattle.expand.proofs.Lists.{listAt-cong, listAt-snoc, listAt-next, 
 -- ---------------------------------------------------------------- one entry
 
 module _ (ids ws : List ℕ) (i s : ℕ) (q : s ≡ getD ws i 0) where
-  pub use-used : length ids ≤ 32000 → s ≡ none → ws ≡ set ws i (fresh ids (getD ws i 0))
+  pub use-used : length ids ≤ mostSpans → s ≡ none → ws ≡ set ws i (fresh ids (getD ws i 0))
   unfolding fresh if_then_else_
   use-used l z =
       let d : length ids ≤ getD ws i 0 = omega arith in

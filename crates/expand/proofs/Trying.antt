@@ -1,22 +1,26 @@
 -- Tries, one after another (`Moved`): a flag falls only as its span is noted. The flags that are down are at least as many as the changes, so there is
 -- room to note a span whose flag is up. Assumes nothing.
 use mathlib.Core.Path.{_≡_, refl, sym, ap, _∙_}
+use mathlib.Core.Bool.{Bool, true, false}
 use mathlib.Core.Logic.{⊎-elim, _⊎_, inl, inr}
 use mathlib.Core.List.{List}
 use Prim.Native.Nat.{ℕ, _+_, _*_, _≤_, _<_}
 use native.Mathlib.Omega.{arith}
 use native.Mathlib.Decide.{ℕ-discrete, decLt}
 use lib.ListN.{length, getD, set, take, length-set}
-use lib.Seq.{getD-take, getD-set-same, getD-set-other, take-set-le}
+use lib.Seq.{getD-set-same, getD-set-other, take-set-le}
+use Rattle.rules.specs.Base.{_or_}
 use Rattle.rules.specs.Field.{none}
 use Rattle.rules.specs.Net.{near}
-use Rattle.rules.specs.Growth.{takes}
+use Rattle.rules.specs.Growth.{takes, strays}
+use Rattle.rules.specs.Refusals.{mostSpans}
+use Rattle.laws.proofs.Basics.{neither, either}
 use Rattle.laws.proofs.NextId.{zeros, zeros-le, zeros-lower}
 use Rattle.net.specs.Table.{netAt, lastPlace, Closed}
 use Rattle.net.proofs.Tables.{net-same, near-at, net-inside}
 use Rattle.flood.specs.Stack.{marksAt}
 use Rattle.expand.specs.Layout.{listAt, noted, Sizes, Entries, Sight}
-use Rattle.expand.specs.Front.{Up, Queued, Found, Board, Moved, Tried, Sides, Beside, Spans, Entered}
+use Rattle.expand.specs.Front.{Up, Queued, Found, Board, Strayed, Moved, Tried, Sides, Beside, Spans, Entered}
 use Rattle.expand.proofs.Lists.{length-listAt, getD-listAt, four-else, four-first, four-second, four-third, four-last, marks-same}
 use Rattle.expand.proofs.Halves.{zero-no, taken-yes}
 
@@ -81,8 +85,9 @@ module _ (n i c s id far : ℕ) (ws : List ℕ) (hn : n ≤ c) (hi : c + 3 ≤ i
 -- ---------------------------------------------------------------- one try
 
 module _ (ar : List ℕ) (e b : ℕ) (ids ws : List ℕ) (k : ℕ) (o : Board (length ar) e b k ids ws) where
-  pub moved-none : Moved ar e b ids ws k ws k
-  moved-none = record {
+  -- nothing is noted, but a sum may exceed 65,535
+  pub moved-nothing : (y y′ : Bool) → (y′ ≡ true → (y ≡ true) ⊎ Strayed ar e b ids ws) → (y′ ≡ false → y ≡ false) → Moved ar e b ids ws k y ws k y′
+  moved-nothing y y′ stray still = record {
     size = refl;
     marks = refl;
     more = omega arith;
@@ -95,9 +100,27 @@ module _ (ar : List ℕ) (e b : ℕ) (ids ws : List ℕ) (k : ℕ) (o : Board (l
     inside = λ i l u. absurd (omega arith);
     lit = λ i l u. absurd (omega arith);
     right = λ i l u. absurd (omega arith);
+    stray = stray;
+    still = still;
+    calm = λ _ i l u. absurd (omega arith);
   }
 
+  pub moved-none : (y : Bool) → Moved ar e b ids ws k y ws k y
+  moved-none y = moved-nothing y y (λ z. inl z) (λ z. z)
+
   module _ (x : ℕ) (h : x < length ar) (y : Up (length ar) e ws x) where
+    -- the tries before gave w, and with this one it is c
+    module _ (w c : Bool) (r : c ≡ w or strays (netAt b ar ws) (marksAt (length ar) ids ws) x) where
+      stray-one : c ≡ true → (w ≡ true) ⊎ Strayed ar e b ids ws
+      stray-one z = either ((w ≡ true) ⊎ Strayed ar e b ids ws) w (strays (netAt b ar ws) (marksAt (length ar) ids ws) x) (sym r ∙ z) (λ q. inl q) (λ q. inr (record { at = x; span = h; up = y; strays = q }))
+
+      still-one : c ≡ false → (w ≡ false) × (strays (netAt b ar ws) (marksAt (length ar) ids ws) x ≡ false)
+      still-one z = neither w (strays (netAt b ar ws) (marksAt (length ar) ids ws) x) (sym r ∙ z)
+
+      -- it finds nothing
+      pub moved-still : Moved ar e b ids ws k w ws k c
+      moved-still = moved-nothing w c stray-one (λ z. still-one z .0)
+
     pub spare : k < length ar
     spare =
         let r : e + 3 * length ar + x < length ws = omega (arith, o .past, o .room) in
@@ -105,11 +128,12 @@ module _ (ar : List ℕ) (e b : ℕ) (ids ws : List ℕ) (k : ℕ) (o : Board (l
         omega (arith, o .free, z, zeros-le (listAt (set ws (e + 3 * length ar + x) 0) (e + 3 * length ar) (length ar)), length-listAt (set ws (e + 3 * length ar + x) 0) (e + 3 * length ar) (length ar))
 
     pub moved-one : (f id far : ℕ) → f ≡ e + 3 * length ar → Found (netAt b ar ws) (marksAt (length ar) ids ws) (length ar) x id far
-        → (ws′ : List ℕ) → ws′ ≡ noted (f + x) (e + 3 * k) x id far ws → Moved ar e b ids ws k ws′ (k + 1)
-    moved-one f id far p g ws′ q = rw (q, p) (go spare (omega (arith, o .low)) (omega (arith, spare)) (omega (arith, o .past, o .room)))
+        → (w c : Bool) → c ≡ w or strays (netAt b ar ws) (marksAt (length ar) ids ws) x
+        → (ws′ : List ℕ) → ws′ ≡ noted (f + x) (e + 3 * k) x id far ws → Moved ar e b ids ws k w ws′ (k + 1) c
+    moved-one f id far p g w c r ws′ q = rw (q, p) (go spare (omega (arith, o .low)) (omega (arith, spare)) (omega (arith, o .past, o .room)))
       where
         go : k < length ar → length ar ≤ e + 3 * k → e + 3 * k + 3 ≤ e + 3 * length ar + x → e + 3 * length ar + x < length ws
-            → Moved ar e b ids ws k (noted (e + 3 * length ar + x) (e + 3 * k) x id far ws) (k + 1)
+            → Moved ar e b ids ws k w (noted (e + 3 * length ar + x) (e + 3 * k) x id far ws) (k + 1) c
         go hk hn hi room =
             let W = noted (e + 3 * length ar + x) (e + 3 * k) x id far ws in
             let else′ = noted-else (length ar) (e + 3 * length ar + x) (e + 3 * k) x id far ws hn hi room in
@@ -137,13 +161,17 @@ module _ (ar : List ℕ) (e b : ℕ) (ids ws : List ℕ) (k : ℕ) (o : Board (l
               right = λ i l u.
                   let p : i ≡ k = omega arith in
                   rw (p, span′, noted-id (length ar) (e + 3 * length ar + x) (e + 3 * k) x id far ws hn hi room, noted-far (length ar) (e + 3 * length ar + x) (e + 3 * k) x id far ws hn hi room) g;
+              stray = stray-one w c r;
+              still = λ z. still-one w c r z .0;
+              calm = λ z i l u. let p : i ≡ k = omega arith in rw (p, span′) (still-one w c r z .1);
             }
 
-    pub tried-one : (f id far : ℕ) → f ≡ e + 3 * length ar → (ws′ : List ℕ) → ws′ ≡ noted (f + x) (e + 3 * k) x id far ws → Tried ar e b ids ws ws′ x
-    tried-one f id far p ws′ q = record {
-      cold = λ l u. absurd (u (rw (q, p)
-          (noted-flag (length ar) (e + 3 * length ar + x) (e + 3 * k) x id far ws (omega (arith, o .low)) (omega (arith, spare)) (omega (arith, o .past, o .room)))));
-    }
+    pub tried-one : (f id far : ℕ) → f ≡ e + 3 * length ar → (w : Bool) (ws′ : List ℕ) → ws′ ≡ noted (f + x) (e + 3 * k) x id far ws → Tried ar e b ids ws ws′ w x
+    tried-one f id far p w ws′ q = record { calm = λ _ l u. absurd (down u); cold = λ l u. absurd (down u) }
+      where
+        down : Up (length ar) e ws′ x → ⊥
+        down u = u (rw (q, p)
+            (noted-flag (length ar) (e + 3 * length ar + x) (e + 3 * k) x id far ws (omega (arith, o .low)) (omega (arith, spare)) (omega (arith, o .past, o .room))))
 
     pub note-room : e + 3 * k + 2 < length ws
     note-room = omega (arith, spare, o .past, o .room)
@@ -155,22 +183,22 @@ up-is n e f x v ws p q z y = z (q ∙ rw p y)
 -- as the code has it
 module _ (ar : List ℕ) (e b : ℕ) (ids ws : List ℕ) (x : ℕ) where
   pub board-sight : (k : ℕ) → Closed (netAt b ar ws) → Board (length ar) e b k ids ws → x < length ar → Sight b ar ids ws x
-  board-sight k c o h = record { closed = c; room = o .room; close = o .close; idents = o .idents; calm = o .calm; span = h }
+  board-sight k c o h = record { closed = c; room = o .room; close = o .close; idents = o .idents; low = omega (arith, o .low, o .past); span = h }
 
-  pub tried-down : (f v : ℕ) → f ≡ e + 3 * length ar → v ≡ getD ws (f + x) 0 → v ≡ 0 → Tried ar e b ids ws ws x
-  tried-down f v p q z = record { cold = λ h u. absurd (u (rw (← p) (sym q ∙ z))) }
+  pub tried-down : (w : Bool) (f v : ℕ) → f ≡ e + 3 * length ar → v ≡ getD ws (f + x) 0 → v ≡ 0 → Tried ar e b ids ws ws w x
+  tried-down w f v p q z = record { calm = λ _ h u. absurd (u (rw (← p) (sym q ∙ z))); cold = λ h u. absurd (u (rw (← p) (sym q ∙ z))) }
 
-  pub tried-used : (i s : ℕ) → s ≡ getD ws i 0 → s ≡ none → length ar ≤ 32000 → Tried ar e b ids ws ws (getD ws i 0)
-  tried-used i s q z f = record { cold = λ h u. absurd (omega arith) }
+  pub tried-used : (w : Bool) (i s : ℕ) → s ≡ getD ws i 0 → s ≡ none → length ar ≤ mostSpans → Tried ar e b ids ws ws w (getD ws i 0)
+  tried-used w i s q z f = record { calm = λ _ h u. absurd (omega arith); cold = λ h u. absurd (omega arith) }
 
-  pub tried-as : (i s : ℕ) → s ≡ getD ws i 0 → (ws′ : List ℕ) → Tried ar e b ids ws ws′ s → Tried ar e b ids ws ws′ (getD ws i 0)
-  tried-as i s q ws′ t = rw (← q) t
+  pub tried-as : (w : Bool) (i s : ℕ) → s ≡ getD ws i 0 → (ws′ : List ℕ) → Tried ar e b ids ws ws′ w s → Tried ar e b ids ws ws′ w (getD ws i 0)
+  tried-as w i s q ws′ t = rw (← q) t
 
   module _ (id far : ℕ) (g : record { id = id; far = far } ≡ takes (netAt b ar ws) (marksAt (length ar) ids ws) x) where
-    pub tried-nothing : id ≡ 0 → Tried ar e b ids ws ws x
-    tried-nothing z = record { cold = λ h u. zero-no (netAt b ar ws) (marksAt (length ar) ids ws) x id far g z }
+    pub tried-nothing : (w c : Bool) → c ≡ w or strays (netAt b ar ws) (marksAt (length ar) ids ws) x → id ≡ 0 → Tried ar e b ids ws ws c x
+    tried-nothing w c r z = record { calm = λ q _ _. neither w (strays (netAt b ar ws) (marksAt (length ar) ids ws) x) (sym r ∙ q) .1; cold = λ h u. zero-no (netAt b ar ws) (marksAt (length ar) ids ws) x id far g z }
 
-    pub tried-found : x < length ar → length ar ≤ 32000 → (id ≡ 0 → ⊥) → Found (netAt b ar ws) (marksAt (length ar) ids ws) (length ar) x id far
+    pub tried-found : x < length ar → length ar ≤ mostSpans → (id ≡ 0 → ⊥) → Found (netAt b ar ws) (marksAt (length ar) ids ws) (length ar) x id far
     tried-found h f z = record {
       span = h;
       found = taken-yes (netAt b ar ws) (marksAt (length ar) ids ws) x id far g (λ q. omega arith) z;
@@ -180,7 +208,8 @@ module _ (ar : List ℕ) (e b : ℕ) (ids ws : List ℕ) (x : ℕ) where
 
 -- ---------------------------------------------------------------- one after another
 
-module _ (ar : List ℕ) (e b : ℕ) (ids ws : List ℕ) (k : ℕ) (ws₁ : List ℕ) (k₁ : ℕ) (o : Board (length ar) e b k ids ws) (v : Moved ar e b ids ws k ws₁ k₁) where
+module _ (ar : List ℕ) (e b : ℕ) (ids ws : List ℕ) (k : ℕ) (p : Bool) (ws₁ : List ℕ) (k₁ : ℕ) (p₁ : Bool) (o : Board (length ar) e b k ids ws)
+    (v : Moved ar e b ids ws k p ws₁ k₁ p₁) where
   moved-past : (x : ℕ) → b ≤ x → getD ws₁ x 0 ≡ getD ws x 0
   moved-past x l = v .beyond x (omega (arith, o .past))
 
@@ -199,10 +228,6 @@ module _ (ar : List ℕ) (e b : ℕ) (ids ws : List ℕ) (k : ℕ) (ws₁ : List
     past = o .past;
     room = omega (arith, o .room, v .size);
     close = o .close;
-    calm = record {
-      fits = omega (arith, o .calm .fits, v .size);
-      most = λ y h. rw (sym (getD-take (length ar) ws₁ y 0 h) ∙ ap (λ (l : List ℕ). getD l y 0) (v .marks) ∙ getD-take (length ar) ws y 0 h) (o .calm .most y h);
-    };
     most = omega (arith, v .free, zeros-le (listAt ws₁ (e + 3 * length ar) (length ar)), length-listAt ws₁ (e + 3 * length ar) (length ar));
     free = v .free;
   }
@@ -210,7 +235,7 @@ module _ (ar : List ℕ) (e b : ℕ) (ids ws : List ℕ) (k : ℕ) (ws₁ : List
   moved-marks : marksAt (length ar) ids ws₁ ≡ marksAt (length ar) ids ws
   moved-marks = marks-same (length ar) ids ws ws₁ (v .marks)
 
-  module _ (ws₂ : List ℕ) (k₂ : ℕ) (u : Moved ar e b ids ws₁ k₁ ws₂ k₂) where
+  module _ (ws₂ : List ℕ) (k₂ : ℕ) (p₂ : Bool) (u : Moved ar e b ids ws₁ k₁ p₁ ws₂ k₂ p₂) where
     queued-on : (x : ℕ) → Queued ws₁ e k k₁ x → Queued ws₂ e k k₂ x
     queued-on x q = record {
       at = q .at;
@@ -219,7 +244,7 @@ module _ (ar : List ℕ) (e b : ℕ) (ids ws : List ℕ) (k : ℕ) (ws₁ : List
       is = u .kept (e + 3 * q .at) (omega (arith, o .low)) (omega (arith, q .to)) ∙ q .is;
     }
 
-    pub moved-then : Moved ar e b ids ws k ws₂ k₂
+    pub moved-then : Moved ar e b ids ws k p ws₂ k₂ p₂
     moved-then = record {
       size = u .size ∙ v .size;
       marks = u .marks ∙ v .marks;
@@ -247,16 +272,24 @@ module _ (ar : List ℕ) (e b : ℕ) (ids ws : List ℕ) (k : ℕ) (ws₁ : List
         | yes g ↦ rw (u .kept (e + 3 * i) (omega (arith, o .low)) (omega arith), u .kept (e + 3 * i + 1) (omega (arith, o .low)) (omega arith), u .kept (e + 3 * i + 2) (omega (arith, o .low)) (omega arith)) (v .right i l g)
         | no g ↦ rw (moved-net, moved-marks) at (u .right i (omega arith) h)
       ];
+      stray = λ z. ⊎-elim (λ (y : p₁ ≡ true). v .stray y)
+          (λ (y : Strayed ar e b ids ws₁). inr (record { at = y .at; span = y .span; up = v .down (y .at) (y .span) (y .up); strays = rw (moved-net, moved-marks) at (y .strays) }))
+          (u .stray z);
+      still = λ z. v .still (u .still z);
+      calm = λ z i l h. elim (decLt i k₁) [
+        | yes g ↦ rw (u .kept (e + 3 * i) (omega (arith, o .low)) (omega arith)) (v .calm (u .still z) i l g)
+        | no g ↦ rw (moved-net, moved-marks) at (u .calm z i (omega arith) h)
+      ];
     }
 
     -- what was tried stays so; and what is tried then counts from the start
-    tried-on : (x : ℕ) → Tried ar e b ids ws ws₁ x → Tried ar e b ids ws ws₂ x
-    tried-on x c = record { cold = λ h y. c .cold h (u .down x h y) }
+    tried-on : (x : ℕ) → Tried ar e b ids ws ws₁ p₁ x → Tried ar e b ids ws ws₂ p₂ x
+    tried-on x c = record { calm = λ z h y. c .calm (u .still z) h (u .down x h y); cold = λ h y. c .cold h (u .down x h y) }
 
-    tried-then : (x : ℕ) → Tried ar e b ids ws₁ ws₂ x → Tried ar e b ids ws ws₂ x
-    tried-then x c = record { cold = λ h y. rw (moved-net, moved-marks) at (c .cold h y) }
+    tried-then : (x : ℕ) → Tried ar e b ids ws₁ ws₂ p₂ x → Tried ar e b ids ws ws₂ p₂ x
+    tried-then x c = record { calm = λ z h y. rw (moved-net, moved-marks) at (c .calm z h y); cold = λ h y. rw (moved-net, moved-marks) at (c .cold h y) }
 
-    pub sides-next : (s d : ℕ) → Sides ar e b ids ws ws₁ s d → d < 4 → Tried ar e b ids ws₁ ws₂ (near (netAt b ar ws₁) s d) → Sides ar e b ids ws ws₂ s (d + 1)
+    pub sides-next : (s d : ℕ) → Sides ar e b ids ws ws₁ p₁ s d → d < 4 → Tried ar e b ids ws₁ ws₂ p₂ (near (netAt b ar ws₁) s d) → Sides ar e b ids ws ws₂ p₂ s (d + 1)
     sides-next s d c h t = record {
       few = omega arith;
       tried = λ j y. elim (decLt j d) [
@@ -265,13 +298,13 @@ module _ (ar : List ℕ) (e b : ℕ) (ids ws : List ℕ) (k : ℕ) (ws₁ : List
       ];
     }
 
-    sides-on : (s : ℕ) → Sides ar e b ids ws ws₁ s 4 → Sides ar e b ids ws ws₂ s 4
+    sides-on : (s : ℕ) → Sides ar e b ids ws ws₁ p₁ s 4 → Sides ar e b ids ws ws₂ p₂ s 4
     sides-on s c = record { few = c .few; tried = λ j y. tried-on _ (c .tried j y) }
 
-    sides-then : (s : ℕ) → Sides ar e b ids ws₁ ws₂ s 4 → Sides ar e b ids ws ws₂ s 4
+    sides-then : (s : ℕ) → Sides ar e b ids ws₁ ws₂ p₂ s 4 → Sides ar e b ids ws ws₂ p₂ s 4
     sides-then s c = record { few = c .few; tried = λ j y. tried-then _ (rw moved-net at (c .tried j y)) }
 
-    pub beside-next : (lo i s : ℕ) → Beside ar e b ids ws ws₁ lo i → i < k → s ≡ getD ws₁ (e + 3 * i) 0 → Sides ar e b ids ws₁ ws₂ s 4 → Beside ar e b ids ws ws₂ lo (i + 1)
+    pub beside-next : (lo i s : ℕ) → Beside ar e b ids ws ws₁ p₁ lo i → i < k → s ≡ getD ws₁ (e + 3 * i) 0 → Sides ar e b ids ws₁ ws₂ p₂ s 4 → Beside ar e b ids ws ws₂ p₂ lo (i + 1)
     beside-next lo i s c h q t = record {
       tried = λ j g y. elim (decLt j i) [
         | yes p ↦ sides-on _ (c .tried j g p)
@@ -281,8 +314,8 @@ module _ (ar : List ℕ) (e b : ℕ) (ids ws : List ℕ) (k : ℕ) (ws₁ : List
       ];
     }
 
-    pub entered-next : (a fill j : ℕ) → Sizes (length ar) a e b ids ws → Entries (length ar) a fill ws → j < fill → Entered ar a e b ids ws ws₁ j
-        → Tried ar e b ids ws₁ ws₂ (getD ws₁ (a + j) 0) → Entered ar a e b ids ws ws₂ (j + 1)
+    pub entered-next : (a fill j : ℕ) → Sizes (length ar) a e b ids ws → Entries (length ar) a fill ws → j < fill → Entered ar a e b ids ws ws₁ p₁ j
+        → Tried ar e b ids ws₁ ws₂ p₂ (getD ws₁ (a + j) 0) → Entered ar a e b ids ws ws₂ p₂ (j + 1)
     entered-next a fill j z f h c t = record {
       tried = λ i y. elim (decLt i j) [
         | yes p ↦ tried-on _ (c .tried i p)
@@ -302,11 +335,11 @@ module _ (ar : List ℕ) (e b : ℕ) (ids ws : List ℕ) (s d x k : ℕ) (c : Cl
   pub side-inside : (x ≡ none → ⊥) → x < length ar
   side-inside z = net-inside b ar ws s d x c (o .room) g h q z
 
-  pub side-none : x ≡ none → Tried ar e b ids ws ws (near (netAt b ar ws) s d)
-  side-none z = record { cold = λ l u. absurd (omega (arith, side-is, o .few)) }
+  pub side-none : (w : Bool) → x ≡ none → Tried ar e b ids ws ws w (near (netAt b ar ws) s d)
+  side-none w z = record { calm = λ _ l u. absurd (omega (arith, side-is, o .few)); cold = λ l u. absurd (omega (arith, side-is, o .few)) }
 
-  pub side-tried : (ws′ : List ℕ) → Tried ar e b ids ws ws′ x → Tried ar e b ids ws ws′ (near (netAt b ar ws) s d)
-  side-tried ws′ t = rw side-is t
+  pub side-tried : (w : Bool) (ws′ : List ℕ) → Tried ar e b ids ws ws′ w x → Tried ar e b ids ws ws′ w (near (netAt b ar ws) s d)
+  side-tried w ws′ t = rw side-is t
 
 module _ (ar : List ℕ) (e b : ℕ) (ids ws : List ℕ) where
   pub board-slot : (s d k : ℕ) → Board (length ar) e b k ids ws → s < length ar → d < 4 → b + (4 * s + d) < length ws
@@ -315,25 +348,25 @@ module _ (ar : List ℕ) (e b : ℕ) (ids ws : List ℕ) where
   pub board-small : (s k : ℕ) → Board (length ar) e b k ids ws → s < length ar → s < 65536
   board-small s k o g = omega (arith, o .few)
 
-  pub sides-start : (s : ℕ) → Sides ar e b ids ws ws s 0
-  sides-start s = record { few = omega arith; tried = λ k h. absurd (omega arith) }
+  pub sides-start : (w : Bool) (s : ℕ) → Sides ar e b ids ws ws w s 0
+  sides-start w s = record { few = omega arith; tried = λ k h. absurd (omega arith) }
 
-  pub sides-end : (ws′ : List ℕ) (s d : ℕ) → Sides ar e b ids ws ws′ s d → 4 ≤ d → Sides ar e b ids ws ws′ s 4
-  sides-end ws′ s d v h = let q : d ≡ 4 = omega (arith, v .few) in rw q at v
+  pub sides-end : (w : Bool) (ws′ : List ℕ) (s d : ℕ) → Sides ar e b ids ws ws′ w s d → 4 ≤ d → Sides ar e b ids ws ws′ w s 4
+  sides-end w ws′ s d v h = let q : d ≡ 4 = omega (arith, v .few) in rw q at v
 
   -- ---------------------------------------------------------------- changes, and entries, one after another
 
-  pub beside-start : (lo : ℕ) → Beside ar e b ids ws ws lo lo
-  beside-start lo = record { tried = λ j g y. absurd (omega arith) }
+  pub beside-start : (w : Bool) (lo : ℕ) → Beside ar e b ids ws ws w lo lo
+  beside-start w lo = record { tried = λ j g y. absurd (omega arith) }
 
-  pub entered-start : (a : ℕ) → Entered ar a e b ids ws ws 0
-  entered-start a = record { tried = λ j y. absurd (omega arith) }
+  pub entered-start : (w : Bool) (a : ℕ) → Entered ar a e b ids ws ws w 0
+  entered-start w a = record { tried = λ j y. absurd (omega arith) }
 
-  pub beside-span : (k : ℕ) (ws₁ : List ℕ) (k₁ : ℕ) → Board (length ar) e b k ids ws → Moved ar e b ids ws k ws₁ k₁ → (lo i s : ℕ) → Spans (length ar) e lo k ws → lo ≤ i → i < k
+  pub beside-span : (k : ℕ) (w : Bool) (ws₁ : List ℕ) (k₁ : ℕ) (w₁ : Bool) → Board (length ar) e b k ids ws → Moved ar e b ids ws k w ws₁ k₁ w₁ → (lo i s : ℕ) → Spans (length ar) e lo k ws → lo ≤ i → i < k
       → s ≡ getD ws₁ (e + 3 * i) 0 → s < length ar
-  beside-span k ws₁ k₁ o m lo i s v g h q = rw (q ∙ m .kept (e + 3 * i) (omega (arith, o .low)) (omega arith)) (v .span i g h)
+  beside-span k w ws₁ k₁ w₁ o m lo i s v g h q = rw (q ∙ m .kept (e + 3 * i) (omega (arith, o .low)) (omega arith)) (v .span i g h)
 
-  module _ (a fill j k₁ : ℕ) (ws₁ : List ℕ) (m : Moved ar e b ids ws 0 ws₁ k₁) (z : Sizes (length ar) a e b ids ws) (f : Entries (length ar) a fill ws) (h : j < fill) where
+  module _ (a fill j k₁ : ℕ) (w w₁ : Bool) (ws₁ : List ℕ) (m : Moved ar e b ids ws 0 w ws₁ k₁ w₁) (z : Sizes (length ar) a e b ids ws) (f : Entries (length ar) a fill ws) (h : j < fill) where
     pub entered-entry : (getD ws₁ (a + j) 0 ≡ none → ⊥) → getD ws₁ (a + j) 0 < length ar
     entered-entry y =
         let u = m .kept (a + j) (omega (arith, z .low)) (omega (arith, z .apart, f .filled)) in
@@ -345,8 +378,8 @@ module _ (ar : List ℕ) (e b : ℕ) (ids ws : List ℕ) where
   pub entered-small : (a fill j : ℕ) → Sizes (length ar) a e b ids ws → Entries (length ar) a fill ws → j < fill → a + j ≤ lastPlace
   entered-small a fill j z f h = omega (arith, z .apart, z .past, z .close, f .filled)
 
-  pub beside-end : (ws′ : List ℕ) (lo i hi : ℕ) → Beside ar e b ids ws ws′ lo i → i ≤ hi → hi ≤ i → Beside ar e b ids ws ws′ lo hi
-  beside-end ws′ lo i hi v g h = let q : i ≡ hi = omega arith in rw q at v
+  pub beside-end : (w : Bool) (ws′ : List ℕ) (lo i hi : ℕ) → Beside ar e b ids ws ws′ w lo i → i ≤ hi → hi ≤ i → Beside ar e b ids ws ws′ w lo hi
+  beside-end w ws′ lo i hi v g h = let q : i ≡ hi = omega arith in rw q at v
 
-  pub entered-end : (a : ℕ) (ws′ : List ℕ) (j fill : ℕ) → Entered ar a e b ids ws ws′ j → j ≤ fill → fill ≤ j → Entered ar a e b ids ws ws′ fill
-  entered-end a ws′ j fill v g h = let q : j ≡ fill = omega arith in rw q at v
+  pub entered-end : (a : ℕ) (w : Bool) (ws′ : List ℕ) (j fill : ℕ) → Entered ar a e b ids ws ws′ w j → j ≤ fill → fill ≤ j → Entered ar a e b ids ws ws′ w fill
+  entered-end a w ws′ j fill v g h = let q : j ≡ fill = omega arith in rw q at v

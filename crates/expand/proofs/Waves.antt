@@ -14,12 +14,13 @@ use borrow.Author.Tests.{eqb-true, eq-eqb, ne-eqb}
 use Rattle.rules.specs.Base.{_and_, _or_, if_then_else_, upto, any, keep}
 use Rattle.rules.specs.Field.{none}
 use Rattle.rules.specs.Net.{Net, near}
-use Rattle.rules.specs.Growth.{Marks, put, Taken, look, takes, finds, wrote, written, Spread, round, rounds}
+use Rattle.rules.specs.Growth.{Marks, put, Taken, look, takes, finds, exceeds, strays, wrote, written, Spread, round, rounds, roundsStray}
 use Rattle.laws.proofs.Basics.{both, neither, either, and-both, or-left, or-right, same-test, if-ind, All, All-both}
 use Rattle.space.proofs.Laws.{cases}
 use Rattle.expand.specs.Layout.{left, fresh, Unheld, Ok}
 use Rattle.expand.proofs.Halves.{finds-used, left-yes, left-no, wrote-yes}
-use Rattle.expand.proofs.Sources.{finds-id, written-keeps, round-is}
+use Rattle.expand.proofs.Sources.{round-is}
+use Rattle.laws.proofs.Suffice.{finds-id, written-keeps}
 
 -- ---------------------------------------------------------------- membership
 
@@ -113,6 +114,25 @@ finds-local : (N : Net) (m m′ : Marks) (s : ℕ) → ((d : ℕ) → d < 4 → 
 unfolding finds
 finds-local N m m′ s h = rw (takes-local N m m′ s h)
 
+exceeds-local : (N : Net) (m m′ : Marks) (s d : ℕ) → Alike m m′ (near N s d) → exceeds N m′ s d ≡ exceeds N m s d
+unfolding exceeds
+exceeds-local N m m′ s d h = rw (h .0, h .1)
+
+strays-local : (N : Net) (m m′ : Marks) (s : ℕ) → ((d : ℕ) → d < 4 → Alike m m′ (near N s d)) → strays N m′ s ≡ strays N m s
+unfolding strays
+strays-local N m m′ s h =
+    rw (
+      exceeds-local N m m′ s 0 (h 0 (omega arith)),
+      exceeds-local N m m′ s 1 (h 1 (omega arith)),
+      exceeds-local N m m′ s 2 (h 2 (omega arith)),
+      exceeds-local N m m′ s 3 (h 3 (omega arith)),
+    )
+
+-- a used entry computes nothing
+pub strays-used : (N : Net) (m : Marks) (s : ℕ) → s ≡ none → strays N m s ≡ true → ⊥
+unfolding strays _and_
+strays-used N m s h z = false≢true (rw (eq-eqb s none h) at z)
+
 -- ---------------------------------------------------------------- a round writes the entries that find an id, and no other span
 
 -- what a round changes
@@ -147,6 +167,11 @@ round-alike N p x h = written-alike N (p .marks) x (p .stack) (p .marks) h
 pub still-nothing : (N : Net) (p : Spread) (e : ℕ) → finds N (p .marks) e ≡ false → ((d : ℕ) → d < 4 → has (near N e d) (changes N p) ≡ false)
     → finds N (round N p .marks) e ≡ false
 still-nothing N p e z h = finds-local N (p .marks) (round N p .marks) e (λ d l. round-alike N p _ (h d l)) ∙ z
+
+-- nor does it compute a sum above 65,535 then, if it did not before
+pub still-calm : (N : Net) (p : Spread) (e : ℕ) → strays N (p .marks) e ≡ false → ((d : ℕ) → d < 4 → has (near N e d) (changes N p) ≡ false)
+    → strays N (round N p .marks) e ≡ false
+still-calm N p e z h = strays-local N (p .marks) (round N p .marks) e (λ d l. round-alike N p _ (h d l)) ∙ z
 
 -- ---------------------------------------------------------------- the order of the changes does not matter
 
@@ -361,6 +386,22 @@ module _ (N : Net) (k : ℕ) (p : Spread) where
   pub rounds-off : any (finds N (p .marks)) (p .stack) ≡ false → rounds N (suc k) p ≡ p
   unfolding rounds if_then_else_
   rounds-off z = rw z
+
+  pub stray-first : any (strays N (p .marks)) (p .stack) ≡ true → roundsStray N (suc k) p ≡ true
+  unfolding roundsStray _or_
+  stray-first z = rw z
+
+  pub stray-on : any (strays N (p .marks)) (p .stack) ≡ false → any (finds N (p .marks)) (p .stack) ≡ true → roundsStray N (suc k) p ≡ roundsStray N k (round N p)
+  unfolding roundsStray _or_ _and_
+  stray-on z f = rw (z, f)
+
+  pub stray-off : any (strays N (p .marks)) (p .stack) ≡ false → any (finds N (p .marks)) (p .stack) ≡ false → roundsStray N (suc k) p ≡ false
+  unfolding roundsStray _or_ _and_
+  stray-off z f = rw (z, f)
+
+pub stray-none : (N : Net) (p : Spread) → roundsStray N 0 p ≡ false
+unfolding roundsStray
+stray-none N p = refl
 
 pub rounds-none : (N : Net) (p : Spread) → rounds N 0 p ≡ p
 unfolding rounds

@@ -1,19 +1,21 @@
 -- Rounds by their frontier. A flag is up for each span that stands in the stack with no id and is not noted as a change; changes of all rounds stand
 -- in one queue.
 use mathlib.Core.Path.{_≡_}
-use mathlib.Core.Bool.{true, false}
+use mathlib.Core.Bool.{Bool, true, false}
 use mathlib.Core.Logic.{_⊎_}
 use mathlib.Core.List.{List, map}
 use Prim.Native.Nat.{ℕ, _+_, _-_, _*_, _≤_, _<_}
 use lib.ListN.{length, getD, take}
 use Rattle.rules.specs.Field.{none}
 use Rattle.rules.specs.Net.{Net, near}
-use Rattle.rules.specs.Growth.{Marks, finds, takes, Spread, rounds}
+use Rattle.rules.specs.Base.{any}
+use Rattle.rules.specs.Growth.{Marks, finds, takes, strays, Spread, rounds, roundsStray}
+use Rattle.rules.specs.Refusals.{mostSpans}
 use Rattle.laws.proofs.NextId.{zeros}
 use Rattle.space.specs.Space.{Clear}
-use Rattle.net.specs.Table.{netAt, lastPlace, mostSpans}
+use Rattle.net.specs.Table.{netAt, lastPlace}
 use Rattle.flood.specs.Stack.{marksAt}
-use Rattle.expand.specs.Layout.{fresh, listAt, changesAt, applied, Sizes, Calm, Entries, Ok}
+use Rattle.expand.specs.Layout.{fresh, listAt, changesAt, applied, Sizes, Entries, Ok}
 
 -- the flag of span x is up
 abbrev pub Up : ℕ → ℕ → List ℕ → ℕ → Type 0
@@ -53,12 +55,18 @@ pub record Board (n e b k : ℕ) (ids ws : List ℕ) : Type 0 where
   pub past : e + 4 * n ≤ b
   pub room : b + 4 * n ≤ length ws
   pub close : b ≤ lastPlace
-  pub calm : Calm n ws
   pub most : k ≤ n
   pub free : k ≤ zeros (listAt ws (e + 3 * n) n)
 
--- what tries leave: a flag falls only as its span is noted, with what the rule finds for it
-pub record Moved (area : List ℕ) (e b : ℕ) (ids ws : List ℕ) (k : ℕ) (ws′ : List ℕ) (k′ : ℕ) : Type 0 where
+-- a span whose flag is up computes a sum above 65,535
+pub record Strayed (area : List ℕ) (e b : ℕ) (ids ws : List ℕ) : Type 0 where
+  pub at : ℕ
+  pub span : at < length area
+  pub up : Up (length area) e ws at
+  pub strays : strays (netAt b area ws) (marksAt (length area) ids ws) at ≡ true
+
+-- what tries leave: a flag falls only as its span is noted, with what the rule finds for it; o tells whether a sum exceeded 65,535 before, o′ after
+pub record Moved (area : List ℕ) (e b : ℕ) (ids ws : List ℕ) (k : ℕ) (o : Bool) (ws′ : List ℕ) (k′ : ℕ) (o′ : Bool) : Type 0 where
   pub size : length ws′ ≡ length ws
   pub marks : take (length area) ws′ ≡ take (length area) ws
   pub more : k ≤ k′
@@ -71,19 +79,23 @@ pub record Moved (area : List ℕ) (e b : ℕ) (ids ws : List ℕ) (k : ℕ) (ws
   pub inside : (i : ℕ) → k ≤ i → i < k′ → getD ws′ (e + 3 * i) 0 < length area
   pub lit : (i : ℕ) → k ≤ i → i < k′ → Up (length area) e ws (getD ws′ (e + 3 * i) 0)
   pub right : (i : ℕ) → k ≤ i → i < k′ → FoundAt (netAt b area ws) (marksAt (length area) ids ws) (length area) e ws′ i
+  pub stray : o′ ≡ true → (o ≡ true) ⊎ Strayed area e b ids ws
+  pub still : o′ ≡ false → o ≡ false
+  pub calm : o′ ≡ false → (i : ℕ) → k ≤ i → i < k′ → strays (netAt b area ws) (marksAt (length area) ids ws) (getD ws′ (e + 3 * i) 0) ≡ false
 
--- span x is tried: if its flag is still up, it finds nothing
-pub record Tried (area : List ℕ) (e b : ℕ) (ids ws ws′ : List ℕ) (x : ℕ) : Type 0 where
+-- span x is tried: if its flag is still up, it finds nothing, and with o′ false computes no sum above 65,535
+pub record Tried (area : List ℕ) (e b : ℕ) (ids ws ws′ : List ℕ) (o′ : Bool) (x : ℕ) : Type 0 where
+  pub calm : o′ ≡ false → x < length area → Up (length area) e ws′ x → strays (netAt b area ws) (marksAt (length area) ids ws) x ≡ false
   pub cold : x < length area → Up (length area) e ws′ x → finds (netAt b area ws) (marksAt (length area) ids ws) x ≡ false
 
 -- the neighbours of span s in the first d directions are tried
-pub record Sides (area : List ℕ) (e b : ℕ) (ids ws ws′ : List ℕ) (s d : ℕ) : Type 0 where
+pub record Sides (area : List ℕ) (e b : ℕ) (ids ws ws′ : List ℕ) (o′ : Bool) (s d : ℕ) : Type 0 where
   pub few : d ≤ 4
-  pub tried : (k : ℕ) → k < d → Tried area e b ids ws ws′ (near (netAt b area ws) s k)
+  pub tried : (k : ℕ) → k < d → Tried area e b ids ws ws′ o′ (near (netAt b area ws) s k)
 
 -- all neighbours of the changes lo .. i are tried
-pub record Beside (area : List ℕ) (e b : ℕ) (ids ws ws′ : List ℕ) (lo i : ℕ) : Type 0 where
-  pub tried : (j : ℕ) → lo ≤ j → j < i → Sides area e b ids ws ws′ (getD ws (e + 3 * j) 0) 4
+pub record Beside (area : List ℕ) (e b : ℕ) (ids ws ws′ : List ℕ) (o′ : Bool) (lo i : ℕ) : Type 0 where
+  pub tried : (j : ℕ) → lo ≤ j → j < i → Sides area e b ids ws ws′ o′ (getD ws (e + 3 * j) 0) 4
 
 -- each change lo .. hi is of a span
 pub record Spans (n e lo hi : ℕ) (ws : List ℕ) : Type 0 where
@@ -91,8 +103,8 @@ pub record Spans (n e lo hi : ℕ) (ws : List ℕ) : Type 0 where
   pub span : (i : ℕ) → lo ≤ i → i < hi → getD ws (e + 3 * i) 0 < n
 
 -- the entries before j are tried
-pub record Entered (area : List ℕ) (a e b : ℕ) (ids ws ws′ : List ℕ) (j : ℕ) : Type 0 where
-  pub tried : (i : ℕ) → i < j → Tried area e b ids ws ws′ (getD ws (a + i) 0)
+pub record Entered (area : List ℕ) (a e b : ℕ) (ids ws ws′ : List ℕ) (o′ : Bool) (j : ℕ) : Type 0 where
+  pub tried : (i : ℕ) → i < j → Tried area e b ids ws ws′ o′ (getD ws (a + i) 0)
 
 -- ---------------------------------------------------------------- writes
 
@@ -144,8 +156,14 @@ pub record Front (N : Net) (n a e fill : ℕ) (ids ws : List ℕ) (lo hi : ℕ) 
   pub cold : (x : ℕ) → x < n → Up n e ws x → Entry ws a fill x × (getD ids x 0 ≡ 0) × (finds N (marksAt n ids ws) x ≡ false)
   pub all : (x : ℕ) → x < n → Entry ws a fill x → getD ids x 0 ≡ 0 → Up n e ws x ⊎ Queued ws e lo hi x
 
+-- o tells whether a sum exceeds 65,535 in all rounds, as far as they have come
+pub record Watched (N : Net) (most : ℕ) (p₀ : Spread) (o : Bool) (more : ℕ) (p : Spread) : Type 0 where
+  pub yes : o ≡ true → roundsStray N most p₀ ≡ true
+  pub no : o ≡ false → roundsStray N most p₀ ≡ roundsStray N more p
+  pub calm : o ≡ false → any (strays N (p .marks)) (p .stack) ≡ false
+
 -- the rounds that are still to come give what all of them give
-pub record Going (area : List ℕ) (a e b fill most : ℕ) (ids₀ ws₀ ids ws : List ℕ) (lo hi more : ℕ) : Type 0 where
+pub record Going (area : List ℕ) (a e b fill most : ℕ) (ids₀ ws₀ ids ws : List ℕ) (lo hi : ℕ) (o : Bool) (more : ℕ) : Type 0 where
   pub some : 0 < more
   pub order : lo ≤ hi
   pub size₁ : length ids ≡ length ids₀
@@ -156,9 +174,10 @@ pub record Going (area : List ℕ) (a e b fill most : ℕ) (ids₀ ws₀ ids ws 
   pub free : hi ≤ zeros (listAt ws (e + 3 * length area) (length area))
   pub front : Front (netAt b area ws₀) (length area) a e fill ids ws lo hi
   pub same : rounds (netAt b area ws₀) more (frontOf (length area) a fill ids ws) ≡ rounds (netAt b area ws₀) most (frontOf (length area) a fill ids₀ ws₀)
+  pub watched : Watched (netAt b area ws₀) most (frontOf (length area) a fill ids₀ ws₀) o more (frontOf (length area) a fill ids ws)
 
 -- what the rounds leave, with k changes in the queue
-pub record Gone (area : List ℕ) (a e b fill most : ℕ) (ids₀ ws₀ ids ws : List ℕ) (k : ℕ) : Type 0 where
+pub record Gone (area : List ℕ) (a e b fill most : ℕ) (ids₀ ws₀ ids ws : List ℕ) (k : ℕ) (o : Bool) : Type 0 where
   pub size₁ : length ids ≡ length ids₀
   pub size₂ : length ws ≡ length ws₀
   pub kept : (x : ℕ) → length area ≤ x → x < e → getD ws x 0 ≡ getD ws₀ x 0
@@ -168,6 +187,7 @@ pub record Gone (area : List ℕ) (a e b fill most : ℕ) (ids₀ ws₀ ids ws :
   pub only : (x : ℕ) → x < length area → Up (length area) e ws x → Entry ws a fill x
   pub ok : Ok (length area) (frontOf (length area) a fill ids ws)
   pub same : frontOf (length area) a fill ids ws ≡ rounds (netAt b area ws₀) most (frontOf (length area) a fill ids₀ ws₀)
+  pub stray : o ≡ roundsStray (netAt b area ws₀) most (frontOf (length area) a fill ids₀ ws₀)
 
 -- ---------------------------------------------------------------- the end
 

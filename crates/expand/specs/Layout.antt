@@ -11,11 +11,10 @@ use Rattle.rules.specs.Base.{_and_, if_then_else_, tab, keep}
 use Rattle.rules.specs.Field.{none}
 use Rattle.rules.specs.Net.{Net}
 use Rattle.rules.specs.Growth.{Marks, Taken, put, walkable, finds, Spread}
+use Rattle.rules.specs.Refusals.{mostSpans}
 use Rattle.laws.proofs.Basics.{All}
-use Rattle.laws.proofs.NextId.{zeros}
 use Rattle.space.specs.Space.{Clear}
-use Rattle.net.specs.Table.{netAt, lastPlace, mostSpans, Closed}
-use Rattle.flood.specs.Stack.{marksAt}
+use Rattle.net.specs.Table.{netAt, lastPlace, Closed}
 use Rattle.expand.specs.declared.look.Taken as code
 
 -- ---------------------------------------------------------------- what the rules write inside of a round, by name
@@ -84,28 +83,19 @@ pub record Past (n i z : ℕ) (ws : List ℕ) : Type 0 where
   pub room : z ≤ length ws
   pub close : z ≤ lastPlace
 
--- source distances to which 2 can be added
-pub record Calm (n : ℕ) (ws : List ℕ) : Type 0 where
-  pub fits : n ≤ length ws
-  pub most : (x : ℕ) → x < n → getD ws x 0 ≤ 2 * mostSpans
-
--- what span s is lent to look around: a net, and source distances to which 2 can be added
+-- what span s is lent to look around: a net, and source distances before it
 pub record Sight (b : ℕ) (areas ids ws : List ℕ) (s : ℕ) : Type 0 where
   pub closed : Closed (netAt b areas ws)
   pub room : b + 4 * length areas ≤ length ws
   pub close : b ≤ lastPlace
   pub idents : length ids ≡ length areas
-  pub calm : Calm (length areas) ws
+  pub low : length areas ≤ b
   pub span : s < length areas
 
 -- an entry is used or a span
 pub record Entries (n a fill : ℕ) (ws : List ℕ) : Type 0 where
   pub filled : fill ≤ n
   pub spans : (j : ℕ) → j < fill → (getD ws (a + j) 0 ≡ none → ⊥) → getD ws (a + j) 0 < n
-
--- no source distance passes twice the number of spans that have an id; so it and 2 more stay in 16 bits
-pub record Low (n : ℕ) (m : Marks) : Type 0 where
-  pub bound : (x : ℕ) → getD (m .src) x 0 + 2 * zeros (m .ids) ≤ 2 * n
 
 -- but for source distances and the stack all is as it was
 pub record Kept (n a fill : ℕ) (ws ws′ : List ℕ) : Type 0 where
@@ -116,7 +106,6 @@ pub record Kept (n a fill : ℕ) (ws ws′ : List ℕ) : Type 0 where
 pub record Given (n a e b fill : ℕ) (ids ws : List ℕ) : Type 0 where
   pub sizes : Sizes n a e b ids ws
   pub entries : Entries n a fill ws
-  pub low : Low n (marksAt n ids ws)
   pub clear : Clear e (e + 4 * n) ws
 
 -- ---------------------------------------------------------------- what holds between rounds
@@ -128,7 +117,6 @@ Unheld n ids s = (s ≡ none → ⊥) → (s < n) × (getD ids s 0 ≡ 0)
 pub record Ok (n : ℕ) (p : Spread) : Type 0 where
   pub idents : length (p .marks .ids) ≡ n
   pub entries : All (Unheld n (p .marks .ids)) (p .stack)
-  pub low : Low n (p .marks)
 
 -- ---------------------------------------------------------------- the whole
 
@@ -166,6 +154,5 @@ pub record Filling (n : ℕ) (areas ids ws₀ ws : List ℕ) (s fill : ℕ) : Ty
 -- what the last expansion is lent besides the net
 pub record Last (n e b : ℕ) (ids ws : List ℕ) : Type 0 where
   pub sizes : Sizes n n e b ids ws
-  pub low : Low n (marksAt n ids ws)
   pub stack : Clear n (n + n) ws
   pub clear : Clear e (e + 4 * n) ws

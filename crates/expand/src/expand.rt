@@ -11,11 +11,12 @@ ghost use mathlib.Core.Path.{_≡_};
 ghost use Prim.Native.Nat.{_+_, _*_, _<_, _≤_};
 ghost use lib.ListN.{length, getD, set, drop};
 ghost use Rattle.rules.specs.Field.{none};
-ghost use Rattle.rules.specs.Growth.{expand, blank};
+ghost use Rattle.rules.specs.Growth.{expand, expandStrays, blank};
+ghost use Rattle.rules.specs.Refusals.{mostSpans};
 ghost use Rattle.space.specs.Space.{sec};
-ghost use Rattle.net.specs.Table.{netAt, lastPlace, mostSpans, Mutual};
+ghost use Rattle.net.specs.Table.{netAt, lastPlace, Mutual};
 ghost use Rattle.flood.specs.Stack.{marksAt};
-ghost use Rattle.expand.specs.Layout.{fresh, mostAt, pushAt, fillAt, Past, Entries, Low, Kept, Given, Using, Filling, Last};
+ghost use Rattle.expand.specs.Layout.{fresh, mostAt, pushAt, fillAt, Past, Entries, Kept, Given, Using, Filling, Last};
 ghost use Rattle.expand.specs.Front.{Settled};
 
 // A used entry: NO_SPAN in 16 bits.
@@ -77,7 +78,7 @@ fn settle(ids: &[u16], ws: &mut [u16], n: usize, at: Sections, stack: Stack, k: 
     clear_part(ws, at.changes, at.changes + 3 * k);
 }
 
-// Expands the stack at a level.
+// Expands the stack at a level. Tells whether a sum exceeded what a source distance can be.
 pub fn expand_regions(
     area: &[u8],
     ids: &mut [u16],
@@ -85,7 +86,7 @@ pub fn expand_regions(
     at: Sections,
     stack: Stack,
     level: u16,
-)
+) -> bool
     requires { ⌜ Mutual (netAt (at .table) (now area) (now ws)) × (at .stack ≡ at .changes + 3 * length (now area)) ⌝ }
     requires { ⌜ Given (length (now area)) (stack .at) (at .changes) (at .table) (stack .fill) (now ids) (now ws) ⌝ }
     ensures { λ _. ⌜ (let n = length (now (area .entry)) in
@@ -93,6 +94,9 @@ pub fn expand_regions(
         let before = marksAt n (now (ids .entry)) (now (ws .entry)) in
         record { marks = marksAt n (now (ids .exit)) (now (ws .exit)); stack = sec (stack .at) (stack .fill) (now (ws .exit)) }
         ≡ expand net level before (sec (stack .at) (stack .fill) (now (ws .entry)))) ⌝ }
+    ensures { λ r. ⌜ (let net = netAt (at .table) (now (area .entry)) (now (ws .entry)) in
+        let before = marksAt (length (now (area .entry))) (now (ids .entry)) (now (ws .entry)) in
+        r ≡ expandStrays net level before (sec (stack .at) (stack .fill) (now (ws .entry)))) ⌝ }
     ensures { λ _. ⌜ Kept (length (now (area .entry))) (stack .at) (stack .fill) (now (ws .entry)) (now (ws .exit)) ⌝ }
     ensures { λ _. ⌜ Given (length (now (area .entry))) (stack .at) (at .changes) (at .table) (stack .fill) (now (ids .exit)) (now (ws .exit)) ⌝ }
 {
@@ -100,8 +104,9 @@ pub fn expand_regions(
     use_up(ids, ws, stack);
     flag_all(ws, n, at.stack, stack, 1);
     let most = most_rounds(level, stack.fill);
-    let k = rounds(area, ids, ws, at, stack, most);
-    settle(ids, ws, n, at, stack, k);
+    let t = rounds(area, ids, ws, at, stack, most);
+    settle(ids, ws, n, at, stack, t.noted);
+    t.strays
 }
 
 // Span s is stacked, with fill spans on the stack at n, if it is walkable and has id 0. Gives the stack's new fill.
@@ -136,21 +141,23 @@ fn fill_stack(area: &[u8], ids: &[u16], ws: &mut [u16]) -> usize
     fill
 }
 
-// Expands all walkable spans of id 0 at level 0, with no limit of rounds; their stack is past the source distances. Gives how many they were.
-pub fn expand_last(area: &[u8], ids: &mut [u16], ws: &mut [u16], at: Sections) -> usize
+// Expands all walkable spans of id 0 at level 0, with no limit of rounds; their stack is past the source distances. Tells whether a sum exceeded
+// what a source distance can be.
+pub fn expand_last(area: &[u8], ids: &mut [u16], ws: &mut [u16], at: Sections) -> bool
     requires { ⌜ Mutual (netAt (at .table) (now area) (now ws)) × (at .stack ≡ at .changes + 3 * length (now area)) ⌝ }
     requires { ⌜ Last (length (now area)) (at .changes) (at .table) (now ids) (now ws) ⌝ }
     ensures { λ _. ⌜ (let n = length (now (area .entry)) in
         let net = netAt (at .table) (now (area .entry)) (now (ws .entry)) in
         let before = marksAt n (now (ids .entry)) (now (ws .entry)) in
         marksAt n (now (ids .exit)) (now (ws .exit)) ≡ expand net 0 before (blank (now (area .entry)) (now (ids .entry))) .marks) ⌝ }
-    ensures { λ r. ⌜ r ≡ length (blank (now (area .entry)) (now (ids .entry))) ⌝ }
+    ensures { λ r. ⌜ (let net = netAt (at .table) (now (area .entry)) (now (ws .entry)) in
+        let before = marksAt (length (now (area .entry))) (now (ids .entry)) (now (ws .entry)) in
+        r ≡ expandStrays net 0 before (blank (now (area .entry)) (now (ids .entry)))) ⌝ }
     ensures { λ _. ⌜ drop (length (now (area .entry))) (now (ws .exit)) ≡ drop (length (now (area .entry))) (now (ws .entry)) ⌝ }
-    ensures { λ _. ⌜ Low (length (now (area .entry))) (marksAt (length (now (area .entry))) (now (ids .exit)) (now (ws .exit))) ⌝ }
 {
     let n = area.len();
     let fill = fill_stack(area, ids, ws);
-    expand_regions(area, ids, ws, at, Stack { at: n, fill }, 0);
+    let strays = expand_regions(area, ids, ws, at, Stack { at: n, fill }, 0);
     clear_part(ws, n, n + fill);
-    fill
+    strays
 }

@@ -5,17 +5,19 @@ use field::read::at8;
 use net::neighbour;
 use region::RegionId;
 ghost use mathlib.Core.Path.{_≡_};
-ghost use Prim.Native.Nat.{_+_, _*_, _<_, _≤_};
+ghost use Prim.Native.Nat.{_+_, _<_, _≤_};
 ghost use lib.ListN.{length, getD};
-ghost use Rattle.rules.specs.Growth.{look, takes};
-ghost use Rattle.net.specs.Table.{netAt, mostSpans};
+ghost use Rattle.rules.specs.Base.{_or_};
+ghost use Rattle.rules.specs.Growth.{look, takes, exceeds, strays};
+ghost use Rattle.net.specs.Table.{netAt};
 ghost use Rattle.flood.specs.Stack.{marksAt};
 ghost use Rattle.expand.specs.Layout.{takenOf, Sight};
 
-// An id, and the source distance that goes with it.
+// An id, and the source distance that goes with it; and whether a sum exceeded what a source distance can be.
 pub struct Taken {
     pub id: u16,
     pub far: u16,
+    pub strays: bool,
 }
 
 // Farther than any sum that is found.
@@ -29,12 +31,15 @@ fn id_at(ids: &[u16], t: usize) -> u16
     ids[t]
 }
 
-// The source distance of span t, plus 2.
-fn farther(ws: &[u16], t: usize) -> u16
-    requires { ⌜ (t < length (now ws)) × (getD (now ws) t 0 ≤ 2 * mostSpans) ⌝ }
-    ensures { λ r. ⌜ r ≡ getD (now (ws .entry)) t 0 + 2 ⌝ }
+// The greatest source distance that can be farther by 2.
+const MOST_SOURCE: u16 = 65533;
+
+// The source distance of span t.
+fn source_at(ws: &[u16], t: usize) -> u16
+    requires { ⌜ t < length (now ws) ⌝ }
+    ensures { λ r. ⌜ r ≡ getD (now (ws .entry)) t 0 ⌝ }
 {
-    ws[t] + 2
+    ws[t]
 }
 
 // An entry of the area own looks in direction d, having found t.
@@ -49,9 +54,10 @@ fn look(
     t: Taken,
 ) -> Taken
     requires { ⌜ Sight table (now area) (now ids) (now ws) (span .0) × (d < 4) × (own ≡ getD (now area) (span .0) 0) × (own < 256) ⌝ }
+    requires { ⌜ t .far ≤ 65535 ⌝ }
     ensures { λ r. ⌜ (let net = netAt table (now (area .entry)) (now (ws .entry)) in
         let marks = marksAt (length (now (area .entry))) (now (ids .entry)) (now (ws .entry)) in
-        takenOf r ≡ look net marks (span .0) d (takenOf t)) ⌝ }
+        (takenOf r ≡ look net marks (span .0) d (takenOf t)) × (r .strays ≡ t .strays or exceeds net marks (span .0) d)) ⌝ }
 {
     let a = neighbour(ws, table, span, d).0;
     if a == NO_SPAN {
@@ -67,24 +73,44 @@ fn look(
     if RegionId(r).is_border() {
         return t;
     }
-    let f = farther(ws, a);
-    if f < t.far {
-        return Taken { id: r, far: f };
+    let f = source_at(ws, a);
+    if MOST_SOURCE < f {
+        return Taken {
+            id: t.id,
+            far: t.far,
+            strays: true,
+        };
+    }
+    let far = f + 2;
+    if far < t.far {
+        return Taken {
+            id: r,
+            far,
+            strays: t.strays,
+        };
     }
     t
 }
 
-// What entry span takes: all four directions, in order.
-pub(crate) fn takes(area: &[u8], ids: &[u16], ws: &[u16], table: usize, span: SpanIx) -> Taken
+// What entry span takes: all four directions, in order; strayed is what the looks before it gave.
+pub(crate) fn takes(
+    area: &[u8],
+    ids: &[u16],
+    ws: &[u16],
+    table: usize,
+    span: SpanIx,
+    strayed: bool,
+) -> Taken
     requires { ⌜ Sight table (now area) (now ids) (now ws) (span .0) ⌝ }
     ensures { λ r. ⌜ (let net = netAt table (now (area .entry)) (now (ws .entry)) in
         let marks = marksAt (length (now (area .entry))) (now (ids .entry)) (now (ws .entry)) in
-        takenOf r ≡ takes net marks (span .0)) ⌝ }
+        (takenOf r ≡ takes net marks (span .0)) × (r .strays ≡ strayed or strays net marks (span .0))) ⌝ }
 {
     let own = at8(area, span.0);
     let mut t = Taken {
         id: RegionId::NONE.0,
         far: FARTHEST,
+        strays: strayed,
     };
     for d in 0..4 {
         t = look(area, ids, ws, table, span, own, d, t);

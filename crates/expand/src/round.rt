@@ -1,5 +1,6 @@
 // Rounds: the changes of one are written together at its end, and the next tries the neighbours of what they changed.
 use crate::Stack;
+use crate::tries::Tries;
 use crate::tries::try_all;
 use crate::tries::try_beside;
 use field::read::at16;
@@ -36,7 +37,7 @@ fn write_all(ids: &mut [u16], ws: &mut [u16], changes: usize, lo: usize, hi: usi
     }
 }
 
-// At most that many rounds; one in which nothing changed is the last. Gives the number of changes that are noted.
+// At most that many rounds; one in which nothing changed is the last.
 pub(crate) fn rounds(
     area: &[u8],
     ids: &mut [u16],
@@ -44,26 +45,27 @@ pub(crate) fn rounds(
     at: Sections,
     stack: Stack,
     most: usize,
-) -> usize
+) -> Tries
     requires { ⌜ Mutual (netAt (at .table) (now area) (now ws)) × (at .stack ≡ at .changes + 3 * length (now area)) × (0 < most) ⌝ }
     requires { ⌜ Lit (length (now area)) (stack .at) (at .changes) (at .table) (stack .fill) (now ids) (now ws) ⌝ }
     ensures { λ r. ⌜ (let e = at .changes in let b = at .table in
-        Gone (now (area .entry)) (stack .at) e b (stack .fill) most (now (ids .entry)) (now (ws .entry)) (now (ids .exit)) (now (ws .exit)) r) ⌝ }
+        Gone (now (area .entry)) (stack .at) e b (stack .fill) most (now (ids .entry)) (now (ws .entry)) (now (ids .exit)) (now (ws .exit))
+        (r .noted) (r .strays)) ⌝ }
 {
     let from = stack.at;
     let fill = stack.fill;
     let mut lo: usize = 0;
-    let mut hi = try_all(area, ids, ws, at, from, fill);
+    let mut t = try_all(area, ids, ws, at, from, fill);
     let mut left = most;
-    while lo < hi {
+    while lo < t.noted {
+        let hi = t.noted;
         write_all(ids, ws, at.changes, lo, hi);
         if left == 1 {
-            return hi;
+            return t;
         }
-        let k = try_beside(area, ids, ws, at, lo, hi);
+        t = try_beside(area, ids, ws, at, lo, hi, t.strays);
         lo = hi;
-        hi = k;
         left -= 1;
     }
-    hi
+    t
 }

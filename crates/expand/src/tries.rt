@@ -7,6 +7,7 @@ use net::Sections;
 use net::neighbour;
 use region::RegionId;
 ghost use mathlib.Core.Path.{_≡_};
+ghost use mathlib.Core.Bool.{false};
 ghost use Prim.Native.Nat.{_+_, _*_, _<_, _≤_};
 ghost use lib.ListN.{length, getD};
 ghost use Rattle.rules.specs.Field.{none};
@@ -14,6 +15,12 @@ ghost use Rattle.rules.specs.Net.{near};
 ghost use Rattle.net.specs.Table.{netAt, lastPlace, Closed};
 ghost use Rattle.expand.specs.Layout.{noted, Sizes, Entries};
 ghost use Rattle.expand.specs.Front.{Board, Moved, Tried, Sides, Beside, Spans, Entered};
+
+// How many changes are noted, and whether a sum exceeded what a source distance can be.
+pub struct Tries {
+    pub noted: usize,
+    pub strays: bool,
+}
 
 // The flag at i falls, and the change of span s is noted at c.
 fn note(ws: &mut [u16], i: usize, c: usize, s: u16, id: u16, far: u16)
@@ -26,24 +33,32 @@ fn note(ws: &mut [u16], i: usize, c: usize, s: u16, id: u16, far: u16)
     ws[c + 2] = far;
 }
 
-// A span is tried, with k changes noted so far. Gives their number.
-fn try_span(area: &[u8], ids: &[u16], ws: &mut [u16], at: Sections, span: SpanIx, k: usize) -> usize
+// A span is tried, after the tries t.
+fn try_span(area: &[u8], ids: &[u16], ws: &mut [u16], at: Sections, span: SpanIx, t: Tries) -> Tries
     requires { ⌜ Closed (netAt (at .table) (now area) (now ws)) × (at .stack ≡ at .changes + 3 * length (now area)) ⌝ }
-    requires { ⌜ Board (length (now area)) (at .changes) (at .table) k (now ids) (now ws) × (span .0 < length (now area)) ⌝ }
-    ensures { λ r. ⌜ Moved (now (area .entry)) (at .changes) (at .table) (now (ids .entry)) (now (ws .entry)) k (now (ws .exit)) r ⌝ }
-    ensures { λ _. ⌜ Tried (now (area .entry)) (at .changes) (at .table) (now (ids .entry)) (now (ws .entry)) (now (ws .exit)) (span .0) ⌝ }
+    requires { ⌜ Board (length (now area)) (at .changes) (at .table) (t .noted) (now ids) (now ws) × (span .0 < length (now area)) ⌝ }
+    ensures { λ r. ⌜ (let ws₀ = now (ws .entry) in
+        Moved (now (area .entry)) (at .changes) (at .table) (now (ids .entry)) ws₀ (t .noted) (t .strays) (now (ws .exit)) (r .noted) (r .strays)) ⌝ }
+    ensures { λ r. ⌜ Tried (now (area .entry)) (at .changes) (at .table) (now (ids .entry)) (now (ws .entry)) (now (ws .exit)) (r .strays) (span .0) ⌝ }
 {
     let x = span.0;
     let i = at.stack + x;
     if at16(ws, i) == 0 {
-        return k;
+        return t;
     }
-    let t = takes(area, ids, ws, at.table, span);
-    if t.id == RegionId::NONE.0 {
-        return k;
+    let k = t.noted;
+    let f = takes(area, ids, ws, at.table, span, t.strays);
+    if f.id == RegionId::NONE.0 {
+        return Tries {
+            noted: k,
+            strays: f.strays,
+        };
     }
-    note(ws, i, at.changes + 3 * k, x as u16, t.id, t.far);
-    k + 1
+    note(ws, i, at.changes + 3 * k, x as u16, f.id, f.far);
+    Tries {
+        noted: k + 1,
+        strays: f.strays,
+    }
 }
 
 // The neighbour of a span in direction d is tried.
@@ -54,19 +69,20 @@ fn try_side(
     at: Sections,
     span: SpanIx,
     d: usize,
-    k: usize,
-) -> usize
+    t: Tries,
+) -> Tries
     requires { ⌜ Closed (netAt (at .table) (now area) (now ws)) × (at .stack ≡ at .changes + 3 * length (now area)) ⌝ }
-    requires { ⌜ Board (length (now area)) (at .changes) (at .table) k (now ids) (now ws) × (span .0 < length (now area)) × (d < 4) ⌝ }
-    ensures { λ r. ⌜ Moved (now (area .entry)) (at .changes) (at .table) (now (ids .entry)) (now (ws .entry)) k (now (ws .exit)) r ⌝ }
-    ensures { λ _. ⌜ (let side = near (netAt (at .table) (now (area .entry)) (now (ws .entry))) (span .0) d in
-        Tried (now (area .entry)) (at .changes) (at .table) (now (ids .entry)) (now (ws .entry)) (now (ws .exit)) side) ⌝ }
+    requires { ⌜ Board (length (now area)) (at .changes) (at .table) (t .noted) (now ids) (now ws) × (span .0 < length (now area)) × (d < 4) ⌝ }
+    ensures { λ r. ⌜ (let ws₀ = now (ws .entry) in
+        Moved (now (area .entry)) (at .changes) (at .table) (now (ids .entry)) ws₀ (t .noted) (t .strays) (now (ws .exit)) (r .noted) (r .strays)) ⌝ }
+    ensures { λ r. ⌜ (let side = near (netAt (at .table) (now (area .entry)) (now (ws .entry))) (span .0) d in
+        Tried (now (area .entry)) (at .changes) (at .table) (now (ids .entry)) (now (ws .entry)) (now (ws .exit)) (r .strays) side) ⌝ }
 {
     let side = neighbour(ws, at.table, span, d);
     if side.0 == NO_SPAN {
-        return k;
+        return t;
     }
-    try_span(area, ids, ws, at, side, k)
+    try_span(area, ids, ws, at, side, t)
 }
 
 // All four neighbours of a span.
@@ -76,23 +92,24 @@ fn try_around(
     ws: &mut [u16],
     at: Sections,
     span: SpanIx,
-    noted: usize,
-) -> usize
+    t: Tries,
+) -> Tries
     requires { ⌜ Closed (netAt (at .table) (now area) (now ws)) × (at .stack ≡ at .changes + 3 * length (now area)) ⌝ }
-    requires { ⌜ Board (length (now area)) (at .changes) (at .table) noted (now ids) (now ws) × (span .0 < length (now area)) ⌝ }
-    ensures { λ r. ⌜ Moved (now (area .entry)) (at .changes) (at .table) (now (ids .entry)) (now (ws .entry)) noted (now (ws .exit)) r ⌝ }
-    ensures { λ _. ⌜ Sides (now (area .entry)) (at .changes) (at .table) (now (ids .entry)) (now (ws .entry)) (now (ws .exit)) (span .0) 4 ⌝ }
+    requires { ⌜ Board (length (now area)) (at .changes) (at .table) (t .noted) (now ids) (now ws) × (span .0 < length (now area)) ⌝ }
+    ensures { λ r. ⌜ (let ws₀ = now (ws .entry) in
+        Moved (now (area .entry)) (at .changes) (at .table) (now (ids .entry)) ws₀ (t .noted) (t .strays) (now (ws .exit)) (r .noted) (r .strays)) ⌝ }
+    ensures { λ r. ⌜ Sides (now (area .entry)) (at .changes) (at .table) (now (ids .entry)) (now (ws .entry)) (now (ws .exit)) (r .strays) (span .0) 4 ⌝ }
 {
-    let mut k = noted;
+    let mut r = t;
     let mut d: usize = 0;
     while d < 4 {
-        k = try_side(area, ids, ws, at, span, d, k);
+        r = try_side(area, ids, ws, at, span, d, r);
         d += 1;
     }
-    k
+    r
 }
 
-// The neighbours of the changes lo .. hi, which are the last noted. Gives the number of changes.
+// The neighbours of the changes lo .. hi, which are the last noted; strays is what the tries before gave.
 pub(crate) fn try_beside(
     area: &[u8],
     ids: &[u16],
@@ -100,39 +117,42 @@ pub(crate) fn try_beside(
     at: Sections,
     lo: usize,
     hi: usize,
-) -> usize
+    strays: bool,
+) -> Tries
     requires { ⌜ Closed (netAt (at .table) (now area) (now ws)) × (at .stack ≡ at .changes + 3 * length (now area)) ⌝ }
     requires { ⌜ Board (length (now area)) (at .changes) (at .table) hi (now ids) (now ws) × Spans (length (now area)) (at .changes) lo hi (now ws) ⌝ }
-    ensures { λ r. ⌜ Moved (now (area .entry)) (at .changes) (at .table) (now (ids .entry)) (now (ws .entry)) hi (now (ws .exit)) r ⌝ }
-    ensures { λ _. ⌜ Beside (now (area .entry)) (at .changes) (at .table) (now (ids .entry)) (now (ws .entry)) (now (ws .exit)) lo hi ⌝ }
+    ensures { λ r. ⌜ (let ws₀ = now (ws .entry) in
+        Moved (now (area .entry)) (at .changes) (at .table) (now (ids .entry)) ws₀ hi strays (now (ws .exit)) (r .noted) (r .strays)) ⌝ }
+    ensures { λ r. ⌜ Beside (now (area .entry)) (at .changes) (at .table) (now (ids .entry)) (now (ws .entry)) (now (ws .exit)) (r .strays) lo hi ⌝ }
 {
-    let mut k = hi;
+    let mut t = Tries { noted: hi, strays };
     let mut i = lo;
     while i < hi {
         let s = at16(ws, at.changes + 3 * i);
-        k = try_around(area, ids, ws, at, SpanIx(s), k);
+        t = try_around(area, ids, ws, at, SpanIx(s), t);
         i += 1;
     }
-    k
+    t
 }
 
 // The entry at i is tried, unless it is used.
-fn try_entry(area: &[u8], ids: &[u16], ws: &mut [u16], at: Sections, i: usize, k: usize) -> usize
+fn try_entry(area: &[u8], ids: &[u16], ws: &mut [u16], at: Sections, i: usize, t: Tries) -> Tries
     requires { ⌜ Closed (netAt (at .table) (now area) (now ws)) × (at .stack ≡ at .changes + 3 * length (now area)) ⌝ }
-    requires { ⌜ Board (length (now area)) (at .changes) (at .table) k (now ids) (now ws) × (i < length (now ws)) × (i ≤ lastPlace) ⌝ }
+    requires { ⌜ Board (length (now area)) (at .changes) (at .table) (t .noted) (now ids) (now ws) × (i < length (now ws)) × (i ≤ lastPlace) ⌝ }
     requires span { ⌜ ((getD (now ws) i 0 ≡ none → ⊥) → getD (now ws) i 0 < length (now area)) ⌝ }
-    ensures { λ r. ⌜ Moved (now (area .entry)) (at .changes) (at .table) (now (ids .entry)) (now (ws .entry)) k (now (ws .exit)) r ⌝ }
-    ensures { λ _. ⌜ (let entry = getD (now (ws .entry)) i 0 in
-        Tried (now (area .entry)) (at .changes) (at .table) (now (ids .entry)) (now (ws .entry)) (now (ws .exit)) entry) ⌝ }
+    ensures { λ r. ⌜ (let ws₀ = now (ws .entry) in
+        Moved (now (area .entry)) (at .changes) (at .table) (now (ids .entry)) ws₀ (t .noted) (t .strays) (now (ws .exit)) (r .noted) (r .strays)) ⌝ }
+    ensures { λ r. ⌜ (let entry = getD (now (ws .entry)) i 0 in
+        Tried (now (area .entry)) (at .changes) (at .table) (now (ids .entry)) (now (ws .entry)) (now (ws .exit)) (r .strays) entry) ⌝ }
 {
     let s = at16(ws, i);
     if s == NO_SPAN {
-        return k;
+        return t;
     }
-    try_span(area, ids, ws, at, SpanIx(s), k)
+    try_span(area, ids, ws, at, SpanIx(s), t)
 }
 
-// All entries, `fill` of them from `from` on. Gives the number of changes.
+// All entries, `fill` of them from `from` on.
 pub(crate) fn try_all(
     area: &[u8],
     ids: &[u16],
@@ -140,18 +160,23 @@ pub(crate) fn try_all(
     at: Sections,
     from: usize,
     fill: usize,
-) -> usize
+) -> Tries
     requires { ⌜ Closed (netAt (at .table) (now area) (now ws)) × (at .stack ≡ at .changes + 3 * length (now area)) ⌝ }
     requires { ⌜ Board (length (now area)) (at .changes) (at .table) 0 (now ids) (now ws) × Entries (length (now area)) from fill (now ws) ⌝ }
     requires { ⌜ Sizes (length (now area)) from (at .changes) (at .table) (now ids) (now ws) ⌝ }
-    ensures { λ r. ⌜ Moved (now (area .entry)) (at .changes) (at .table) (now (ids .entry)) (now (ws .entry)) 0 (now (ws .exit)) r ⌝ }
-    ensures { λ _. ⌜ Entered (now (area .entry)) from (at .changes) (at .table) (now (ids .entry)) (now (ws .entry)) (now (ws .exit)) fill ⌝ }
+    ensures { λ r. ⌜ (let ws₀ = now (ws .entry) in
+        Moved (now (area .entry)) (at .changes) (at .table) (now (ids .entry)) ws₀ 0 false (now (ws .exit)) (r .noted) (r .strays)) ⌝ }
+    ensures { λ r. ⌜ (let ws₀ = now (ws .entry) in
+        Entered (now (area .entry)) from (at .changes) (at .table) (now (ids .entry)) ws₀ (now (ws .exit)) (r .strays) fill) ⌝ }
 {
-    let mut k: usize = 0;
+    let mut t = Tries {
+        noted: 0,
+        strays: false,
+    };
     let mut j: usize = 0;
     while j < fill {
-        k = try_entry(area, ids, ws, at, from + j, k);
+        t = try_entry(area, ids, ws, at, from + j, t);
         j += 1;
     }
-    k
+    t
 }

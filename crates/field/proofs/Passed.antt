@@ -8,7 +8,7 @@ use lib.ListN.{length}
 use borrow.Author.Tests.{eqb-true, eq-eqb, ltb-false, not-false}
 use Rattle.rules.specs.Base.{_and_, if_then_else_, every}
 use Rattle.rules.specs.Field.{Field, spans}
-use Rattle.rules.specs.Refusals.{goodCells, goodCon, tooWide, tooMany, wrongLength, wrongCells, wrongReach, refusal}
+use Rattle.rules.specs.Refusals.{goodCells, goodCon, tooWide, tooMany, wrongLength, wrongCells, wrongReach, refusal, mostSpans}
 use Rattle.laws.proofs.Basics.{both, neither, every-at}
 use Rattle.laws.proofs.Cells.{passed}
 use Rattle.field.specs.Lent.{Celled, Reached, Sound}
@@ -28,7 +28,7 @@ lengths F lens e =
     let c = both _ _ (b .0) in
     record { indexed = eqb-true _ _ (c .0); counted = eqb-true _ _ (c .1); linked = eqb-true _ _ (b .1) }
 
-pub celled-of : (F : Field) (lens : List ℕ) → F .w ≤ 256 → F .h ≤ 256 → spans F ≤ 32000 → wrongLength F lens ≡ false
+pub celled-of : (F : Field) (lens : List ℕ) → F .w ≤ 256 → F .h ≤ 256 → spans F ≤ mostSpans → wrongLength F lens ≡ false
     → goodCells (F .index) (F .count) 0 (spans F) ≡ true → Celled F
 celled-of F lens p q n e g =
     let l = lengths F lens e in

@@ -5,7 +5,7 @@ use mathlib.Core.Bool.{true}
 use mathlib.Core.List.{List, [], _∷_}
 use lib.ListN.{length, getD}
 use Rattle.rules.specs.Field.{Field, spans, cellOf}
-use Rattle.rules.specs.Refusals.{goodCells, goodCon, refusal}
+use Rattle.rules.specs.Refusals.{goodCells, goodCon, refusal, mostSpans}
 
 -- the lists and numbers that a caller lends, as one field
 abbrev pub lent : ℕ → ℕ → List ℕ → List ℕ → List ℕ → List ℕ → Field
@@ -25,7 +25,7 @@ pub record Celled (F : Field) : Type 0 where
   pub narrow : F .w ≤ 256
   pub short : F .h ≤ 256
   pub grid : F .w * F .h ≤ 65536
-  pub few : spans F ≤ 32000
+  pub few : spans F ≤ mostSpans
   pub indexed : length (F .index) ≡ F .w * F .h
   pub counted : length (F .count) ≡ F .w * F .h
   pub linked : length (F .con) ≡ 4 * spans F

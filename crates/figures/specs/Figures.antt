@@ -12,7 +12,7 @@ use Rattle.rules.specs.Net.{netOf, neighboursOf}
 use Rattle.rules.specs.Net as net
 use Rattle.rules.specs.Refusals.{goodCells, goodCon, goodBack, tooWide, tooMany, wrongLength, wrongCells, wrongReach, wrongBack, refusal, tooShort, tooFar, regionRefusal}
 use Rattle.rules.specs.Distance.{same, startAt, start, leastOf, lower, pass1, pass2, raw, greatest, term, blurAt, blur}
-use Rattle.rules.specs.Growth.{walkable, put, paintOf, painted, firstId, blank, sorted, remains, look, takes, finds, wrote, written, round, rounds, expand, sees, orElse, objects, pushed, visit, flow, flood, floods, loaded, turn, grown}
+use Rattle.rules.specs.Growth.{walkable, put, paintOf, painted, firstId, blank, sorted, remains, look, takes, finds, wrote, written, round, rounds, expand, sees, orElse, objects, pushed, visit, flow, flood, floods, loaded, turn, grown, exceeds, strays, roundsStray, expandStrays, floodsRunOut, turnStops, turnsStop, stops}
 use Rattle.rules.specs.Contour.{across, solid, firstSolid, stride, walk, trim, walkFrom, contour, cutShort}
 use Rattle.rules.specs.Records.{fresh, at, once, onceAll, others, counted, addSpan, records}
 use Rattle.rules.specs.Filter.{seen, removed, reach, gather, total, removeAll, filterOne, filtered}
@@ -47,6 +47,7 @@ unfolding _and_ _or_ if_then_else_ upto tab every any keep many cellOf cellTo le
     goodCells goodCon goodBack tooWide tooMany wrongLength wrongCells wrongReach wrongBack refusal tooShort tooFar regionRefusal
     same startAt start leastOf lower pass1 pass2 raw greatest term blurAt blur
     walkable put paintOf painted firstId blank sorted remains look takes finds wrote written round rounds expand sees orElse objects pushed visit flow flood floods loaded turn grown
+    exceeds strays roundsStray expandStrays floodsRunOut turnStops turnsStop stops
     across solid firstSolid stride walk trim walkFrom contour cutShort fresh at once onceAll others counted addSpan records
     seen removed reach gather total removeAll filterOne filtered
     suits picked place around dedup tidy absorbed emptied renamed mergeOne merged live numberOf overlaps cuts numbered regions inUse rank condensed formed

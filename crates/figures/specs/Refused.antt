@@ -93,8 +93,8 @@ pub wrongFields : List Lent
 wrongFields =
     -- 1: w or h above 256, before all else
     wrong (bare 257 1) 1 ∷ wrong (bare 1 257) 1 ∷
-    -- 2: n above 32,000, before the lengths
-    wrong (withArea (replicate 32001 1)) 2 ∷
+    -- 2: n above 65,000, before the lengths
+    wrong (withArea (replicate 65001 1)) 2 ∷
     -- 3: each list one short or one long
     wrong (withIndex (take 8 (good .index))) 3 ∷ wrong (withIndex (good .index ++ (9 ∷ []))) 3 ∷
     wrong (withCount (take 8 (good .count))) 3 ∷ wrong (withCount (good .count ++ (0 ∷ []))) 3 ∷

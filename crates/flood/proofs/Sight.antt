@@ -12,6 +12,7 @@ use Rattle.rules.specs.Base.{_and_, if_then_else_}
 use Rattle.rules.specs.Field.{none}
 use Rattle.rules.specs.Net.{Net, near, corner, areaOf}
 use Rattle.rules.specs.Growth.{Marks, Seed, flagged, other, sees, orElse, objects}
+use Rattle.rules.specs.Refusals.{mostSpans}
 use Rattle.laws.proofs.Basics.{if-ind, getD-any}
 use Rattle.field.proofs.Places.{turned}
 use Rattle.net.specs.Table.{netAt, AtSpan}
@@ -22,7 +23,7 @@ use Rattle.flood.specs.Stack.{marksAt}
 -- ---------------------------------------------------------------- a span that is looked at
 
 module _ (ar ids : List ℕ) (q : Seed) (u : ℕ) where
-  pub bears-none : length ar ≤ 32000 → q .area < 256 → u ≡ 65535 → false ≡ bears ar ids q u
+  pub bears-none : length ar ≤ mostSpans → q .area < 256 → u ≡ 65535 → false ≡ bears ar ids q u
   unfolding bears _and_
   bears-none n b z =
       let e : getD ar u 256 ≡ 256 = List·getD-eq-default ar 256 (omega arith) in

@@ -9,7 +9,8 @@ ghost use Prim.Native.Nat.{_<_, _≤_};
 ghost use lib.ListN.{length};
 ghost use Rattle.rules.specs.Field.{none};
 ghost use Rattle.rules.specs.Growth.{other, sees, objects};
-ghost use Rattle.net.specs.Table.{netAt, mostSpans, AtSpan};
+ghost use Rattle.rules.specs.Refusals.{mostSpans};
+ghost use Rattle.net.specs.Table.{netAt, AtSpan};
 ghost use Rattle.flood.specs.Looks.{seedOf, bears};
 ghost use Rattle.flood.specs.Stack.{marksAt};
 

@@ -3,12 +3,14 @@
 use Prim.Native.Nat.{ℕ, _+_, _*_, _≤_, _<_}
 use native.Mathlib.Omega.{arith}
 use mathlib.Core.Path.{_≡_, sym, ap, _∙_}
+use mathlib.Core.Bool.{Bool}
 use mathlib.Core.Logic.{inl, inr, ⊎-elim}
 use mathlib.Core.List.{List, []}
 use lib.ListN.{length, getD, set}
 use Rattle.rules.specs.Field.{none}
 use Rattle.rules.specs.Net.{Net, spans}
-use Rattle.rules.specs.Growth.{Spread, expand}
+use Rattle.rules.specs.Growth.{Spread, expand, expandStrays}
+use Rattle.rules.specs.Refusals.{mostSpans}
 use Rattle.laws.proofs.Basics.{All, All-map}
 use Rattle.laws.proofs.Grows.{Inside, expand-down}
 use Rattle.space.specs.Space.{sec}
@@ -36,7 +38,7 @@ module _ (ar con : List ℕ) (at : Sections) (next : ℕ) (fs : List ℕ) (j : �
   room : 13 * length ar ≤ length ws
   room = room-for ar con at next fs j ids ws (v .between)
 
-  few : length ar ≤ 32000
+  few : length ar ≤ mostSpans
   few = few-spans ar con at next fs j ids ws (v .between)
 
   stack-is : getD (stacksAt (length ar) ws fs) j [] ≡ stackOf (length ar) fs j ws
@@ -68,14 +70,12 @@ module _ (ar con : List ℕ) (at : Sections) (next : ℕ) (fs : List ℕ) (j : �
           close = b .lent .place;
         };
         entries = stack-entries;
-        low = b .low;
         clear = flags-clear ar con at next fs j ids ws b;
       }
 
   module _ (level : ℕ) (ids′ ws′ : List ℕ)
       (e : record { marks = marksAt (length ar) ids′ ws′; stack = stackOf (length ar) fs j ws′ } ≡ expand (netAt (at .table) ar ws) level (marksAt (length ar) ids ws) (stackOf (length ar) fs j ws))
-      (k : Kept (length ar) (length ar + j * length ar) (getD fs j 0) ws ws′)
-      (g : Given (length ar) (length ar + j * length ar) (at .changes) (at .table) (getD fs j 0) ids′ ws′) where
+      (k : Kept (length ar) (length ar + j * length ar) (getD fs j 0) ws ws′) where
     abbrev N : Net
     N = netAt (at .table) ar ws
 
@@ -114,7 +114,7 @@ module _ (ar con : List ℕ) (at : Sections) (next : ℕ) (fs : List ℕ) (j : �
     expanded : Expanded ar con at next fs j level ids ws ids′ ws′
     expanded = record {
       ready = record {
-        between = kept-between ar con at next fs j ids ws (v .between) ws′ (k .size) past-section next fs j ids′ (v .between .turn) below′ (g .low)
+        between = kept-between ar con at next fs j ids ws (v .between) ws′ (k .size) past-section next fs j ids′ (v .between .turn) below′
             (record { fits = λ _. v .fits; stacked = λ _. stacked′ });
         fits = v .fits;
         stacked = stacked′;
@@ -135,5 +135,9 @@ module _ (ar con : List ℕ) (at : Sections) (next : ℕ) (fs : List ℕ) (j : �
 
     pub expanded-as : (level : ℕ) (ids′ ws′ : List ℕ)
         → record { marks = marksAt (length ar) ids′ ws′; stack = sec a fill ws′ } ≡ expand (netAt (at .table) ar ws) level (marksAt (length ar) ids ws) (sec a fill ws)
-        → Kept (length ar) a fill ws ws′ → Given (length ar) a (at .changes) (at .table) fill ids′ ws′ → Expanded ar con at next fs j level ids ws ids′ ws′
-    expanded-as level ids′ ws′ e k g = expanded level ids′ ws′ (rw (← ea, ← ef) e) (rw (← ea, ← ef) k) (rw (← ea, ← ef) g)
+        → Kept (length ar) a fill ws ws′ → Expanded ar con at next fs j level ids ws ids′ ws′
+    expanded-as level ids′ ws′ e k = expanded level ids′ ws′ (rw (← ea, ← ef) e) (rw (← ea, ← ef) k)
+
+    pub strays-as : (level : ℕ) (o : Bool) → o ≡ expandStrays (netAt (at .table) ar ws) level (marksAt (length ar) ids ws) (sec a fill ws)
+        → o ≡ expandStrays (netAt (at .table) ar ws) level (marksAt (length ar) ids ws) (getD (stacksAt (length ar) ws fs) j [])
+    strays-as level o e = e ∙ rw (ea, ef, stack-is)

@@ -9,8 +9,8 @@ use lib.Seq.{getD-take, length-take-le, ext-getD}
 use Rattle.rules.specs.Base.{upto}
 use Rattle.rules.specs.Field.{Field}
 use Rattle.rules.specs.Net.{netOf}
-use Rattle.rules.specs.Growth.{Marks, Turn, turn, expand, blank, painted, firstId, grown}
-use Rattle.laws.proofs.NextId.{zeros-le}
+use Rattle.rules.specs.Growth.{Marks, Turn, turn, expand, blank, painted, firstId, grown, stops}
+use Rattle.rules.specs.Refusals.{mostSpans}
 use Rattle.laws.proofs.Lengths.{painted-length}
 use Rattle.laws.proofs.Grows.{first-few}
 use Rattle.rooms.proofs.Growing.{painted-grow}
@@ -26,8 +26,7 @@ use Rattle.net.proofs.Fills.{net-lent, mutual-of}
 use Rattle.flood.specs.Stack.{marksAt}
 use Rattle.growth.specs.Floods.{IdsBelowNext}
 use Rattle.growth.specs.Turns.{SectionsFor, Between, turnsOf}
-use Rattle.growth.specs.Grow.{turnsFor, Grew, Poised, Full}
-use Rattle.growth.proofs.LowLaws.{painted-low}
+use Rattle.growth.specs.Grow.{turnsFor, stopsOf, Grew, Poised, Full}
 
 marks-eq : {a a′ s s′ : List ℕ} → a ≡ a′ → s ≡ s′ → _≡_ {A = Marks} (record { ids = a; src = s }) (record { ids = a′; src = s′ })
 marks-eq p q = rw (p, q)
@@ -39,7 +38,7 @@ module _ (w h : ℕ) (is ks ar cs : List ℕ) (b : ℕ) (ids ws : List ℕ) (p :
   pub cells-first : length ks ≡ w * h
   cells-first = reached-first .celled .counted
 
-  pub few-first : length ar ≤ 32000
+  pub few-first : length ar ≤ mostSpans
   few-first = reached-first .celled .few
 
   pub size-first : length ids ≡ length ar
@@ -53,9 +52,6 @@ module _ (w h : ℕ) (is ks ar cs dist : List ℕ) (b most border : ℕ) (ids ws
     (ws₁ : List ℕ) (m : netAt b ar ws₁ ≡ netOf (lent w h is ks ar cs)) (f : Frame b (b + 4 * length ar) ws ws₁) (size : length ws₁ ≡ length ws) where
   abbrev G : Field
   G = lent w h is ks ar cs
-
-  few : length ar ≤ 32000
-  few = few-first w h is ks ar cs b ids ws p
 
   painted-ids : ids₁ ≡ painted G border .ids
   painted-ids = q G refl refl refl refl
@@ -83,7 +79,7 @@ module _ (w h : ℕ) (is ks ar cs dist : List ℕ) (b most border : ℕ) (ids ws
           | yes e ↦ omega (arith, e, r, first-few border)
           | no e ↦ let g = painted-grow G border .range (getD ids₁ x 0) x (omega (arith, e), l) (rw painted-ids) in omega (arith, r, g .1)
         ];
-        room = omega (arith, r, first-few border, zeros-le ids₁, n, few);
+        plain = omega (arith, r, first-few border);
       }
 
   pub between-first : (at : Sections) → SectionsFor (length ar) at → at .table ≡ b → Between ar cs at first [] 7 ids₁ ws₁
@@ -96,7 +92,6 @@ module _ (w h : ℕ) (is ks ar cs dist : List ℕ) (b most border : ℕ) (ids ws
         laid = la;
         turn = omega arith;
         ids-below = below₁;
-        low = rw marks₁ (painted-low G border);
         changes = record { blank = λ x l u. zero₁ x (omega (arith, p .past, la .changes)) };
         stack = record { zeros = λ x l u. zero₁ x (omega (arith, p .past, la .stack)) };
         left = record { fits = λ z. absurd (z refl); stacked = λ z. absurd (z refl) };
@@ -117,28 +112,27 @@ module _ (w h : ℕ) (is ks ar cs dist : List ℕ) (b most border : ℕ) (ids ws
   unfolding grown
   rule-next = ap (λ (v : Turn). v .next) same-turns
 
-  pub full : (table next : ℕ) (ids₂ ws₂ ws₃ : List ℕ) → table ≡ b → Grew ar dist table most first ids₁ ws₁ next ids₂ ws₂ → length ws₃ ≡ length ws₂ → length ws₂ ≡ length ws₁
-      → Clear 0 (length ar) ws₃ → Frame 0 (length ar) ws₂ ws₃ → Full G dist most border b ws next ids₂ ws₃
-  full table next ids₂ ws₂ ws₃ tb g₀ s₃ s₂ z y =
-      let g : Grew ar dist b most first ids₁ ws₁ next ids₂ ws₂ = rw tb at g₀ in
+  rule-stops : stopsOf (netAt b ar ws₁) ar dist (turnsFor most) (record { marks = marksAt (length ar) ids₁ ws₁; stacks = []; next = first }) ≡ stops G dist most border
+  unfolding stopsOf stops
+  rule-stops = let e : 2 * turnsFor most / 2 ≡ turnsFor most = omega arith in rw (m, marks₁, r, e)
+
+  pub full : (table next stop : ℕ) (ids₂ ws₂ ws₃ : List ℕ) → table ≡ b → Grew ar dist table most first ids₁ ws₁ next stop ids₂ ws₂ → length ws₃ ≡ length ws₂ → length ws₂ ≡ length ws₁
+      → Clear 0 (length ar) ws₃ → Frame 0 (length ar) ws₂ ws₃ → Full G dist most border b ws next stop ids₂ ws₃
+  full table next stop ids₂ ws₂ ws₃ tb g₀ s₃ s₂ z y =
+      let g : Grew ar dist b most first ids₁ ws₁ next stop ids₂ ws₂ = rw tb at g₀ in
       record {
-        ids = grown-ids next ids₂ ws₂ g;
-        id = grown-id next ids₂ ws₂ g;
-        clear = record {
+        after = λ x l. getD-after x y (omega (arith, p .past)) ∙ g .past x (omega (arith, p .past)) ∙ getD-after x f l;
+        stops = g .stops ∙ rule-stops;
+        ids = λ o. ap (λ (v : Marks). v .ids) (g .marks o) ∙ rule-ids;
+        id = λ o. g .id o ∙ rule-next;
+        clear = λ o. record {
           blank = λ x l u. elim (decLt x (length ar)) [
             | yes k ↦ z .blank x l k
             | no k ↦ getD-after x y (omega arith) ∙ elim (decLt x (9 * length ar)) [
-              | yes j ↦ g .stacks .blank x (omega arith) j
+              | yes j ↦ g .stacks o .blank x (omega arith) j
               | no j ↦ g .past x (omega arith) ∙ zero₁ x u
             ]
           ];
         };
-        net = net-same b ar ws₁ ws₃ (omega (arith, p .room, size)) (s₃ ∙ s₂) (λ x l. getD-after x y (omega (arith, p .past)) ∙ g .past x (omega (arith, p .past))) ∙ m;
-        after = λ x l. getD-after x y (omega (arith, p .past)) ∙ g .past x (omega (arith, p .past)) ∙ getD-after x f l;
+        net = λ o. net-same b ar ws₁ ws₃ (omega (arith, p .room, size)) (s₃ ∙ s₂) (λ x l. getD-after x y (omega (arith, p .past)) ∙ g .past x (omega (arith, p .past))) ∙ m;
       }
-    where
-      grown-ids : (next : ℕ) (ids₂ ws₂ : List ℕ) → Grew ar dist b most first ids₁ ws₁ next ids₂ ws₂ → ids₂ ≡ grown G dist most border .ids
-      grown-ids next ids₂ ws₂ g = ap (λ (v : Marks). v .ids) (g .marks) ∙ rule-ids
-
-      grown-id : (next : ℕ) (ids₂ ws₂ : List ℕ) → Grew ar dist b most first ids₁ ws₁ next ids₂ ws₂ → next ≡ grown G dist most border .next
-      grown-id next ids₂ ws₂ g = g .id ∙ rule-next

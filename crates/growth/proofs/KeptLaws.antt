@@ -6,18 +6,17 @@ use native.Mathlib.Decide.{decLt}
 use mathlib.Core.Path.{_≡_, _∙_}
 use mathlib.Core.List.{List}
 use lib.ListN.{length, getD}
+use Rattle.rules.specs.Refusals.{mostSpans}
 use Rattle.space.specs.Space.{Clear}
 use Rattle.net.specs.declared.Sections.{Sections}
 use Rattle.net.specs.Table.{netAt}
 use Rattle.net.proofs.Tables.{net-few, net-same, lent-same}
-use Rattle.flood.specs.Stack.{marksAt}
-use Rattle.expand.specs.Layout.{Low}
 use Rattle.growth.specs.Floods.{IdsBelowNext}
 use Rattle.growth.specs.Turns.{Left, Between}
 
 module _ (ar con : List ℕ) (at : Sections) (next : ℕ) (fs : List ℕ) (j : ℕ) (ids ws : List ℕ) (v : Between ar con at next fs j ids ws) where
   -- few spans, and room for all sections
-  pub few-spans : length ar ≤ 32000
+  pub few-spans : length ar ≤ mostSpans
   few-spans = net-few (at .table) ar ws (v .lent .closed)
 
   pub room-for : 13 * length ar ≤ length ws
@@ -39,15 +38,13 @@ module _ (ar con : List ℕ) (at : Sections) (next : ℕ) (fs : List ℕ) (j : �
     pub kept-net : netAt (at .table) ar ws′ ≡ netAt (at .table) ar ws
     kept-net = net-same (at .table) ar ws ws′ (v .lent .room) size (λ x h. past x (omega (arith, v .laid .past)))
 
-    pub kept-between : (next′ : ℕ) (fs′ : List ℕ) (j′ : ℕ) (ids′ : List ℕ) → j′ < 8 → IdsBelowNext (length ar) next′ ids′ → Low (length ar) (marksAt (length ar) ids′ ws′)
-        → Left (length ar) fs′ j′ ws′ → Between ar con at next′ fs′ j′ ids′ ws′
-    kept-between next′ fs′ j′ ids′ t b l f = record {
+    pub kept-between : (next′ : ℕ) (fs′ : List ℕ) (j′ : ℕ) (ids′ : List ℕ) → j′ < 8 → IdsBelowNext (length ar) next′ ids′ → Left (length ar) fs′ j′ ws′ → Between ar con at next′ fs′ j′ ids′ ws′
+    kept-between next′ fs′ j′ ids′ t b f = record {
       lent = lent-same (at .table) ar con ws ws′ size kept-net (v .lent);
       both-ways = rw kept-net (v .both-ways);
       laid = v .laid;
       turn = t;
       ids-below = b;
-      low = l;
       changes = record { blank = λ x a u. past x (omega (arith, v .laid .changes)) ∙ v .changes .blank x a u };
       stack = record { zeros = λ x a u. past x (omega (arith, v .laid .stack)) ∙ v .stack .zeros x a u };
       left = f;

@@ -1,6 +1,5 @@
 -- Laws of the growth.
 pub mod FloodLaws
-pub mod LowLaws
 pub mod SpreadLaws
 pub mod StackLaws
 pub mod LoadLaws

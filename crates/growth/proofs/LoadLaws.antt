@@ -8,6 +8,7 @@ use lib.ListN.{length, getD, take, replicate}
 use lib.Seq.{take-all}
 use borrow.Rule.Slice.PartMut.{putMid, midOf, take-put}
 use Rattle.rules.specs.Growth.{sorted, remains}
+use Rattle.rules.specs.Refusals.{mostSpans}
 use Rattle.space.specs.Space.{sec}
 use Rattle.space.proofs.Laws.{length-sec, sec-put, frame-put, getD-after}
 use Rattle.net.specs.declared.Sections.{Sections}
@@ -51,13 +52,13 @@ module _ (ar dist ids : List ℕ) (at : Sections) (level : ℕ) (fs : List ℕ) 
   abbrev part : List ℕ
   part = midOf (length ar) (at .changes - length ar) ws
 
-  part-fits : (m : ℕ) → m ≡ length ar → m ≤ 32000 → StackPart m part
+  part-fits : (m : ℕ) → m ≡ length ar → m ≤ mostSpans → StackPart m part
   part-fits m e f = rw e (record { few = omega arith; exact = part-length (length ar) (at .changes) ws (la .changes) wide })
 
-  pub sort-lists : length ar ≤ 32000 → length dist ≡ length ar → length ids ≡ length ar → SortLists ar dist ids part
+  pub sort-lists : length ar ≤ mostSpans → length dist ≡ length ar → length ids ≡ length ar → SortLists ar dist ids part
   sort-lists f d i = record { part = part-fits (length ar) refl f; dists = d; idents = i }
 
-  pub append-part : length ar ≤ 32000 → length ids ≡ length ar → StackPart (length ids) part
+  pub append-part : length ar ≤ mostSpans → length ids ≡ length ar → StackPart (length ids) part
   append-part f i = part-fits (length ids) i (omega arith)
 
   pub left-fits : length ids ≡ length ar → (after j ≡ 0 → ⊥) → Left (length ar) fs j ws → Fills (length ids) fs

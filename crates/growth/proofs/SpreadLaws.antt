@@ -1,14 +1,13 @@
--- Expansion keeps the ids below the next, since an entry takes the id of a neighbour; and it leaves no more spans of id 0 (`expand-down`).
+-- Expansion keeps the ids below the next, since an entry takes the id of a neighbour.
 -- Assumes nothing.
 use Prim.Native.Nat.{ℕ, zero, suc, _<_}
-use native.Mathlib.Omega.{arith}
 use mathlib.Core.Path.{_∙_}
 use mathlib.Core.List.{List, [], _∷_}
 use borrow.Author.Tests.{leb-false, not-true}
 use Rattle.rules.specs.Net.{Net, spans, near}
 use Rattle.rules.specs.Growth.{Marks, idOf, put, Taken, look, takes, finds, wrote, written, Spread, round, rounds, expand}
 use Rattle.laws.proofs.Basics.{both, if-ind, upto-ind, getD-set-cases, All}
-use Rattle.laws.proofs.Grows.{Inside, Down, expand-down, down-zeros}
+use Rattle.laws.proofs.Grows.{Inside, Down, expand-down}
 use Rattle.growth.specs.Floods.{IdsBelowNext}
 
 abbrev Below : ℕ → Marks → Type 0
@@ -58,5 +57,5 @@ expand-ids-below N level next m es al v =
       size = d .0 ∙ v .size;
       some = v .some;
       below = expand-below N next (v .some) level m es (v .below);
-      room = omega (arith, v .room, down-zeros N m (expand N level m es .marks) d);
+      plain = v .plain;
     }

@@ -1,11 +1,12 @@
 -- Growth from the painting on.
 use Prim.Native.Nat.{ℕ, _+_, _*_, _/_, _≤_}
 use mathlib.Core.Path.{_≡_}
-use mathlib.Core.List.{List}
+use mathlib.Core.List.{List, []}
 use lib.ListN.{length, getD, replicate}
 use Rattle.rules.specs.Field.{Field, spans}
-use Rattle.rules.specs.Net.{netOf}
-use Rattle.rules.specs.Growth.{expand, blank, grown}
+use Rattle.rules.specs.Base.{if_then_else_, upto}
+use Rattle.rules.specs.Net.{Net, netOf}
+use Rattle.rules.specs.Growth.{expand, expandStrays, orElse, blank, Turn, turn, turnsStop, grown, stops}
 use Rattle.space.specs.Space.{Clear}
 use Rattle.field.specs.Lent.{Sound, lent}
 use Rattle.net.specs.Table.{netAt, lastPlace}
@@ -16,13 +17,20 @@ use Rattle.growth.specs.Turns.{turnsOf}
 abbrev pub turnsFor : ℕ → ℕ
 turnsFor most = (most + 1) / 2
 
--- what the turns and the last expansion leave: the rule's marks, the level stacks zeroed, and past them all as it was
-pub record Grew (area dist : List ℕ) (table most next : ℕ) (ids ws : List ℕ) (next′ : ℕ) (ids′ ws′ : List ℕ) : Type 0 where
-  pub stacks : Clear (length area) (9 * length area) ws′
+-- what stops the turns and the last expansion
+unfoldable pub stopsOf : Net → List ℕ → List ℕ → ℕ → Turn → ℕ
+stopsOf N areas dist count start =
+    let t = upto count (turn N dist (2 * count)) start in
+    orElse (turnsStop N dist (2 * count) count start) (if expandStrays N 0 (t .marks) (blank areas (t .marks .ids)) then 13 else 0)
+
+-- what the turns and the last expansion leave, where nothing stops them: the rule's marks, and the level stacks zeroed; past them all is as it was
+pub record Grew (area dist : List ℕ) (table most next : ℕ) (ids ws : List ℕ) (next′ stop : ℕ) (ids′ ws′ : List ℕ) : Type 0 where
   pub past : (x : ℕ) → 9 * length area ≤ x → getD ws′ x 0 ≡ getD ws x 0
-  pub marks : let t = turnsOf (netAt table area ws) dist (turnsFor most) (length area) ids ws next (turnsFor most) in
+  pub stops : stop ≡ stopsOf (netAt table area ws) area dist (turnsFor most) (record { marks = marksAt (length area) ids ws; stacks = []; next = next })
+  pub stacks : stop ≡ 0 → Clear (length area) (9 * length area) ws′
+  pub marks : stop ≡ 0 → let t = turnsOf (netAt table area ws) dist (turnsFor most) (length area) ids ws next (turnsFor most) in
       marksAt (length area) ids′ ws′ ≡ expand (netAt table area ws) 0 (t .marks) (blank area (t .marks .ids)) .marks
-  pub id : next′ ≡ turnsOf (netAt table area ws) dist (turnsFor most) (length area) ids ws next (turnsFor most) .next
+  pub id : stop ≡ 0 → next′ ≡ turnsOf (netAt table area ws) dist (turnsFor most) (length area) ids ws next (turnsFor most) .next
 
 -- before growth: a field that is not refused, ids all 0, and a workspace with zeros before the place of the table
 pub record Poised (w h : ℕ) (index count area con : List ℕ) (table : ℕ) (ids ws : List ℕ) : Type 0 where
@@ -33,10 +41,11 @@ pub record Poised (w h : ℕ) (index count area con : List ℕ) (table : ℕ) (i
   pub none : ids ≡ replicate (length area) 0
   pub clear : Clear 0 table ws
 
--- after growth: the rule's ids and next id; the workspace as before, with the field's net in the table
-pub record Full (F : Field) (dist : List ℕ) (most border table : ℕ) (ws : List ℕ) (next : ℕ) (ids′ ws′ : List ℕ) : Type 0 where
-  pub ids : ids′ ≡ grown F dist most border .ids
-  pub id : next ≡ grown F dist most border .next
-  pub clear : Clear 0 table ws′
-  pub net : netAt table (F .area) ws′ ≡ netOf F
+-- after growth, where nothing stops it: the rule's ids and next id, zeros before the table, and the field's net in it; past the table all is as it was
+pub record Full (F : Field) (dist : List ℕ) (most border table : ℕ) (ws : List ℕ) (next stop : ℕ) (ids′ ws′ : List ℕ) : Type 0 where
   pub after : (x : ℕ) → table + 4 * spans F ≤ x → getD ws′ x 0 ≡ getD ws x 0
+  pub stops : stop ≡ stops F dist most border
+  pub ids : stop ≡ 0 → ids′ ≡ grown F dist most border .ids
+  pub id : stop ≡ 0 → next ≡ grown F dist most border .next
+  pub clear : stop ≡ 0 → Clear 0 table ws′
+  pub net : stop ≡ 0 → netAt table (F .area) ws′ ≡ netOf F

@@ -1,17 +1,18 @@
 -- One turn over the level stacks at n .. 9n of the workspace.
 use Prim.Native.Nat.{ℕ, _+_, _*_, _%_, _≤_, _<_}
 use mathlib.Core.Path.{_≡_}
+use mathlib.Core.Bool.{false}
 use mathlib.Core.List.{List, []}
 use lib.ListN.{length, getD, set, take}
-use Rattle.rules.specs.Base.{upto}
+use lib.Dec.{eqb}
+use Rattle.rules.specs.Base.{if_then_else_, upto}
 use Rattle.rules.specs.Net.{Net}
-use Rattle.rules.specs.Growth.{sorted, remains, Turn, loaded, expand, floods, turn}
+use Rattle.rules.specs.Growth.{sorted, remains, Turn, loaded, expand, expandStrays, floods, floodsRunOut, turn, turnsStop}
 use Rattle.space.specs.Space.{sec, Clear}
 use Rattle.net.specs.declared.Sections.{Sections}
 use Rattle.net.specs.Table.{netAt, Mutual, Lent}
 use Rattle.levels.specs.Levels.{levelsAt, Fills, appended, Stacked}
 use Rattle.flood.specs.Stack.{marksAt, Blank}
-use Rattle.expand.specs.Layout.{Low}
 use Rattle.growth.specs.Floods.{IdsBelowNext}
 
 -- Where the sections of growth lie with n spans: source distances at 0 .. n, the eight level stacks at n .. 9n, changes at 9n .. 12n, the flood's stack at
@@ -64,7 +65,6 @@ pub record Between (area con : List ℕ) (at : Sections) (next : ℕ) (fills : L
   pub laid : SectionsFor (length area) at
   pub turn : j < 8
   pub ids-below : IdsBelowNext (length area) next ids
-  pub low : Low (length area) (marksAt (length area) ids ws)
   pub changes : Clear (at .changes) (at .changes + 3 * length area) ws
   pub stack : Blank (length area) (at .stack) 0 ws
   pub left : Left (length area) fills j ws
@@ -84,19 +84,18 @@ pub record Expanded (area con : List ℕ) (at : Sections) (next : ℕ) (fills : 
       ≡ expand (netAt (at .table) area ws) level (marksAt (length area) ids ws) (getD (stacksAt (length area) ws fills) j [])
   pub stacks : stacksAt (length area) ws′ fills ≡ set (stacksAt (length area) ws fills) j (stackOf (length area) fills j ws′)
 
--- what the floods from the turn's stack leave
+-- what the floods from the turn's stack leave: the rule's, unless ids run out
 pub record Flooded (area con dist : List ℕ) (at : Sections) (next : ℕ) (fills : List ℕ) (j level : ℕ) (ids ws : List ℕ)
     (r : ℕ) (ids′ ws′ : List ℕ) : Type 0 where
-  pub ready : Ready area con at r fills j ids′ ws′
   pub size : length ws′ ≡ length ws
   pub past : (x : ℕ) → length area ≤ x → getD ws′ x 0 ≡ getD ws x 0
-  pub same : record { marks = marksAt (length area) ids′ ws′; next = r }
+  pub out : eqb r 0x8000 ≡ floodsRunOut (netAt (at .table) area ws) dist level (stackOf (length area) fills j ws) (marksAt (length area) ids ws) next
+  pub ready : floodsRunOut (netAt (at .table) area ws) dist level (stackOf (length area) fills j ws) (marksAt (length area) ids ws) next ≡ false
+      → Ready area con at r fills j ids′ ws′
+  pub same : floodsRunOut (netAt (at .table) area ws) dist level (stackOf (length area) fills j ws) (marksAt (length area) ids ws) next ≡ false
+      → record { marks = marksAt (length area) ids′ ws′; next = r }
       ≡ floods (netAt (at .table) area ws) dist level (stackOf (length area) fills j ws) (marksAt (length area) ids ws) next
   pub stacks : stacksAt (length area) ws′ fills ≡ stacksAt (length area) ws fills
-
--- the areas are bytes
-pub record Bytes (area : List ℕ) : Type 0 where
-  pub byte : (s : ℕ) → s < length area → getD area s 0 < 256
 
 -- the rule's turn is what is there
 pub record TurnIs (n next : ℕ) (fills : List ℕ) (j : ℕ) (ids ws : List ℕ) (t : Turn) : Type 0 where
@@ -104,16 +103,30 @@ pub record TurnIs (n next : ℕ) (fills : List ℕ) (j : ℕ) (ids ws : List ℕ
   pub id : t .next ≡ next
   pub stacks : (after j ≡ 0 → ⊥) → t .stacks ≡ stacksAt n ws fills
 
--- what a turn leaves
-pub record Turned (area con dist : List ℕ) (at : Sections) (next : ℕ) (fills : List ℕ) (j level : ℕ) (ids ws : List ℕ)
+-- what stops a turn at a level, with its number
+unfoldable pub stopsAt : Net → List ℕ → ℕ → ℕ → Turn → ℕ
+stopsAt N dist level j t =
+    let entries = getD (loaded N dist level j t) j [] in
+    let e = expand N level (t .marks) entries in
+    if expandStrays N level (t .marks) entries then 13 else
+    if floodsRunOut N dist level (e .stack) (e .marks) (t .next) then 12 else 0
+
+-- what a turn leaves where it is not stopped
+pub record Went (area con dist : List ℕ) (at : Sections) (next : ℕ) (fills : List ℕ) (j level : ℕ) (ids ws : List ℕ)
     (next′ : ℕ) (fills′ : List ℕ) (j′ : ℕ) (ids′ ws′ : List ℕ) : Type 0 where
   pub turn : j′ ≡ after j
   pub between : Between area con at next′ fills′ j′ ids′ ws′
-  pub size : length ws′ ≡ length ws
-  pub past : (x : ℕ) → 9 * length area ≤ x → getD ws′ x 0 ≡ getD ws x 0
   pub same : (t : Turn) → TurnIs (length area) next fills j ids ws t
       → record { marks = marksAt (length area) ids′ ws′; stacks = stacksAt (length area) ws′ fills′; next = next′ }
       ≡ turnAt (netAt (at .table) area ws) dist level (after j) t
+
+-- what a turn leaves, with what stops it
+pub record Turned (area con dist : List ℕ) (at : Sections) (next : ℕ) (fills : List ℕ) (j level : ℕ) (ids ws : List ℕ)
+    (next′ stop : ℕ) (fills′ : List ℕ) (j′ : ℕ) (ids′ ws′ : List ℕ) : Type 0 where
+  pub size : length ws′ ≡ length ws
+  pub past : (x : ℕ) → 9 * length area ≤ x → getD ws′ x 0 ≡ getD ws x 0
+  pub stops : (t : Turn) → TurnIs (length area) next fills j ids ws t → stop ≡ stopsAt (netAt (at .table) area ws) dist level (after j) t
+  pub went : stop ≡ 0 → Went area con dist at next fills j level ids ws next′ fills′ j′ ids′ ws′
 
 -- the rule's turns, k of count, from what is there with no stacks
 abbrev pub turnsOf : Net → List ℕ → ℕ → ℕ → List ℕ → List ℕ → ℕ → ℕ → Turn
@@ -127,11 +140,12 @@ pub record SomeTurns (area con dist : List ℕ) (at : Sections) (count next : �
   pub size : length ws′ ≡ length ws
   pub past : (x : ℕ) → 9 * length area ≤ x → getD ws′ x 0 ≡ getD ws x 0
   pub same : TurnIs (length area) next′ fills′ j′ ids′ ws′ (turnsOf (netAt (at .table) area ws) dist count (length area) ids ws next k)
+  pub goes : turnsStop (netAt (at .table) area ws) dist (2 * count) k (record { marks = marksAt (length area) ids ws; stacks = []; next = next }) ≡ 0
 
--- what all turns leave
-pub record AllTurns (area dist : List ℕ) (table count next : ℕ) (ids ws : List ℕ) (next′ : ℕ) (ids′ ws′ : List ℕ) : Type 0 where
-  pub ids-below : IdsBelowNext (length area) next′ ids′
-  pub low : Low (length area) (marksAt (length area) ids′ ws′)
+-- what all turns leave, with what stops them
+pub record AllTurns (area dist : List ℕ) (table count next : ℕ) (ids ws : List ℕ) (next′ stop : ℕ) (ids′ ws′ : List ℕ) : Type 0 where
   pub past : (x : ℕ) → 9 * length area ≤ x → getD ws′ x 0 ≡ getD ws x 0
-  pub marks : marksAt (length area) ids′ ws′ ≡ turnsOf (netAt table area ws) dist count (length area) ids ws next count .marks
-  pub id : next′ ≡ turnsOf (netAt table area ws) dist count (length area) ids ws next count .next
+  pub stops : stop ≡ turnsStop (netAt table area ws) dist (2 * count) count (record { marks = marksAt (length area) ids ws; stacks = []; next = next })
+  pub ids-below : stop ≡ 0 → IdsBelowNext (length area) next′ ids′
+  pub marks : stop ≡ 0 → marksAt (length area) ids′ ws′ ≡ turnsOf (netAt table area ws) dist count (length area) ids ws next count .marks
+  pub id : stop ≡ 0 → next′ ≡ turnsOf (netAt table area ws) dist count (length area) ids ws next count .next

@@ -7,14 +7,13 @@ use flood::flow::flood_region;
 use net::Sections;
 use region::RegionId;
 ghost use mathlib.Core.Path.{_≡_};
-ghost use Prim.Native.Nat.{_+_, _<_};
+ghost use Prim.Native.Nat.{_+_, _<_, _≤_};
 ghost use lib.ListN.{length, drop};
 ghost use Rattle.rules.specs.Field.{none};
-ghost use Rattle.rules.specs.Growth.{floods};
 ghost use Rattle.space.specs.Space.{sec};
 ghost use Rattle.net.specs.Table.{netAt, Lent};
 ghost use Rattle.flood.specs.Stack.{marksAt, Placed, Blank};
-ghost use Rattle.growth.specs.Floods.{floodOne, IdsBelowNext, EntriesAt};
+ghost use Rattle.growth.specs.Floods.{floodOne, IdsBelowNext, FloodedFrom, EntriesAt};
 
 // Floods from an entry, if it is unused and has no id. Gives the next id: only success advances it.
 fn flood_one(
@@ -36,7 +35,7 @@ fn flood_one(
         record { marks = marksAt n (now (ids .exit)) (now (ws .exit)); next = r }
         ≡ floodOne net (now (dist .entry)) level entry (marksAt n (now (ids .entry)) (now (ws .entry))) next) ⌝ }
     ensures { λ r. ⌜ (let n = length (now (area .entry)) in
-        (drop n (now (ws .exit)) ≡ drop n (now (ws .entry))) × IdsBelowNext n r (now (ids .exit))) ⌝ }
+        (drop n (now (ws .exit)) ≡ drop n (now (ws .entry))) × (r ≤ 0x8000) × (r < 0x8000 → IdsBelowNext n r (now (ids .exit)))) ⌝ }
 {
     if entry == NO_SPAN {
         return next;
@@ -51,7 +50,7 @@ fn flood_one(
     next + 1
 }
 
-// Floods from each entry of a stack, in order. Gives the next id.
+// Floods from each entry of a stack, in order. Gives the next id, which is the border's flag where ids run out.
 pub(crate) fn flood_all(
     area: &[u8],
     con: &[u8],
@@ -69,16 +68,16 @@ pub(crate) fn flood_all(
     ensures { λ r. ⌜ (let n = length (now (area .entry)) in
         let net = netAt (at .table) (now (area .entry)) (now (ws .entry)) in
         let entries = sec (stack .at) (stack .fill) (now (ws .entry)) in
-        record { marks = marksAt n (now (ids .exit)) (now (ws .exit)); next = r }
-        ≡ floods net (now (dist .entry)) level entries (marksAt n (now (ids .entry)) (now (ws .entry))) next) ⌝ }
-    ensures { λ r. ⌜ (let n = length (now (area .entry)) in
-        (drop n (now (ws .exit)) ≡ drop n (now (ws .entry))) × IdsBelowNext n r (now (ids .exit))) ⌝ }
+        FloodedFrom net (now (dist .entry)) level entries n next (now (ids .entry)) (now (ws .entry)) r (now (ids .exit)) (now (ws .exit))) ⌝ }
 {
     let mut id = next;
     let mut j: usize = 0;
     while j < stack.fill {
         let entry = at16(ws, stack.at + j);
         id = flood_one(area, con, dist, ids, ws, at, entry, level, id);
+        if id == RegionId::BORDER_REGION.0 {
+            return id;
+        }
         j += 1;
     }
     id

@@ -1,4 +1,7 @@
 // Growth whole: flood and expansion rules 1 to 5.
+use crate::turns::GOES_ON;
+use crate::turns::Growth;
+use crate::turns::TOO_FAR;
 use crate::turns::turns;
 use expand::expand::expand_last;
 use net::Sections;
@@ -9,9 +12,9 @@ ghost use mathlib.Core.Path.{_≡_};
 ghost use mathlib.Core.List.{[]};
 ghost use Prim.Native.Nat.{_*_, _≤_};
 ghost use lib.ListN.{length};
+ghost use Rattle.rules.specs.Refusals.{mostSpans};
 ghost use Rattle.field.specs.Lent.{lent};
-ghost use Rattle.net.specs.Table.{mostSpans};
-ghost use Rattle.growth.specs.Turns.{SectionsFor, Bytes, Between};
+ghost use Rattle.growth.specs.Turns.{SectionsFor, Between};
 ghost use Rattle.growth.specs.Grow.{Grew, Poised, Full};
 
 // Where the sections begin, with n spans: past the source distances and the eight level stacks.
@@ -26,7 +29,7 @@ fn sections(n: usize, table: usize) -> Sections
     }
 }
 
-// The turns from the highest level down, and the last expansion. Gives the next id.
+// The turns from the highest level down, and the last expansion.
 fn grow_painted(
     area: &[u8],
     con: &[u8],
@@ -36,19 +39,27 @@ fn grow_painted(
     at: Sections,
     max_distance: u16,
     next: u16,
-) -> u16
-    requires { ⌜ Between (now area) (now con) at next [] 7 (now ids) (now ws) × (length (now dist) ≡ length (now area)) × Bytes (now area) ⌝ }
+) -> Growth
+    requires { ⌜ Between (now area) (now con) at next [] 7 (now ids) (now ws) × (length (now dist) ≡ length (now area)) ⌝ }
     ensures { λ r. ⌜ (let ids₀ = now (ids .entry) in let ws₀ = now (ws .entry) in
-        Grew (now (area .entry)) (now (dist .entry)) (at .table) «max_distance» next ids₀ ws₀ r (now (ids .exit)) (now (ws .exit))) ⌝ }
+        Grew (now (area .entry)) (now (dist .entry)) (at .table) «max_distance» next ids₀ ws₀ (r .next) (r .stop) (now (ids .exit)) (now (ws .exit))) ⌝ }
 {
     let count = max_distance / 2 + max_distance % 2;
-    let id = turns(area, con, dist, ids, ws, at, count, next);
+    let g = turns(area, con, dist, ids, ws, at, count, next);
+    if g.stop != GOES_ON {
+        return g;
+    }
     clear_part(ws, area.len(), at.changes);
-    expand_last(area, ids, ws, at);
-    id
+    if expand_last(area, ids, ws, at) {
+        return Growth {
+            next: g.next,
+            stop: TOO_FAR,
+        };
+    }
+    g
 }
 
-// From ids 0 to the grown ids, and the table of neighbours at its place. Gives the next id.
+// From ids 0 to the grown ids, and the table of neighbours at its place.
 pub fn grow(
     w: usize,
     h: usize,
@@ -62,16 +73,16 @@ pub fn grow(
     table: usize,
     max_distance: u16,
     border_size: u16,
-) -> u16
+) -> Growth
     requires { ⌜ Poised w h (now index) (now count) (now area) (now con) table (now ids) (now ws) × (length (now dist) ≡ length (now area)) ⌝ }
     ensures { λ r. ⌜ (let F = lent w h (now (index .entry)) (now (count .entry)) (now (area .entry)) (now (con .entry)) in
         let ws₀ = now (ws .entry) in
-        Full F (now (dist .entry)) «max_distance» «border_size» table ws₀ r (now (ids .exit)) (now (ws .exit))) ⌝ }
+        Full F (now (dist .entry)) «max_distance» «border_size» table ws₀ (r .next) (r .stop) (now (ids .exit)) (now (ws .exit))) ⌝ }
 {
     let n = area.len();
     let first = paint_border(w, h, index, count, area, ids, border_size);
     fill_neighbours(w, h, index, count, area, con, ws, table);
-    let next = grow_painted(
+    let g = grow_painted(
         area,
         con,
         dist,
@@ -82,5 +93,5 @@ pub fn grow(
         first,
     );
     clear_part(ws, 0, n);
-    next
+    g
 }

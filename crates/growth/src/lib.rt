@@ -1,4 +1,4 @@
 // Flood and expansion, rules 1 to 5.
 mod floods;
 pub mod grow;
-mod turns;
+pub mod turns;

@@ -6,12 +6,13 @@ use levels::LevelStacks;
 use levels::append_stacks;
 use levels::sort_cells_by_level;
 use net::Sections;
+use region::RegionId;
 ghost use mathlib.Core.Path.{_≡_};
 ghost use mathlib.Core.List.{[]};
 ghost use Prim.Native.Nat.{_+_, _*_, _<_, _≤_};
 ghost use lib.ListN.{length, getD};
-ghost use Rattle.net.specs.Table.{mostSpans};
-ghost use Rattle.growth.specs.Turns.{SectionsFor, Left, Loaded, Bytes, Between, Turned, AllTurns};
+ghost use Rattle.rules.specs.Refusals.{mostSpans};
+ghost use Rattle.growth.specs.Turns.{SectionsFor, Left, Loaded, Between, Turned, AllTurns};
 
 // The stacks of the turn after l's: at turn number 0 all is sorted anew; at another, what remains of the stack before is appended to this turn's.
 fn load(
@@ -50,10 +51,26 @@ fn turn_stack(n: usize, l: LevelStacks) -> Stack
     }
 }
 
-// The stacks after a turn, and the next id.
+// What growth comes to: the next id, and the refusal that stops it.
+pub struct Growth {
+    pub next: u16,
+    pub stop: u16,
+}
+
+// Nothing stops it.
+pub const GOES_ON: u16 = 0;
+
+// A successful flood would make the next id a flagged one.
+pub const IDS_RUN_OUT: u16 = 12;
+
+// A sum that expansion computes would exceed what a source distance can be.
+pub(crate) const TOO_FAR: u16 = 13;
+
+// The stacks after a turn, the next id, and what stops it.
 pub struct TurnResult {
     pub stacks: LevelStacks,
     pub next: u16,
+    pub stop: u16,
 }
 
 // One turn at a level: rules 2 to 4.
@@ -68,20 +85,36 @@ fn turn(
     level: u16,
     next: u16,
 ) -> TurnResult
-    requires { ⌜ Between (now area) (now con) at next (l .fills) (l .turn) (now ids) (now ws)
-        × (length (now dist) ≡ length (now area)) × Bytes (now area) ⌝ }
+    requires { ⌜ Between (now area) (now con) at next (l .fills) (l .turn) (now ids) (now ws) × (length (now dist) ≡ length (now area)) ⌝ }
     ensures { λ r. ⌜ (let ids₀ = now (ids .entry) in let ws₀ = now (ws .entry) in
         Turned (now (area .entry)) (now (con .entry)) (now (dist .entry)) at next (l .fills) (l .turn) level ids₀ ws₀
-        (r .next) (r .stacks .fills) (r .stacks .turn) (now (ids .exit)) (now (ws .exit))) ⌝ }
+        (r .next) (r .stop) (r .stacks .fills) (r .stacks .turn) (now (ids .exit)) (now (ws .exit))) ⌝ }
 {
     let stacks = load(area, dist, ids, ws, at, l, level);
     let stack = turn_stack(area.len(), stacks);
-    expand_regions(area, ids, ws, at, stack, level);
+    if expand_regions(area, ids, ws, at, stack, level) {
+        return TurnResult {
+            stacks,
+            next,
+            stop: TOO_FAR,
+        };
+    }
     let id = flood_all(area, con, dist, ids, ws, at, stack, level, next);
-    TurnResult { stacks, next: id }
+    if id == RegionId::BORDER_REGION.0 {
+        return TurnResult {
+            stacks,
+            next,
+            stop: IDS_RUN_OUT,
+        };
+    }
+    TurnResult {
+        stacks,
+        next: id,
+        stop: GOES_ON,
+    }
 }
 
-// All turns, `count` of them, each two levels below the one before: rule 2. Gives the next id.
+// All turns, `count` of them, each two levels below the one before: rule 2.
 pub(crate) fn turns(
     area: &[u8],
     con: &[u8],
@@ -91,11 +124,11 @@ pub(crate) fn turns(
     at: Sections,
     count: u16,
     next: u16,
-) -> u16
-    requires { ⌜ Between (now area) (now con) at next [] 7 (now ids) (now ws) × (length (now dist) ≡ length (now area)) × Bytes (now area) ⌝ }
+) -> Growth
+    requires { ⌜ Between (now area) (now con) at next [] 7 (now ids) (now ws) × (length (now dist) ≡ length (now area)) ⌝ }
     requires { ⌜ 2 * count ≤ 65536 ⌝ }
     ensures { λ r. ⌜ (let ids₀ = now (ids .entry) in let ws₀ = now (ws .entry) in
-        AllTurns (now (area .entry)) (now (dist .entry)) (at .table) count next ids₀ ws₀ r (now (ids .exit)) (now (ws .exit))) ⌝ }
+        AllTurns (now (area .entry)) (now (dist .entry)) (at .table) count next ids₀ ws₀ (r .next) (r .stop) (now (ids .exit)) (now (ws .exit))) ⌝ }
 {
     let mut l = LevelStacks {
         fills: [0; 8],
@@ -106,8 +139,17 @@ pub(crate) fn turns(
     while left > 0 {
         left -= 1;
         let t = turn(area, con, dist, ids, ws, at, l, 2 * left, id);
+        if t.stop != GOES_ON {
+            return Growth {
+                next: id,
+                stop: t.stop,
+            };
+        }
         l = t.stacks;
         id = t.next;
     }
-    id
+    Growth {
+        next: id,
+        stop: GOES_ON,
+    }
 }

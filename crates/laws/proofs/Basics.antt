@@ -91,6 +91,13 @@ unfolding if_then_else_
 if-ind P true p q = p refl
 if-ind P false p q = q refl
 
+-- two choices by one test
+pub if-ind₂ {ℓ κ μ} : {A : Type ℓ} {B : Type κ} (P : A → B → Type μ) (b : Bool) {x y : A} {u v : B} → (b ≡ true → P x u) → (b ≡ false → P y v)
+    → P (if b then x else y) (if b then u else v)
+unfolding if_then_else_
+if-ind₂ P true p q = p refl
+if-ind₂ P false p q = q refl
+
 -- ---------------------------------------------------------------- loops
 
 -- a loop's invariant

@@ -13,6 +13,7 @@ pub mod FloodEnds
 pub mod Settles
 pub mod NextId
 pub mod Grows
+pub mod Suffice
 pub mod Strides
 pub mod Tidy
 pub mod LiveRecords

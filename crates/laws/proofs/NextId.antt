@@ -5,17 +5,17 @@ use native.Mathlib.Omega.{arith}
 use native.Mathlib.Nat.{le-refl}
 use native.Mathlib.Decide.{ℕ-discrete}
 use mathlib.Core.Path.{_≡_, refl, sym, ap, _∙_}
-use mathlib.Core.Bool.{Bool, true, false, true≢false}
+use mathlib.Core.Bool.{Bool, true, false, not, true≢false}
 use mathlib.Core.List.{List, [], _∷_}
 use lib.ListN.{length, getD, set, length-set}
 use lib.Seq.{getD-set-same, getD-set-other}
 use lib.Dec.{eqb}
 use borrow.Author.Tests.{eqb-true, eqb-false, eq-eqb, ne-eqb, lt-leb, not-true}
-use Rattle.rules.specs.Base.{if_then_else_, many}
+use Rattle.rules.specs.Base.{_and_, _or_, if_then_else_, many}
 use Rattle.rules.specs.Field.{none}
 use Rattle.rules.specs.Net.{Net, spans, areaOf, near}
-use Rattle.rules.specs.Growth.{Marks, idOf, put, Seed, Flow, pushed, visit, flow, flood, floods, Ids, objects, other, flagged}
-use Rattle.laws.proofs.Basics.{both, if-ind, upto-ind, All, All-map, many-set, many-le, getD-set-cases, nonzero-in}
+use Rattle.rules.specs.Growth.{Marks, idOf, put, Seed, Flow, pushed, visit, flow, flood, floods, floodsRunOut, Ids, objects, other, flagged}
+use Rattle.laws.proofs.Basics.{both, neither, if-ind, if-ind₂, upto-ind, All, All-map, many-set, many-le, getD-set-cases, nonzero-in}
 use Rattle.laws.proofs.FloodEnds.{Same, Blank, Fine, has-area, objects-same, pushed-fine, visit-fine, own-other}
 
 pub zeros : List ℕ → ℕ
@@ -144,21 +144,51 @@ unfolding if_then_else_
 if-add true i = omega arith
 if-add false i = omega arith
 
--- ids and zeros together do not grow
-pub floods-next : (N : Net) (dist : List ℕ) (level : ℕ) → ((s : ℕ) → s < spans N → areaOf N s < 256)
-    → (es : List ℕ) → All (λ e. (e ≡ none → ⊥) → e < spans N) es → (m : Marks) (id : ℕ) → 0 < id → id + zeros (m .ids) < 0x8000 → length (m .ids) ≡ spans N
-    → (floods N dist level es m id .next + zeros (floods N dist level es m id .marks .ids) ≤ id + zeros (m .ids))
-    × (length (floods N dist level es m id .marks .ids) ≡ spans N) × (id ≤ floods N dist level es m id .next)
-unfolding floods
-floods-next N dist level bytes [] al m id p b n = (le-refl _, n, le-refl _)
-floods-next N dist level bytes (e ∷ es) al m id p b n =
-    if-ind (λ (r : Ids). (r .next + zeros (r .marks .ids) ≤ id + zeros (m .ids)) × (length (r .marks .ids) ≡ spans N) × (id ≤ r .next)) _
-    (λ t.
-    let t2 = both _ _ t in
-    let inside : e < spans N = al .0 (eqb-false _ _ (not-true _ (t2 .0))) in
-    let fl = flood-zeros N dist level id m e (ne-eqb id 0 (omega arith)) (lt-leb 0x8000 id (omega arith)) inside (λ k. omega (arith, bytes e inside)) n (eqb-true _ _ (t2 .1)) in
-    let f = flood N dist level id m e in
-    let k = if-add (eqb (f .count) 0) id in
-    let r = floods-next N dist level bytes es (al .1) (f .marks) (if eqb (f .count) 0 then id else suc id) (omega arith) (omega arith) (fl .0) in
-    (omega arith, r .1, omega arith))
-    (λ _. floods-next N dist level bytes es (al .1) m id p b n)
+-- an id that is not the last, or that a failed flood gives back, leaves one that is not flagged
+pub after-last : (c : Bool) (id : ℕ) → id < 0x8000 → not c and eqb (suc id) 0x8000 ≡ false → (if c then id else suc id) < 0x8000
+unfolding if_then_else_ _and_
+after-last true id b e = b
+after-last false id b e = let k = eqb-false (suc id) 0x8000 e in omega arith
+
+not-last : (c : Bool) (id : ℕ) → (if c then 0 else 1) + id < 0x8000 → not c and eqb (suc id) 0x8000 ≡ false
+unfolding if_then_else_ _and_
+not-last true id h = refl
+not-last false id h = ne-eqb (suc id) 0x8000 (omega arith)
+
+module _ (N : Net) (dist : List ℕ) (level : ℕ) (bytes : (s : ℕ) → s < spans N → areaOf N s < 256) where
+  -- where ids do not run out, the next id is not flagged, and ids and zeros together do not grow
+  pub floods-next : (es : List ℕ) → All (λ e. (e ≡ none → ⊥) → e < spans N) es → (m : Marks) (id : ℕ) → 0 < id → id < 0x8000 → length (m .ids) ≡ spans N
+      → floodsRunOut N dist level es m id ≡ false
+      → (floods N dist level es m id .next + zeros (floods N dist level es m id .marks .ids) ≤ id + zeros (m .ids))
+      × (length (floods N dist level es m id .marks .ids) ≡ spans N) × (id ≤ floods N dist level es m id .next) × (floods N dist level es m id .next < 0x8000)
+  unfolding floods floodsRunOut
+  floods-next [] al m id p b n = λ o. (le-refl _, n, le-refl _, b)
+  floods-next (e ∷ es) al m id p b n =
+      if-ind₂ (λ (r : Ids) (o : Bool). o ≡ false
+      → (r .next + zeros (r .marks .ids) ≤ id + zeros (m .ids)) × (length (r .marks .ids) ≡ spans N) × (id ≤ r .next) × (r .next < 0x8000)) _
+      (λ t o.
+      let t2 = both _ _ t in
+      let o2 = neither _ _ o in
+      let inside : e < spans N = al .0 (eqb-false _ _ (not-true _ (t2 .0))) in
+      let fl = flood-zeros N dist level id m e (ne-eqb id 0 (omega arith)) (lt-leb 0x8000 id (omega arith)) inside (λ k. omega (arith, bytes e inside)) n (eqb-true _ _ (t2 .1)) in
+      let f = flood N dist level id m e in
+      let k = if-add (eqb (f .count) 0) id in
+      let r = floods-next es (al .1) (f .marks) (if eqb (f .count) 0 then id else suc id) (omega arith) (after-last _ id b (o2 .0)) (fl .0) (o2 .1) in
+      (omega arith, r .1, omega arith, r .3))
+      (λ _. floods-next es (al .1) m id p b n)
+
+  -- with an id left for every span of id 0 they do not run out
+  pub ids-suffice : (es : List ℕ) → All (λ e. (e ≡ none → ⊥) → e < spans N) es → (m : Marks) (id : ℕ) → 0 < id → id + zeros (m .ids) < 0x8000 → length (m .ids) ≡ spans N
+      → floodsRunOut N dist level es m id ≡ false
+  unfolding floodsRunOut _or_
+  ids-suffice [] al m id p b n = refl
+  ids-suffice (e ∷ es) al m id p b n =
+      if-ind (λ (o : Bool). o ≡ false) _
+      (λ t.
+      let t2 = both _ _ t in
+      let inside : e < spans N = al .0 (eqb-false _ _ (not-true _ (t2 .0))) in
+      let fl = flood-zeros N dist level id m e (ne-eqb id 0 (omega arith)) (lt-leb 0x8000 id (omega arith)) inside (λ k. omega (arith, bytes e inside)) n (eqb-true _ _ (t2 .1)) in
+      let f = flood N dist level id m e in
+      let k = if-add (eqb (f .count) 0) id in
+      rw (not-last (eqb (f .count) 0) id (omega arith)) (ids-suffice es (al .1) (f .marks) (if eqb (f .count) 0 then id else suc id) (omega arith) (omega arith) (fl .0)))
+      (λ _. ids-suffice es (al .1) m id p b n)

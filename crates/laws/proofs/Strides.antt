@@ -11,7 +11,7 @@ use Rattle.rules.specs.Base.{every}
 use Rattle.rules.specs.Field.{Field, none}
 use Rattle.rules.specs.Field as field
 use Rattle.rules.specs.Net.{Net, netOf, spans, near}
-use Rattle.rules.specs.Refusals.{goodBack, wrongBack, tooMany}
+use Rattle.rules.specs.Refusals.{goodBack, wrongBack, tooMany, mostSpans}
 use Rattle.rules.specs.Contour.{across, solid, Walker, stride}
 use Rattle.laws.proofs.Basics.{either, if-ind, every-at}
 use Rattle.laws.proofs.Cells.{Passed, near-none}
@@ -25,7 +25,7 @@ pub record Place (N : Net) (ids : List ℕ) (v : Walker) : Type 0 where
 
 -- connections answer each other
 pub record Answered (N : Net) : Type 0 where
-  pub few : spans N ≤ 32000
+  pub few : spans N ≤ mostSpans
   pub back : (s d : ℕ) → s < spans N → d < 4 → (near N s d ≡ none → ⊥) → near N (near N s d) ((d + 2) % 4) ≡ s
 
 module _ (N : Net) (ok : Answered N) (ids : List ℕ) (size : length ids ≡ spans N) where

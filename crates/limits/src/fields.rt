@@ -138,11 +138,11 @@ pub const LAYERS_CON: [u8; 80] = [
     0,
 ];
 
-// 0, 1, 2, ..
-pub(crate) fn count_up(l: &mut [u32])
-    requires { ⌜ length (now l) ≤ 4294967295 ⌝ }
+// 0, 2, 4, ..
+pub(crate) fn count_in_twos(l: &mut [u32])
+    requires { ⌜ length (now l) ≤ 65536 ⌝ }
 {
     for i in 0..l.len() {
-        l[i] = i as u32;
+        l[i] = 2 * i as u32;
     }
 }

@@ -12,7 +12,7 @@ use fields::LAYERS_AREA;
 use fields::LAYERS_CON;
 use fields::LAYERS_COUNT;
 use fields::LAYERS_INDEX;
-use fields::count_up;
+use fields::count_in_twos;
 use regions::distances;
 use regions::regions;
 use show::run;
@@ -43,31 +43,31 @@ fn sides() {
     run(b"h 257", 1, 257, &[0; 257], &[0; 257], &[], &[], 0, 0);
 }
 
-// Refusal 2: 250 by 128 cells of a span each.
+// Refusal 2: 250 by 130 cells of two spans each.
 fn spans() {
-    let mut index = [0u32; 32000];
-    count_up(&mut index);
+    let mut index = [0u32; 32500];
+    count_in_twos(&mut index);
     run(
-        b"n 32,000",
+        b"n 65,000",
         250,
-        128,
+        130,
         &index,
-        &[1; 32000],
-        &[1; 32000],
-        &[255; 128000],
-        32000,
-        32000,
+        &[2; 32500],
+        &[1; 65000],
+        &[255; 260000],
+        65000,
+        65000,
     );
     run(
-        b"n 32,001",
+        b"n 65,001",
         250,
-        128,
+        130,
         &index,
-        &[1; 32000],
-        &[1; 32001],
-        &[255; 128004],
-        32001,
-        32001,
+        &[2; 32500],
+        &[1; 65001],
+        &[255; 260004],
+        65001,
+        65001,
     );
 }
 

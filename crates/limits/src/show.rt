@@ -95,7 +95,7 @@ fn lend(
     call(w, h, index, count, area, con, &mut a[..m], &mut b[..n]);
 }
 
-// A call that is lent lists of so many 7s for the distances, at most 32,001.
+// A call that is lent lists of so many 7s for the distances, at most 65,001.
 pub(crate) fn run(
     name: &[u8],
     w: u16,
@@ -109,7 +109,7 @@ pub(crate) fn run(
 ) {
     io::write_all(1, name);
     io::write_all(1, b": ");
-    let mut a = [7u16; 32001];
-    let mut b = [7u16; 32001];
+    let mut a = [7u16; 65001];
+    let mut b = [7u16; 65001];
     lend(w, h, index, count, area, con, &mut a, &mut b, raws, blurs);
 }

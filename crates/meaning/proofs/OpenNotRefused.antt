@@ -12,7 +12,7 @@ use borrow.Author.Tests.{eq-eqb, le-ltb, lt-ltb}
 use Rattle.rules.specs.Base.{_and_, _or_, if_then_else_, tab, every}
 use Rattle.rules.specs.Field.{Field, spans, near, cellTo, leaves, conOf}
 use Rattle.rules.specs.Open.{openCon, flat, openField}
-use Rattle.rules.specs.Refusals.{goodCells, goodCon, goodBack, tooWide, tooMany, wrongLength, wrongCells, wrongReach, wrongBack, refusal}
+use Rattle.rules.specs.Refusals.{goodCells, goodCon, goodBack, tooWide, tooMany, wrongLength, wrongCells, wrongReach, wrongBack, refusal, mostSpans}
 use Rattle.laws.proofs.Basics.{every-all, four-ways, and-both, or-left, or-right, length-tab}
 use Rattle.laws.proofs.Passes.{wide-pos, across-in}
 use Rattle.meaning.specs.Open.{spanAt}
@@ -104,9 +104,9 @@ module _ (w h : ℕ) (few : w * h ≤ 65535) where
   unfolding wrongBack
   back-right = ap not (every-all _ _ (λ s g. every-all 4 _ (λ d k. back-good w h few s d (rw (open-spans w h) at g) k)))
 
-pub open-not-refused : (w h : ℕ) → w ≤ 256 → h ≤ 256 → w * h ≤ 32000 → refusal (openField w h) [] ≡ 0
+pub open-not-refused : (w h : ℕ) → w ≤ 256 → h ≤ 256 → w * h ≤ mostSpans → refusal (openField w h) [] ≡ 0
 unfolding tooWide tooMany _or_ flat openField
 open-not-refused w h a b few =
     let more : w * h ≤ 65535 = omega arith in
-    not-refused (openField w h) [] (rw (le-ltb 256 w a, le-ltb 256 h b) refl) (le-ltb 32000 (spans (openField w h)) (omega (arith, open-spans w h)))
+    not-refused (openField w h) [] (rw (le-ltb 256 w a, le-ltb 256 h b) refl) (le-ltb mostSpans (spans (openField w h)) (omega (arith, open-spans w h)))
     (lengths-right w h more) (cells-right w h more) (reach-right w h more) (back-right w h more)

@@ -10,7 +10,7 @@ use mathlib.Core.List.{List}
 use lib.ListN.{length, getD}
 use borrow.Author.Tests.{eqb-true, eqb-false, leb-false, ltb-false, not-false}
 use Rattle.rules.specs.Field.{Field, spans, none, near, cellOf, cellTo, leaves, conOf}
-use Rattle.rules.specs.Refusals.{goodBack, tooWide, tooMany, wrongLength, wrongBack}
+use Rattle.rules.specs.Refusals.{goodBack, tooWide, tooMany, wrongLength, wrongBack, mostSpans}
 use Rattle.laws.proofs.Basics.{both, neither, either, every-at, in-list}
 use Rattle.laws.proofs.Cells.{Passed, near-none, before, before-lt, cellOf-in, cell-of, sum-of, Leads, leads}
 use Rattle.laws.proofs.Passes.{wide-pos, mod-pred, none-near}
@@ -18,7 +18,7 @@ use Rattle.laws.proofs.Passes.{wide-pos, mod-pred, none-near}
 module _ (F : Field) (lens : List ℕ) (ok : Passed F lens) where
   pub few : spans F ≤ 65535
   unfolding tooMany
-  few = omega (arith, ltb-false 32000 (spans F) (ok .many))
+  few = omega (arith, ltb-false mostSpans (spans F) (ok .many))
 
   narrow : F .w ≤ 256
   unfolding tooWide

@@ -16,7 +16,7 @@ use Rattle.rules.specs.Mend.{MendOutcome, changed, mendRefusal, mendOutcome}
 use Rattle.field.specs.Lent.{lent}
 use Rattle.checker.specs.Answer.{numberOf, verdictNumber}
 use Rattle.checker.specs.declared.Refusal.{Refusal}
-use Rattle.checker.specs.declared.Refusal.the-variants.{TooWide, TooMany, WrongLength, WrongCells, WrongReach, WrongBack, TooShort, TooFar}
+use Rattle.checker.specs.declared.Refusal.the-variants.{TooWide, TooMany, WrongLength, WrongCells, WrongReach, WrongBack, TooShort, TooFar, NoIds, NoSum}
 use Rattle.checker.specs.declared.Verdict.{Verdict}
 use Rattle.checker.specs.declared.Verdict.the-variants.{Sound, Refused}
 use Rattle.checker.proofs.Numbers.{number-pos}
@@ -48,6 +48,8 @@ past-is WrongReach = refl
 past-is WrongBack = refl
 past-is TooShort = refl
 past-is TooFar = refl
+past-is NoIds = refl
+past-is NoSum = refl
 
 -- a number is one of 1 to 4, or past them
 low-before : (u : ℕ) → 0 < u → leb 5 u ≡ false → (leb 1 u and leb u 4) ≡ true

@@ -11,7 +11,7 @@ use lib.Dec.{eqb, leb}
 use borrow.Author.Tests.{eq-eqb, le-ltb, ltb-false, leb-true, not-false, eqb-true, eqb-false}
 use Rattle.rules.specs.Base.{_or_, _and_, if_then_else_, every}
 use Rattle.rules.specs.Field.{Field, spans, conOf}
-use Rattle.rules.specs.Refusals.{goodCon, goodBack, tooWide, tooMany, wrongLength, wrongCells, wrongReach, wrongBack, refusal}
+use Rattle.rules.specs.Refusals.{goodCon, goodBack, tooWide, tooMany, wrongLength, wrongCells, wrongReach, wrongBack, refusal, mostSpans}
 use Rattle.rules.specs.Mend.{stays, staysAt, mendedAt, mendedCon, mended, relinked, changesTo, changedTo, changed, MendOutcome, mendRefusal, mendOutcome}
 use Rattle.laws.proofs.Basics.{both, and-both, every-at, every-all, tab-at, length-tab}
 use Rattle.laws.proofs.Cells.{passed}
@@ -33,7 +33,7 @@ module _ (F : Field) (ok : Celled F) where
 
   few : tooMany F ≡ false
   unfolding tooMany
-  few = le-ltb 32000 (spans F) (ok .few)
+  few = le-ltb mostSpans (spans F) (ok .few)
 
   ordered : wrongCells F ≡ false
   unfolding wrongCells

@@ -7,7 +7,7 @@ use Rattle.rules.specs.Base.{_and_, if_then_else_}
 use Rattle.rules.specs.Mend.{MendOutcome}
 use Rattle.checker.specs.Answer.{numberOf}
 use Rattle.checker.specs.declared.Refusal.{Refusal}
-use Rattle.checker.specs.declared.Refusal.the-variants.{TooWide, TooMany, WrongLength, WrongCells, WrongReach, WrongBack, TooShort, TooFar}
+use Rattle.checker.specs.declared.Refusal.the-variants.{TooWide, TooMany, WrongLength, WrongCells, WrongReach, WrongBack, TooShort, TooFar, NoIds, NoSum}
 use Rattle.mend.specs.declared.MendAnswer.{MendAnswer}
 use Rattle.mend.specs.declared.MendAnswer.the-variants.{Refused, NoRoom, Done}
 
@@ -37,6 +37,8 @@ pastCells WrongReach = true
 pastCells WrongBack = true
 pastCells TooShort = true
 pastCells TooFar = true
+pastCells NoIds = true
+pastCells NoSum = true
 
 -- refusals 1 to 4 as they are, 0 for the others and for none
 unfoldable pub beforeLinks : ℕ → ℕ

@@ -6,6 +6,7 @@ use lib.Dec.{ltb}
 use Rattle.rules.specs.Base.{if_then_else_, upto}
 use Rattle.rules.specs.Field.{Field}
 use Rattle.rules.specs.Mend.{relinked, staysAt}
+use Rattle.rules.specs.Refusals.{mostSpans}
 use Rattle.field.specs.Lent.{lent, Celled}
 
 -- the two lists, and how many changes were found
@@ -41,4 +42,4 @@ walk G room a m v = upto m (λ j. step G room (a + j)) v
 pub record Ready (F : Field) (changes : List ℕ) (room found m : ℕ) : Type 0 where
   pub celled : Celled F
   pub places : 3 * room ≤ length changes
-  pub few : found + m ≤ 128000
+  pub few : found + m ≤ 4 * mostSpans

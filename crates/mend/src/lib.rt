@@ -14,7 +14,7 @@ ghost use mathlib.Core.Path.{_≡_};
 ghost use Prim.Native.Nat.{_+_, _*_, _<_};
 ghost use lib.ListN.{length, getD};
 ghost use mathlib.Core.List.{[]};
-ghost use Rattle.rules.specs.Refusals.{refusal};
+ghost use Rattle.rules.specs.Refusals.{refusal, mostSpans};
 ghost use Rattle.rules.specs.Mend.{stays, mendOutcome};
 ghost use Rattle.field.specs.Lent.{lent, Celled};
 ghost use Rattle.mend.specs.Walk.{state, ground, noted, step, walk, Ready};
@@ -29,7 +29,7 @@ pub enum MendAnswer {
 
 // Change number k in its place.
 fn note(changes: &mut [u16], k: usize, s: usize, d: usize, old: u8)
-    requires { ⌜ (3 * k + 2 < length (now changes)) × (k < 128000) × (s < 65536) × (d < 4) ⌝ }
+    requires { ⌜ (3 * k + 2 < length (now changes)) × (k < 4 * mostSpans) × (s < 65536) × (d < 4) ⌝ }
     ensures { λ _. ⌜ now (changes .exit) ≡ noted (now (changes .entry)) k s d old ⌝ }
 {
     changes[3 * k] = s as u16;
@@ -213,6 +213,8 @@ fn past_cells(r: Refusal) -> bool
         Refusal::WrongBack => true,
         Refusal::TooShort => true,
         Refusal::TooFar => true,
+        Refusal::NoIds => true,
+        Refusal::NoSum => true,
     }
 }
 

@@ -4,6 +4,7 @@ use Prim.Native.Nat.{ℕ, _+_, _*_, _≤_, _<_}
 use mathlib.Core.Path.{_≡_}
 use mathlib.Core.List.{List}
 use lib.ListN.{length, getD}
+use Rattle.rules.specs.Refusals.{mostSpans}
 use Rattle.table.specs.View.{startOf, endOf, Held}
 use Rattle.numbering.specs.Number.{Spans}
 use Rattle.laws.specs.Sums.{sumTo}
@@ -11,7 +12,7 @@ use Rattle.pool.specs.Pool.{lenAt, countAt}
 
 pub record Ready (m n : ℕ) (ws ids : List ℕ) : Type 0 where
   pub records : m ≤ n + 6
-  pub spans : n ≤ 32000
+  pub spans : n ≤ mostSpans
   pub room : 16 * m + 70 * n ≤ length ws
   -- tables and parts in the workspace, ids and floors below m, what is listed flagged or below m
   pub held : Held m (7 * m) (11 * m) ws

@@ -7,6 +7,7 @@ use mathlib.Core.List.{List}
 use lib.ListN.{length, getD, List·getD-eq-default}
 use Rattle.rules.specs.Field.{none}
 use Rattle.rules.specs.Net.{Net, spans, near, areaOf}
+use Rattle.rules.specs.Refusals.{mostSpans}
 use Rattle.laws.proofs.Basics.{getD-any}
 use Rattle.space.proofs.Laws.{length-sec, getD-sec, sec-same}
 use Rattle.space.specs.Space.{sec}
@@ -70,7 +71,7 @@ module _ (table : ℕ) (ar ws cons : List ℕ) (s d t : ℕ) (v : AtSpan table a
       omega (arith, spans-at table ar ws)
 
 -- a net as lent is closed: as the code has it
-pub net-few : (table : ℕ) (ar ws : List ℕ) → Closed (netAt table ar ws) → length ar ≤ 32000
+pub net-few : (table : ℕ) (ar ws : List ℕ) → Closed (netAt table ar ws) → length ar ≤ mostSpans
 net-few table ar ws k = omega (arith, k .few, spans-at table ar ws)
 
 pub net-inside : (table : ℕ) (ar ws : List ℕ) (s d t : ℕ) → Closed (netAt table ar ws) → table + 4 * length ar ≤ length ws → s < length ar → d < 4

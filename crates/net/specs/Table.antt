@@ -5,6 +5,7 @@ use mathlib.Core.List.{List}
 use lib.ListN.{length, getD}
 use Rattle.rules.specs.Field.{none}
 use Rattle.rules.specs.Net.{Net, spans, near}
+use Rattle.rules.specs.Refusals.{mostSpans}
 use Rattle.laws.proofs.Strides.{Answered}
 use Rattle.field.specs.Lent.{consAt}
 use Rattle.space.specs.Space.{sec}
@@ -15,10 +16,6 @@ netAt table areas ws = record { neighbours = sec table (4 * length areas) ws; ar
 -- every section begins before it, so that no sum of a place and a span's numbers wraps
 abbrev pub lastPlace : ℕ
 lastPlace = 8388608
-
--- refusal 2 leaves no more spans
-abbrev pub mostSpans : ℕ
-mostSpans = 32000
 
 -- there are few spans, and a neighbour is one of them
 pub record Closed (N : Net) : Type 0 where

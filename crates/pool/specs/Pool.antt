@@ -191,7 +191,7 @@ pub record Marked (h o a e x : ℕ) (ws ws′ : List ℕ) : Type 0 where
 
 -- all lists stand in the half at h, and lie apart
 pub record Standing (m p h o : ℕ) (ws : List ℕ) : Type 0 where
-  pub few : m < 32768
+  pub few : m ≤ 0x8000
   pub rows : Rows m ws
   pub halves : Halves m p h o ws
   pub from : (x : ℕ) → x < m → h ≤ startOf ws m (7 * m) x

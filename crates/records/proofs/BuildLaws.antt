@@ -17,13 +17,14 @@ use Rattle.rules.specs.Net.{Net, netOf}
 use Rattle.rules.specs.Growth.{plain}
 use Rattle.rules.specs.Contour.{firstSolid, contour, cutShort}
 use Rattle.rules.specs.Records.{Rec, fresh, at, has, others, onceAll, counted, addSpan, records}
+use Rattle.rules.specs.Refusals.{mostSpans}
 use Rattle.laws.proofs.Basics.{upto-next, tab-at, length-tab}
 use Rattle.laws.proofs.Cells.{passed}
 use Rattle.laws.proofs.Strides.{answered}
 use Rattle.field.specs.Lent.{Celled, Stands}
 use Rattle.field.proofs.Passed.{sound-reached}
 use Rattle.field.proofs.Places.{cell-is, layer-stands, stands-at, firstOf, first-is, total-is}
-use Rattle.net.specs.Table.{netAt, mostSpans}
+use Rattle.net.specs.Table.{netAt}
 use Rattle.net.proofs.Tables.{net-same}
 use Rattle.net.proofs.Fills.{net-lent}
 use Rattle.contour.specs.Ways.{Mutual, Ways}

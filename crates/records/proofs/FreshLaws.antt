@@ -11,10 +11,12 @@ use lib.Seq.{getD-set-same, getD-set-other}
 use lib.Dec.{eqb}
 use borrow.Author.Tests.{eq-eqb, ne-eqb, lt-ltb, le-ltb}
 use Rattle.rules.specs.Base.{if_then_else_, many}
+use Rattle.rules.specs.Refusals.{mostSpans}
 use Rattle.laws.proofs.Basics.{many-le}
 use Rattle.space.proofs.Laws.{getD-before, getD-after}
 use Rattle.table.specs.View.{startOf, endOf, Placed}
 use Rattle.table.proofs.ViewLaws.{wide-same}
+use Rattle.records.specs.Map.{border}
 use Rattle.records.specs.Rows.{slot, floorsAt}
 use Rattle.records.specs.Fresh.{tallyOne, Tallied, Renewed}
 use Rattle.records.specs.Stock.{Blank}
@@ -40,7 +42,7 @@ tallied-start ids m ws B = record {
 }
 
 module _ (ids : List ℕ) (m k : ℕ) (ws₀ ws : List ℕ) (T : Tallied ids m k ws₀ ws) (h : k < length ids) where
-  pub tally-fits : Blank ids m ws₀ → (r : ℕ) → (2 * m ≤ length ws) × (m < 32768) × (r < m → getD ws (m + r) 0 < 65535)
+  pub tally-fits : Blank ids m ws₀ → (r : ℕ) → (2 * m ≤ length ws) × (m ≤ border) × (r < m → getD ws (m + r) 0 < 65535)
   tally-fits B r = (omega (arith, T .size, B .room), B .few, λ g. omega (arith, T .counts r g, many-take-le (eqb r) ids k, many-le (eqb r) ids, B .spans))
 
   pub tallied-next : (ws′ : List ℕ) (r : ℕ) → r ≡ getD ids k 0 → 2 * m ≤ length ws → ws′ ≡ tallyOne m r ws → Tallied ids m (k + 1) ws₀ ws′
@@ -90,7 +92,7 @@ pub renewed-then : (ids : List ℕ) (m i j : ℕ) (ws₀ ws ws′ : List ℕ) �
 renewed-then ids m i j ws₀ ws ws′ P R = record { low = R .low; size = R .size ∙ P .size; names = R .names; empty = R .empty; counts = R .counts; lists = R .lists; floors = R .floors; columns = R .columns; pool = R .pool; after = λ x h. R .after x h ∙ P .after x h }
 
 module _ (ids : List ℕ) (m i : ℕ) (ws : List ℕ) (R : Renewed ids m i ws ws) (h : i < m) (q before : ℕ) (eb : before ≡ slot ids i) (eq : q ≡ 16 * m + 8 * length ids + 62 * before)
-    (few : m < 32768) (spans : length ids ≤ 32000) (room : 16 * m + 70 * length ids ≤ length ws) where
+    (few : m ≤ border) (spans : length ids ≤ mostSpans) (room : 16 * m + 70 * length ids ≤ length ws) where
   at-floors : q ≡ floorsAt ids m i
   unfolding floorsAt
   at-floors = rw (eq, eb)

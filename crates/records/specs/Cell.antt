@@ -8,7 +8,7 @@ use lib.Dec.{eqb, ltb}
 use Rattle.rules.specs.Base.{_and_, _or_, if_then_else_, keep, tab}
 use Rattle.rules.specs.Growth.{plain}
 use Rattle.rules.specs.Records.{has, once, onceAll}
-use Rattle.net.specs.Table.{mostSpans}
+use Rattle.rules.specs.Refusals.{mostSpans}
 use Rattle.records.specs.declared.cell.Spans.{Spans}
 
 unfoldable pub twin : List ℕ → ℕ → ℕ → ℕ → Bool

@@ -5,9 +5,9 @@ use Prim.Native.Nat.{ℕ, _+_, _*_}
 use Rattle.contour.specs.declared.walk.Pool.{Pool}
 use Rattle.records.specs.declared.grow.Plan.{Plan}
 
--- ids from here on are flagged: there are fewer records
+-- ids from here on are flagged: there are no more records
 abbrev pub border : ℕ
-border = 32768
+border = 0x8000
 
 -- the table of the lists' parts
 abbrev pub listsAt : ℕ → ℕ

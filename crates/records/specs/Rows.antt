@@ -10,7 +10,7 @@ use Rattle.rules.specs.Net.{Net, areaOf}
 use Rattle.rules.specs.Growth.{plain}
 use Rattle.rules.specs.Contour.{firstSolid, contour, cutShort}
 use Rattle.rules.specs.Records.{Rec, at, onceAll}
-use Rattle.net.specs.Table.{mostSpans}
+use Rattle.rules.specs.Refusals.{mostSpans}
 use Rattle.contour.specs.Pool.{pooled}
 use Rattle.table.specs.View.{startOf, endOf, listAt, marksAt, recsOf}
 use Rattle.records.specs.Map.{listsAt, floorPartsAt, poolAt, floorsFrom, floorRoom, recordsEnd, border}
@@ -44,7 +44,7 @@ pub record Row (ids : List ℕ) (m top k i : ℕ) (ws : List ℕ) : Type 0 where
 
 -- all records after k spans, the pool filled up to top
 pub record Keeping (ids : List ℕ) (m top k : ℕ) (ws : List ℕ) : Type 0 where
-  pub few : m < border
+  pub few : m ≤ border
   pub spans : length ids ≤ mostSpans
   pub room : recordsEnd m (length ids) ≤ length ws
   pub below : (x : ℕ) → plain (getD ids x 0) ≡ true → getD ids x 0 < m

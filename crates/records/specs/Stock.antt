@@ -8,8 +8,9 @@ use Rattle.rules.specs.Field.{Field, spans}
 use Rattle.rules.specs.Net.{netOf}
 use Rattle.rules.specs.Growth.{plain}
 use Rattle.rules.specs.Records.{records}
+use Rattle.rules.specs.Refusals.{mostSpans}
 use Rattle.field.specs.Lent.{Sound}
-use Rattle.net.specs.Table.{netAt, lastPlace, mostSpans}
+use Rattle.net.specs.Table.{netAt, lastPlace}
 use Rattle.contour.specs.Ways.{Ways}
 use Rattle.table.specs.View.{startOf, endOf, recsOf, Held}
 use Rattle.records.specs.Map.{listsAt, floorPartsAt, poolAt, floorsFrom, recordsEnd, border}
@@ -33,7 +34,7 @@ pub record Reach (plan : Plan) (areas con ids ws : List ℕ) (s : ℕ) : Type 0 
 
 -- zeros, and room for m records of these ids
 pub record Blank (ids : List ℕ) (m : ℕ) (ws : List ℕ) : Type 0 where
-  pub few : m < border
+  pub few : m ≤ border
   pub spans : length ids ≤ mostSpans
   pub room : recordsEnd m (length ids) ≤ length ws
   pub below : (x : ℕ) → plain (getD ids x 0) ≡ true → getD ids x 0 < m

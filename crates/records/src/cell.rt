@@ -8,7 +8,7 @@ ghost use Prim.Native.Nat.{_+_, _≤_, _<_};
 ghost use lib.ListN.{length, getD, take};
 ghost use Rattle.rules.specs.Base.{_or_};
 ghost use Rattle.rules.specs.Records.{once, onceAll};
-ghost use Rattle.net.specs.Table.{mostSpans};
+ghost use Rattle.rules.specs.Refusals.{mostSpans};
 ghost use Rattle.records.specs.Cell.{twin, twins, othersFrom, joinOne, Found, Joined, JoinedAll, Roomy};
 
 // The spans of a cell: size of them, from `from` on.

@@ -11,7 +11,7 @@ ghost use Prim.Native.Nat.{_+_, _*_, _≤_, _<_};
 ghost use lib.ListN.{length, getD};
 ghost use lib.Dec.{eqb};
 ghost use Rattle.rules.specs.Base.{many};
-ghost use Rattle.net.specs.Table.{mostSpans};
+ghost use Rattle.rules.specs.Refusals.{mostSpans};
 ghost use Rattle.records.specs.Map.{recordsEnd, border};
 ghost use Rattle.records.specs.Rows.{slot};
 ghost use Rattle.records.specs.Fresh.{tallyOne, Tallied, Renewed};
@@ -19,7 +19,7 @@ ghost use Rattle.records.specs.Stock.{Blank};
 
 // One more span of id r, if that is below m.
 fn tally_one(ws: &mut [u16], m: usize, r: usize)
-    requires { ⌜ (2 * m ≤ length (now ws)) × (m < border) × (r < m → getD (now ws) (m + r) 0 < 65535) ⌝ }
+    requires { ⌜ (2 * m ≤ length (now ws)) × (m ≤ border) × (r < m → getD (now ws) (m + r) 0 < 65535) ⌝ }
     ensures { λ _. ⌜ now (ws .exit) ≡ tallyOne m r (now (ws .entry)) ⌝ }
 {
     if m <= r {
@@ -43,7 +43,7 @@ fn tally(ids: &[u16], ws: &mut [u16], m: usize)
 // Record i is new: no list yet, and its floors' room after that of the records before it, which have `lower` spans. Gives its own spans.
 fn renew_one(ids: &[u16], ws: &mut [u16], m: usize, i: usize, lower: usize) -> usize
     requires { ⌜ Renewed (now ids) m i (now ws) (now ws) × (i < m) × (lower ≡ slot (now ids) i) ⌝ }
-    requires { ⌜ (m < border) × (length (now ids) ≤ mostSpans) × (recordsEnd m (length (now ids)) ≤ length (now ws)) ⌝ }
+    requires { ⌜ (m ≤ border) × (length (now ids) ≤ mostSpans) × (recordsEnd m (length (now ids)) ≤ length (now ws)) ⌝ }
     ensures { λ r. ⌜ Renewed (now (ids .entry)) m (i + 1) (now (ws .entry)) (now (ws .exit)) × (r ≡ many (eqb i) (now (ids .entry))) ⌝ }
 {
     let spans = at(ws, m + i);

@@ -1,7 +1,7 @@
 // The map of the records in the workspace, after their columns: so many numbers a record, or a span.
 ghost use mathlib.Core.Path.{_≡_};
 ghost use Prim.Native.Nat.{_≤_};
-ghost use Rattle.net.specs.Table.{mostSpans};
+ghost use Rattle.rules.specs.Refusals.{mostSpans};
 ghost use Rattle.records.specs.Map.{recordsEnd};
 
 // Where the table of the lists' parts begins, the table of the floors' parts, and the pool: numbers a record.

@@ -5,7 +5,7 @@ use native.Mathlib.Omega.{arith}
 use mathlib.Core.Path.{_≡_, refl, sym, ap, _∙_}
 use mathlib.Core.List.{List}
 use Rattle.rules.specs.Refresh.{Rows, StagesOutcome, RefreshOutcome}
-use Rattle.checker.proofs.Numbers.{number-pos, number-low, number-same}
+use Rattle.checker.proofs.Numbers.{number-pos, number-low, number-not-11, number-same}
 use Rattle.refresh.specs.Answer.{stagesRefusedBy, stagesMostIn, stagesGiven, refreshRefusedBy, refreshMostIn, pass1RowsIn, pass2RowsIn, blurRowsIn, refreshGiven}
 use Rattle.refresh.specs.declared.StagesAnswer.{StagesAnswer}
 use Rattle.refresh.specs.declared.StagesAnswer.the-variants as stages
@@ -52,10 +52,10 @@ done-same a b u =
 
 answer-same : (a b : RefreshAnswer) → refreshRefusedBy a ≡ refreshRefusedBy b → Same a b → a ≡ b
 answer-same (Refused r) (Refused s) e u = ap Refused (number-same r s e)
-answer-same (Refused r) WrongRect e u = absurd (omega (arith, number-low r))
+answer-same (Refused r) WrongRect e u = absurd (number-not-11 r e)
 answer-same (Refused r) WrongStored e u = absurd (omega (arith, number-low r))
 answer-same (Refused r) (Done j) e u = absurd (omega (arith, number-pos r))
-answer-same WrongRect (Refused s) e u = absurd (omega (arith, number-low s))
+answer-same WrongRect (Refused s) e u = absurd (number-not-11 s (sym e))
 answer-same WrongRect WrongRect e u = refl
 answer-same WrongRect WrongStored e u = absurd (omega arith)
 answer-same WrongRect (Done j) e u = absurd (omega arith)

@@ -12,7 +12,7 @@ use Rattle.rules.specs.Growth.{flagged, plain}
 use Rattle.rules.specs.Records.{Rec, fresh, at, has, once, counted, addSpan, records}
 use Rattle.rules.specs.Filter.{seen, removed, Gather, reach, gather, total, removeAll, filterOne, filtered}
 use Rattle.rules.specs.Merge.{suits, Pick, picked, absorbed, emptied, renamed, Merge, mergeOne, merged}
-use Rattle.rules.specs.Numbering.{live, overlaps, cuts, numberOf, Regions, numbered, regions}
+use Rattle.rules.specs.Numbering.{live, overlaps, cuts, Regions, numbered, regions}
 use Rattle.laws.proofs.MergeEnds.{at-map}
 use Rattle.rooms.specs.Bare.{bare, bareRecords, bareRegions}
 

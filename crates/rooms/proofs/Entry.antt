@@ -7,10 +7,11 @@ use mathlib.Core.Path.{_≡_}
 use mathlib.Core.List.{List, [], _∷_}
 use lib.ListN.{length}
 use lib.Dec.{eqb}
-use borrow.Author.Tests.{eqb-true, eqb-false}
+use mathlib.Core.Bool.{not}
+use borrow.Author.Tests.{eqb-true, eqb-false, not-true, not-false}
 use Rattle.rules.specs.Field.{Field, Bytes}
 use Rattle.rules.specs.Refusals.{regionRefusal}
-use Rattle.rules.specs.Growth.{firstId}
+use Rattle.rules.specs.Growth.{firstId, stops}
 use Rattle.rules.specs.Numbering.{Form}
 use Rattle.rules.specs.Outcomes.{Sizes, RegionOutcome, regionOutcome}
 use Rattle.laws.proofs.Basics.{if-ind}
@@ -28,8 +29,12 @@ pub not-refused-gives-rooms : (form : Form) (F : Field) (dist : List ℕ) (most 
     → Rooms F (firstIn form (z .border)) (regionOutcome form F dist most z work ids .ids) (pastIn form (regionOutcome form F dist most z work ids .most))
 unfolding regionOutcome
 not-refused-gives-rooms form F dist most z work ids bytes =
-    if-ind (λ (o : RegionOutcome). o .refused ≡ 0 → Rooms F (firstIn form (z .border)) (o .ids) (pastIn form (o .most)))
-    (eqb (regionRefusal F (length dist ∷ length ids ∷ []) (length work) dist most) 0)
-    (λ e _. formed-rooms form F (z .border) _
-    (entry-rooms F (length dist ∷ length ids ∷ []) (length work) dist most (eqb-true _ _ e) bytes (z .border) (z .least) (z .merge)) (first-some (z .border)))
-    (λ e h. absurd (eqb-false _ _ e h))
+    let r = regionRefusal F (length dist ∷ length ids ∷ []) (length work) dist most in
+    let stop = stops F dist most (z .border) in
+    if-ind (λ (o : RegionOutcome). o .refused ≡ 0 → Rooms F (firstIn form (z .border)) (o .ids) (pastIn form (o .most))) (not (eqb r 0))
+    (λ e h. absurd (eqb-false _ _ (not-true _ e) h))
+    (λ e. if-ind (λ (o : RegionOutcome). o .refused ≡ 0 → Rooms F (firstIn form (z .border)) (o .ids) (pastIn form (o .most))) (not (eqb stop 0))
+    (λ u h. absurd (eqb-false _ _ (not-true _ u) h))
+    (λ u _. formed-rooms form F (z .border) _
+    (entry-rooms F (length dist ∷ length ids ∷ []) (length work) dist most (eqb-true _ _ (not-false _ e)) bytes (z .border) (z .least) (z .merge) (eqb-true _ _ (not-false _ u)))
+    (first-some (z .border))))

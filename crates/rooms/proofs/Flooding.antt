@@ -11,10 +11,10 @@ use lib.Dec.{eqb}
 use borrow.Author.Tests.{eqb-true, eqb-false, ne-eqb, lt-leb, not-true}
 use Rattle.rules.specs.Base.{if_then_else_}
 use Rattle.rules.specs.Net.{Net, spans, near, areaOf}
-use Rattle.rules.specs.Growth.{Marks, idOf, put, flagged, Seed, Flow, other, objects, pushed, visit, flow, flood, floods, Ids}
-use Rattle.laws.proofs.Basics.{both, if-ind, upto-ind, All, All-map, getD-set-cases}
+use Rattle.rules.specs.Growth.{Marks, idOf, put, flagged, Seed, Flow, other, objects, pushed, visit, flow, flood, floods, floodsRunOut, Ids}
+use Rattle.laws.proofs.Basics.{both, neither, if-ind, if-ind₂, upto-ind, All, All-map, getD-set-cases}
 use Rattle.laws.proofs.FloodEnds.{Same, Blank, Fine, has-area, objects-same, pushed-fine, visit-fine, own-other, flood-ends}
-use Rattle.laws.proofs.NextId.{zeros, flood-zeros, if-add}
+use Rattle.laws.proofs.NextId.{after-last}
 use Rattle.rooms.specs.Rooms.{Bears}
 use Rattle.rooms.specs.Linked.{Linked, stay, comes}
 use Rattle.rooms.proofs.Joins.{joined-trans, joined-sym, joined-map}
@@ -251,19 +251,18 @@ module _ (N : Net) (first : ℕ) where
       (λ c. won-grow id s (m .ids) f p w g l (eqb-false _ _ c))
 
 pub floods-grow : (N : Net) (first : ℕ) (dist : List ℕ) (level : ℕ) → ((s : ℕ) → s < spans N → areaOf N s < 256)
-    → (es : List ℕ) → All (Good N) es → (m : Marks) (id : ℕ) → id + zeros (m .ids) < 0x8000 → Grow N first id (m .ids)
+    → (es : List ℕ) → All (Good N) es → (m : Marks) (id : ℕ) → id < 0x8000 → Grow N first id (m .ids) → floodsRunOut N dist level es m id ≡ false
     → Grow N first (floods N dist level es m id .next) (floods N dist level es m id .marks .ids)
-unfolding floods
-floods-grow N first dist level bytes [] al m id b g = g
+unfolding floods floodsRunOut
+floods-grow N first dist level bytes [] al m id b g = λ o. g
 floods-grow N first dist level bytes (e ∷ es) al m id b g =
-    if-ind (λ (r : Ids). Grow N first (r .next) (r .marks .ids)) _
-    (λ t.
+    if-ind₂ (λ (r : Ids) (o : Bool). o ≡ false → Grow N first (r .next) (r .marks .ids)) _
+    (λ t o.
     let t2 = both _ _ t in
+    let o2 = neither _ _ o in
     let in-e = al .0 (eqb-false _ _ (not-true _ (t2 .0))) in
     let blank : idOf m e ≡ 0 = eqb-true _ _ (t2 .1) in
     let f = flood N dist level id m e in
-    let fl = flood-zeros N dist level id m e (ne-eqb id 0 (λ k. omega (arith, g .some, g .ahead))) (lt-leb 0x8000 id (omega arith)) (in-e .0) (λ k. omega (arith, bytes e (in-e .0))) (g .size) blank in
-    let k = if-add (eqb (f .count) 0) id in
-    floods-grow N first dist level bytes es (al .1) (f .marks) (if eqb (f .count) 0 then id else suc id) (omega arith)
-    (flood-grow N first dist level id m e (omega arith) (in-e .0) (in-e .1) (bytes e (in-e .0)) blank g))
+    floods-grow N first dist level bytes es (al .1) (f .marks) (if eqb (f .count) 0 then id else suc id) (after-last _ id b (o2 .0))
+    (flood-grow N first dist level id m e b (in-e .0) (in-e .1) (bytes e (in-e .0)) blank g) (o2 .1))
     (λ _. floods-grow N first dist level bytes es (al .1) m id b g)

@@ -9,12 +9,12 @@ use mathlib.Core.List.{List, []}
 use lib.ListN.{length, getD, List·getD-eq-default}
 use lib.Dec.{eqb}
 use borrow.Author.Tests.{eqb-false, not-true, not-false}
-use Rattle.rules.specs.Base.{_and_, tab, keep}
+use Rattle.rules.specs.Base.{_and_, upto, tab, keep}
 use Rattle.rules.specs.Field.{Field}
 use Rattle.rules.specs.Net.{Net, netOf, spans, areaOf}
-use Rattle.rules.specs.Growth.{idOf, walkable, paintOf, painted, firstId, blank, sorted, remains, expand, Turn, loaded, turn, grown}
+use Rattle.rules.specs.Growth.{idOf, walkable, paintOf, painted, firstId, blank, sorted, remains, expand, Turn, loaded, turn, turnStops, grown, stops}
 use Rattle.laws.proofs.Basics.{both, if-ind, upto-ind, All, tab-at, length-tab, set-cases, keep-all, append-all, tab-each, zeros-at}
-use Rattle.laws.proofs.Grows.{Down, expand-down, down-zeros, Room, loaded-inside, turn-room, first-few}
+use Rattle.laws.proofs.Grows.{Room, turn-goes, turn-room, turns-go, unstopped, first-few}
 use Rattle.laws.proofs.Lengths.{painted-length}
 use Rattle.laws.proofs.NextId.{zeros-le}
 use Rattle.rooms.specs.Rooms.{Plain, Bears}
@@ -93,38 +93,40 @@ module _ (N : Net) where
     pub room : Room N first t
     pub good : (j : ℕ) → All (Good N) (getD (t .stacks) j [])
 
-  turn-grow : (dist : List ℕ) → ((s : ℕ) → s < spans N → areaOf N s < 256) → spans N ≤ 32000 → (first : ℕ) → first ≤ 5
-      → (top k : ℕ) (t : Turn) → Turned first t → Turned first (turn N dist top k t)
-  unfolding turn Down
-  turn-grow dist bytes few first five top k t h =
+  turn-grow : (dist : List ℕ) → ((s : ℕ) → s < spans N → areaOf N s < 256) → (first top k : ℕ) (t : Turn) → turnStops N dist top k t ≡ 0
+      → Turned first t → Turned first (turn N dist top k t)
+  unfolding turn
+  turn-grow dist bytes first top k t o h =
       let level = top - 2 * (k + 1) in
       let j = k % 8 in
       let stacks = loaded N dist level j t in
       let e = expand N level (t .marks) (getD stacks j []) in
-      let ex = expand-down N level (t .marks) (getD stacks j []) (loaded-inside N dist level j t (h .room .inside) j) in
-      let z = down-zeros N (t .marks) (e .marks) (ex .0) in
       let ok = loaded-good dist level j t (h .good) in
       let eg = expand-good N level (t .marks) (getD stacks j []) (ok j) in
       record {
-        grow = floods-grow N first dist level bytes (e .stack) eg (e .marks) (t .next) (omega (arith, h .room .room)) (expand-grow N first (t .next) level (t .marks) (getD stacks j []) (h .grow));
-        room = turn-room N dist bytes few first five top k t (h .room);
+        grow = floods-grow N first dist level bytes (e .stack) eg (e .marks) (t .next) (h .room .plain)
+            (expand-grow N first (t .next) level (t .marks) (getD stacks j []) (h .grow)) (turn-goes N dist top k t o .1);
+        room = turn-room N dist bytes first top k t o (h .room);
         good = λ i. set-cases stacks j (e .stack) [] i (All (Good N)) eg (ok i);
       }
 
 -- ids as grown
-pub grown-grow : (F : Field) (dist : List ℕ) (most b : ℕ) → ((s : ℕ) → s < spans (netOf F) → areaOf (netOf F) s < 256) → spans (netOf F) ≤ 32000
+pub grown-grow : (F : Field) (dist : List ℕ) (most b : ℕ) → ((s : ℕ) → s < spans (netOf F) → areaOf (netOf F) s < 256) → stops F dist most b ≡ 0
     → Grow (netOf F) (firstId b) (grown F dist most b .next) (grown F dist most b .ids)
-unfolding grown
-grown-grow F dist most b bytes few =
+unfolding grown upto
+grown-grow F dist most b bytes o =
     let top = 2 * ((most + 1) / 2) in
     let first : (0 < firstId b) × (firstId b ≤ 5) = first-few b in
     let start : Turn = record { marks = painted F b; stacks = []; next = firstId b } in
     let size : length (painted F b .ids) ≡ spans (netOf F) = painted-length F b in
-    let r = upto-ind (λ k (t : Turn). Turned (netOf F) (firstId b) t) (turn (netOf F) dist top) start (top / 2)
-    (record {
-      grow = painted-grow F b;
-      room = record { size = size; some = first .0; room = omega (arith, zeros-le (painted F b .ids)); inside = λ j. tt };
-      good = λ j. tt;
-    })
-    (λ k t _ h. turn-grow (netOf F) dist bytes few (firstId b) (first .1) top k t h) in
-    expand-grow (netOf F) (firstId b) _ 0 _ _ (r .grow)
+    let go = turns-go (netOf F) dist top start (top / 2) (unstopped F dist most b o .turns) in
+    let r = upto-ind (λ k (t : Turn). (t ≡ upto k (turn (netOf F) dist top) start) × Turned (netOf F) (firstId b) t) (turn (netOf F) dist top) start (top / 2) (
+      refl,
+      record {
+        grow = painted-grow F b;
+        room = record { size = size; some = first .0; plain = omega arith; room = omega (arith, zeros-le (painted F b .ids)); inside = λ j. tt };
+        good = λ j. tt;
+      },
+    )
+    (λ k t g h. (rw (h .0) refl, turn-grow (netOf F) dist bytes (firstId b) top k t (rw (h .0) (go k g)) (h .1))) in
+    expand-grow (netOf F) (firstId b) _ 0 _ _ (r .1 .grow)

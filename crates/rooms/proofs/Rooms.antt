@@ -7,12 +7,12 @@ use mathlib.Core.Bool.{true, false, not, true≢false}
 use mathlib.Core.List.{List, [], _∷_, _++_, map}
 use lib.ListN.{length, getD, length-append}
 use lib.Dec.{eqb}
-use borrow.Author.Tests.{eqb-true, eqb-false, lt-leb, leb-true, ltb-false, not-false}
+use borrow.Author.Tests.{eqb-true, eqb-false, lt-leb, leb-true, not-false}
 use Rattle.rules.specs.Base.{if_then_else_, upto}
 use Rattle.rules.specs.Field.{Field, Bytes}
 use Rattle.rules.specs.Net.{Net, netOf, spans}
-use Rattle.rules.specs.Refusals.{refusal, regionRefusal, tooMany}
-use Rattle.rules.specs.Growth.{flagged, firstId, grown}
+use Rattle.rules.specs.Refusals.{refusal, regionRefusal}
+use Rattle.rules.specs.Growth.{flagged, firstId, grown, stops}
 use Rattle.rules.specs.Records.{Rec, at, has, records}
 use Rattle.rules.specs.Filter.{filtered}
 use Rattle.rules.specs.Merge.{place, merged}
@@ -20,7 +20,7 @@ use Rattle.rules.specs.Numbering.{live, numberOf, numbered, regions}
 use Rattle.laws.proofs.Basics.{if-ind, All-map, pigeonhole, nonzero-in, all-at}
 use Rattle.laws.proofs.Cells.{passed}
 use Rattle.laws.proofs.Nets.{net-bytes}
-use Rattle.laws.proofs.Grows.{first-few, grown-next}
+use Rattle.laws.proofs.Grows.{grown-room}
 use Rattle.rooms.specs.Rooms.{Plain, Bears, Rooms}
 use Rattle.rooms.specs.Linked.{Linked, LinkedRooms}
 use Rattle.rooms.proofs.Joins.{joined-map}
@@ -219,18 +219,17 @@ module _ (N : Net) (first next : ℕ) (ids : List ℕ) (g : Grow N first next id
 
 -- demand 3
 pub rooms : (F : Field) (lens : List ℕ) → refusal F lens ≡ 0 → Bytes F
-    → (dist : List ℕ) (most b least area : ℕ)
+    → (dist : List ℕ) (most b least area : ℕ) → stops F dist most b ≡ 0
     → Rooms F (firstId b) (regions F least area (grown F dist most b .ids) (grown F dist most b .next) .ids)
     (regions F least area (grown F dist most b .ids) (grown F dist most b .next) .most)
-unfolding regions tooMany
-rooms F lens ok bytes dist most b least area =
-    let few : spans (netOf F) ≤ 32000 = ltb-false _ _ (passed F lens ok .many) in
+unfolding regions
+rooms F lens ok bytes dist most b least area o =
     let first = firstId b in
     let ids = grown F dist most b .ids in
     let next = grown F dist most b .next in
     let nets = net-bytes F bytes in
-    let g = grown-grow F dist most b nets few in
-    let small : next < 0x8000 = omega (arith, grown-next F dist most b nets few, first-few b) in
+    let g = grown-grow F dist most b nets o in
+    let small : next < 0x8000 = grown-room F dist most b nets o .0 in
     let rs = filtered least (records F ids next) in
     let raw = filtered-raw (netOf F) first next ids g least (records F ids next) (records-raw F first next ids g) in
     rooms-forward F lens (passed F lens ok) first _ _ (numbered-rooms (netOf F) first next ids g small (merged area (suc (length rs)) rs) (merged-sound (netOf F) first next ids g small area (suc (length rs)) rs (raw-sound (netOf F) first next ids g small rs raw)))
@@ -251,7 +250,7 @@ accepted F lens work dist most =
 
 -- demand 3 for the region entry
 pub entry-rooms : (F : Field) (lens : List ℕ) (work : ℕ) (dist : List ℕ) (most : ℕ) → regionRefusal F lens work dist most ≡ 0
-    → Bytes F → (b least area : ℕ)
+    → Bytes F → (b least area : ℕ) → stops F dist most b ≡ 0
     → Rooms F (firstId b) (regions F least area (grown F dist most b .ids) (grown F dist most b .next) .ids)
     (regions F least area (grown F dist most b .ids) (grown F dist most b .next) .most)
-entry-rooms F lens work dist most e bytes b least area = rooms F lens (accepted F lens work dist most e) bytes dist most b least area
+entry-rooms F lens work dist most e bytes b least area o = rooms F lens (accepted F lens work dist most e) bytes dist most b least area o

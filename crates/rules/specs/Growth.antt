@@ -1,6 +1,6 @@
 -- Flood and expansion, rules 1 to 5.
 use Prim.Native.Nat.{ℕ, zero, suc, _+_, _*_, _-_, _/_, _%_}
-use mathlib.Core.Bool.{Bool, not}
+use mathlib.Core.Bool.{Bool, false, not}
 use mathlib.Core.List.{List, [], _∷_, _++_, map}
 use lib.ListN.{length, getD, set, replicate}
 use lib.Dec.{leb, ltb, eqb}
@@ -124,6 +124,29 @@ expand N level m es =
     rounds N (if eqb level 0 then suc (length es) else 8)
     (record { marks = m; stack = map (λ e. if eqb (idOf m e) 0 then e else none) es })
 
+-- "source distances in expansion may pass 65,535 .. Refuse instead: .. when a sum that expansion computes would exceed 65,535":
+-- entry s computes one for each same-area neighbour of a nonzero unflagged id
+unfoldable pub exceeds : Net → Marks → ℕ → ℕ → Bool
+exceeds N m s d =
+    let a = near N s d in
+    eqb (areaOf N a) (areaOf N s) and plain (idOf m a) and ltb 65535 (getD (m .src) a 0 + 2)
+
+-- an unused entry that computes such a sum
+unfoldable pub strays : Net → Marks → ℕ → Bool
+strays N m e = not (eqb e none) and (exceeds N m e 0 or exceeds N m e 1 or exceeds N m e 2 or exceeds N m e 3)
+
+-- in one of at most k rounds, up to the one in which nothing changed
+unfoldable pub roundsStray : Net → ℕ → Spread → Bool
+roundsStray N zero p = false
+roundsStray N (suc k) p =
+    let rest = roundsStray N k (round N p) in
+    any (strays N (p .marks)) (p .stack) or any (finds N (p .marks)) (p .stack) and rest
+
+unfoldable pub expandStrays : Net → ℕ → Marks → List ℕ → Bool
+expandStrays N level m es =
+    roundsStray N (if eqb level 0 then suc (length es) else 8)
+    (record { marks = m; stack = map (λ e. if eqb (idOf m e) 0 then e else none) es })
+
 -- ---------------------------------------------------------------- 4. flood
 
 -- what a flood has from its seed
@@ -204,6 +227,16 @@ floods N dist level (e ∷ es) m id =
     let miss = floods N dist level es m id in
     if not (eqb e none) and eqb (idOf m e) 0 then hit else miss
 
+-- "ids, when a successful flood would make the next id 0x8000"
+unfoldable pub floodsRunOut : Net → List ℕ → ℕ → List ℕ → Marks → ℕ → Bool
+floodsRunOut N dist level [] m id = false
+floodsRunOut N dist level (e ∷ es) m id =
+    let f = flood N dist level id m e in
+    let last = not (eqb (f .count) 0) and eqb (suc id) 0x8000 in
+    let hit = floodsRunOut N dist level es (f .marks) (if eqb (f .count) 0 then id else suc id) in
+    let miss = floodsRunOut N dist level es m id in
+    if not (eqb e none) and eqb (idOf m e) 0 then last or hit else miss
+
 -- ---------------------------------------------------------------- turns
 
 pub record Turn : Type 0 where
@@ -229,6 +262,21 @@ turn N dist top k t =
     let r = floods N dist level (e .stack) (e .marks) (t .next) in
     record { marks = r .marks; stacks = set stacks j (e .stack); next = r .next }
 
+-- "12 for ids, 13 for distances"; "The first met in the order of the rules is given, and not otherwise.": turn k, 0 for neither
+unfoldable pub turnStops : Net → List ℕ → ℕ → ℕ → Turn → ℕ
+turnStops N dist top k t =
+    let level = top - 2 * (k + 1) in
+    let j = k % 8 in
+    let entries = getD (loaded N dist level j t) j [] in
+    let e = expand N level (t .marks) entries in
+    if expandStrays N level (t .marks) entries then 13 else
+    if floodsRunOut N dist level (e .stack) (e .marks) (t .next) then 12 else 0
+
+-- k turns from t on
+unfoldable pub turnsStop : Net → List ℕ → ℕ → ℕ → Turn → ℕ
+turnsStop N dist top zero t = 0
+turnsStop N dist top (suc k) t = orElse (turnsStop N dist top k t) (turnStops N dist top k (upto k (turn N dist top) t))
+
 pub record Grown : Type 0 where
   pub ids : List ℕ
   pub next : ℕ
@@ -241,3 +289,12 @@ grown F dist most b =
     let top = 2 * ((most + 1) / 2) in
     let t = upto (top / 2) (turn N dist top) (record { marks = painted F b; stacks = []; next = firstId b }) in
     record { ids = expand N 0 (t .marks) (blank (N .areas) (t .marks .ids)) .marks .ids; next = t .next }
+
+-- what stops growth: 12, 13, or 0 for neither
+unfoldable pub stops : Field → List ℕ → ℕ → ℕ → ℕ
+stops F dist most b =
+    let N = netOf F in
+    let top = 2 * ((most + 1) / 2) in
+    let start : Turn = record { marks = painted F b; stacks = []; next = firstId b } in
+    let t = upto (top / 2) (turn N dist top) start in
+    orElse (turnsStop N dist top (top / 2) start) (if expandStrays N 0 (t .marks) (blank (N .areas) (t .marks .ids)) then 13 else 0)

@@ -11,9 +11,13 @@ use Rattle.rules.specs.Field.{Field, spans, cellOf, cellTo, leaves, conO
 unfoldable pub tooWide : Field → Bool
 tooWide F = ltb 256 (F .w) or ltb 256 (F .h)
 
--- 2: "n above 32,000"
+-- "Two customers have tiles of up to 65,000 spans. Raise limit 2 to that"
+abbrev pub mostSpans : ℕ
+mostSpans = 65000
+
+-- 2: "n above" that
 unfoldable pub tooMany : Field → Bool
-tooMany F = ltb 32000 (spans F)
+tooMany F = ltb mostSpans (spans F)
 
 -- 3: "a lent list other than the workspace has the wrong length (w·h, n or 4n)";
 -- lens are the lengths of the entry's own lists, which hold one number a span

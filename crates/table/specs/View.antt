@@ -69,7 +69,7 @@ pub record Below (m : ℕ) (l : List ℕ) : Type 0 where
 
 -- records that can be read: ids, lists and floors name records, and a list may hold flagged ids too
 pub record Held (m s t : ℕ) (ws : List ℕ) : Type 0 where
-  pub few : m < 32768
+  pub few : m ≤ 0x8000
   pub lists : Parts m s ws
   pub floors : Parts m t ws
   pub ids : (r : ℕ) → r < m → getD ws r 0 < m

@@ -3,16 +3,16 @@
 use Prim.Native.Nat.{ℕ, _≤_, _<_}
 use native.Mathlib.Omega.{arith}
 use mathlib.Core.Path.{_≡_, refl, sym, _∙_}
-use mathlib.Core.Bool.{false}
+use mathlib.Core.Bool.{false, not}
 use mathlib.Core.List.{List, [], _∷_, map}
 use lib.ListN.{length, length-map}
 use lib.Seq.{ext-getD}
 use lib.Dec.{eqb}
-use borrow.Author.Tests.{eqb-true, eqb-false}
+use borrow.Author.Tests.{eqb-true, eqb-false, not-true, not-false}
 use Rattle.rules.specs.Base.{many}
 use Rattle.rules.specs.Field.{Field, spans}
 use Rattle.rules.specs.Refusals.{regionRefusal}
-use Rattle.rules.specs.Growth.{grown}
+use Rattle.rules.specs.Growth.{grown, stops}
 use Rattle.rules.specs.Records.{Rec, fresh, at, records}
 use Rattle.rules.specs.Numbering.{Form, dense, compared, Regions, formed, condensed}
 use Rattle.rules.specs.Outcomes.{Sizes, RegionOutcome, regionOutcome}
@@ -71,11 +71,11 @@ module _ (form : Form) (F : Field) (dist : List ℕ) (most : ℕ) (z : Sizes) (w
   outcome-uncut : ((i : ℕ) → many (eqb i) grownIds ≤ 10000) → regionOutcome form F dist most z ws ids .cut ≡ 0
   unfolding regionOutcome
   outcome-uncut few =
-      if-ind (λ (o : RegionOutcome). o .cut ≡ 0) (eqb (regionRefusal F (length dist ∷ length ids ∷ []) (length ws) dist most) 0)
-      (λ e.
-      let p = accepted F (length dist ∷ length ids ∷ []) (length ws) dist most (eqb-true _ _ e) in
-      formed-cut form _ ∙ none-cut F (z .least) (z .merge) grownIds next (uncut F (sound-of F (length dist ∷ length ids ∷ []) p) grownIds (grown-length F dist most (z .border)) next few))
-      (λ _. refl)
+      if-ind (λ (o : RegionOutcome). o .cut ≡ 0) (not (eqb (regionRefusal F (length dist ∷ length ids ∷ []) (length ws) dist most) 0)) (λ _. refl)
+      (λ e. if-ind (λ (o : RegionOutcome). o .cut ≡ 0) (not (eqb (stops F dist most (z .border)) 0)) (λ _. refl)
+      (λ _.
+      let p = accepted F (length dist ∷ length ids ∷ []) (length ws) dist most (eqb-true _ _ (not-false _ e)) in
+      formed-cut form _ ∙ none-cut F (z .least) (z .merge) grownIds next (uncut F (sound-of F (length dist ∷ length ids ∷ []) p) grownIds (grown-length F dist most (z .border)) next few)))
 
   -- ids, max_region and the overlap count are those of the rules without the mark
   outcome-unmarked : regionOutcome form F dist most z ws ids .refused ≡ 0
@@ -85,9 +85,12 @@ module _ (form : Form) (F : Field) (dist : List ℕ) (most : ℕ) (z : Sizes) (w
   unfolding regionOutcome
   outcome-unmarked =
       if-ind (λ (o : RegionOutcome). let v = formed form (bareRegions F (z .least) (z .merge) grownIds next) in o .refused ≡ 0 → (v .ids ≡ o .ids) × (v .most ≡ o .most) × (v .over ≡ o .over))
-      (eqb (regionRefusal F (length dist ∷ length ids ∷ []) (length ws) dist most) 0)
-      (λ _ _. formed-unmarked form _ _ (mark-only-carried F (z .least) (z .merge) grownIds next))
-      (λ e h. absurd (eqb-false _ _ e h))
+      (not (eqb (regionRefusal F (length dist ∷ length ids ∷ []) (length ws) dist most) 0))
+      (λ e h. absurd (eqb-false _ _ (not-true _ e) h))
+      (λ _. if-ind (λ (o : RegionOutcome). let v = formed form (bareRegions F (z .least) (z .merge) grownIds next) in o .refused ≡ 0 → (v .ids ≡ o .ids) × (v .most ≡ o .most) × (v .over ≡ o .over))
+      (not (eqb (stops F dist most (z .border)) 0))
+      (λ e h. absurd (eqb-false _ _ (not-true _ e) h))
+      (λ _ _. formed-unmarked form _ _ (mark-only-carried F (z .least) (z .merge) grownIds next)))
 
   -- and so for a call: r, ws′ and ids′ are what it returns and leaves
   module _ (r : RegionAnswer) (ws′ ids′ : List ℕ) (a : AnswersRegions (regionOutcome form F dist most z ws ids) r ws′ ids′) where

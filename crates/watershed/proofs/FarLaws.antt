@@ -9,7 +9,7 @@ use lib.Dec.{ltb, eqb}
 use borrow.Author.Tests.{lt-ltb, le-ltb, eq-eqb, ne-eqb}
 use Rattle.rules.specs.Base.{_or_, if_then_else_, any}
 use Rattle.rules.specs.Field.{Field, spans}
-use Rattle.rules.specs.Refusals.{refusal, tooShort, tooFar, regionRefusal}
+use Rattle.rules.specs.Refusals.{refusal, tooShort, tooFar, regionRefusal, mostSpans}
 use Rattle.checker.specs.Answer.{numberOf, verdictNumber}
 use Rattle.checker.specs.declared.Refusal.{Refusal}
 use Rattle.checker.specs.declared.Verdict.{Verdict}
@@ -29,7 +29,7 @@ module _ (dist : List ℕ) (most : ℕ) where
 
 -- ---------------------------------------------------------------- the order
 
-pub few-spans : (F : Field) (lens : List ℕ) (v : Verdict) → verdictNumber v ≡ refusal F lens → v ≡ verdict.Sound → spans F ≤ 32000
+pub few-spans : (F : Field) (lens : List ℕ) (v : Verdict) → verdictNumber v ≡ refusal F lens → v ≡ verdict.Sound → spans F ≤ mostSpans
 few-spans F lens v e z = reached-of F lens (sym e ∙ ap verdictNumber z) .celled .few
 
 module _ (short far : Bool) where

@@ -9,6 +9,7 @@ use lib.ListN.{length, getD}
 use Rattle.rules.specs.Field.{Field, spans}
 use Rattle.rules.specs.Growth.{plain}
 use Rattle.rules.specs.Records.{Rec, at, records}
+use Rattle.rules.specs.Refusals.{mostSpans}
 use Rattle.laws.specs.Sums.{sumTo}
 use Rattle.laws.proofs.Sums.{sum-same}
 use Rattle.rooms.proofs.Joins.{plain-true}
@@ -51,7 +52,7 @@ module _ (F : Field) (ids : List ℕ) (table next : ℕ) (ws₀ ws : List ℕ) (
       omega (arith, lists-fit F (g .sound) ids size next)
 
   -- the records' stage hands over to the merge
-  pub handed : next + 1 ≤ length ids + 6 → length ids ≤ 32000 → 16 * (next + 1) + 70 * length ids ≤ length ws → Spans (next + 1) ids → Ready (next + 1) (length ids) ws ids
+  pub handed : next + 1 ≤ length ids + 6 → length ids ≤ mostSpans → 16 * (next + 1) + 70 * length ids ≤ length ws → Spans (next + 1) ids → Ready (next + 1) (length ids) ws ids
   unfolding floorsAt
   handed few short room S =
       let below : (x : ℕ) → plain (getD ids x 0) ≡ true → getD ids x 0 < next + 1 = λ x e. S .below x (plain-true _ e .1) in

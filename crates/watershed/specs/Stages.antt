@@ -6,6 +6,12 @@ use mathlib.Core.List.{List}
 use lib.ListN.{length}
 use Rattle.rules.specs.Base.{if_then_else_}
 use Rattle.rules.specs.Field.{Field, spans}
+use Rattle.rules.specs.Net.{netOf}
+use Rattle.rules.specs.Growth.{grown, stops}
+use Rattle.rules.specs.Numbering.{Regions, regions}
+use Rattle.rules.specs.Outcomes.{Sizes}
+use Rattle.space.specs.Space.{Clear}
+use Rattle.net.specs.Table.{netAt}
 use Rattle.field.specs.Lent.{Sound}
 use Rattle.records.specs.Map.{recordsEnd}
 
@@ -22,3 +28,18 @@ ownRefusal short far = if short then 7 else if far then 8 else 0
 -- where the table of neighbours begins, of n spans: past the records, of which there are at most n + 6, from 0 to the next id
 abbrev pub tableAt : ℕ → ℕ
 tableAt n = recordsEnd (n + 6) n
+
+-- after growth, with ids₀ the ids before: where nothing stops it the rule's ids and next id, zeros before the table and the field's net in it; else the ids as before
+pub record Raised (F : Field) (dist : List ℕ) (most border table : ℕ) (ids₀ : List ℕ) (next stop : ℕ) (ids′ ws′ : List ℕ) : Type 0 where
+  pub stops : stop ≡ stops F dist most border
+  pub ids : stop ≡ 0 → ids′ ≡ grown F dist most border .ids
+  pub id : stop ≡ 0 → next ≡ grown F dist most border .next
+  pub clear : stop ≡ 0 → Clear 0 table ws′
+  pub net : stop ≡ 0 → netAt table (F .area) ws′ ≡ netOf F
+  pub back : (stop ≡ 0 → ⊥) → ids′ ≡ ids₀
+
+-- what the stages find of a field that 1 to 8 let pass, with ids₀ the ids before: the rule's regions, or what stops growth and the ids as before
+pub record Finds (F : Field) (dist : List ℕ) (most : ℕ) (z : Sizes) (ids₀ : List ℕ) (stop : ℕ) (v : Regions) : Type 0 where
+  pub stops : stop ≡ stops F dist most (z .border)
+  pub done : stop ≡ 0 → v ≡ regions F (z .least) (z .merge) (grown F dist most (z .border) .ids) (grown F dist most (z .border) .next)
+  pub back : (stop ≡ 0 → ⊥) → v .ids ≡ ids₀

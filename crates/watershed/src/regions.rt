@@ -5,28 +5,36 @@ use checker::Refusal;
 use checker::Verdict;
 use checker::check;
 use growth::grow::grow;
+use growth::turns::GOES_ON;
+use growth::turns::Growth;
+use growth::turns::IDS_RUN_OUT;
 use merge::merge_and_filter_regions;
 use numbering::Regions;
 use records::build::build_records;
 use records::map::records_end;
 use space::clear;
 use space::clear_part;
+use space::copy;
+use space::copy_part;
 use table::any_above;
 ghost use mathlib.Core.Path.{_≡_};
+ghost use mathlib.Core.Logic.{_⊎_};
 ghost use mathlib.Core.List.{[], _∷_};
+ghost use Prim.Native.Nat.{_+_, _≤_};
 ghost use lib.ListN.{length, replicate};
 ghost use lib.Dec.{ltb};
 ghost use Rattle.rules.specs.Base.{any};
 ghost use Rattle.rules.specs.Field.{Bytes};
 ghost use Rattle.rules.specs.Refusals.{tooFar, regionRefusal};
-ghost use Rattle.rules.specs.Growth.{grown};
-ghost use Rattle.rules.specs.Numbering.{dense, compared, regions};
+ghost use Rattle.rules.specs.Numbering.{dense, compared};
+ghost use Rattle.rules.specs.Numbering as rules;
 ghost use Rattle.rules.specs.Outcomes.{Sizes, regionOutcome};
+ghost use Rattle.space.specs.Space.{sec};
 ghost use Rattle.field.specs.Lent.{lent};
-ghost use Rattle.checker.specs.Answer.{verdictNumber};
+ghost use Rattle.checker.specs.Answer.{numberOf, verdictNumber};
 ghost use Rattle.watershed.specs.Answer.{AnswersRegions, GivesRooms};
 ghost use Rattle.watershed.specs.Form.{formOf};
-ghost use Rattle.watershed.specs.Stages.{Admitted, ownRefusal};
+ghost use Rattle.watershed.specs.Stages.{Admitted, Raised, Finds, ownRefusal, tableAt};
 
 // What the region entry gives: the refusal, or max_region, the overlap count, and the number of records cut short.
 pub enum RegionAnswer {
@@ -86,6 +94,77 @@ fn check_regions(
 // "Records run from 0 to the next id, both included", and the next id is at most n + 5: so many more than there are spans.
 const MORE_RECORDS: usize = 6;
 
+// The ids that stand in the workspace from kept on are put back.
+fn put_back(ws: &[u16], kept: usize, ids: &mut [u16])
+    requires { ⌜ kept + length (now ids) ≤ length (now ws) ⌝ }
+    ensures { λ _. ⌜ now (ids .exit) ≡ sec kept (length (now (ids .entry))) (now (ws .entry)) ⌝ }
+{
+    let end = kept + ids.len();
+    copy(&ws[kept..end], ids);
+}
+
+// Growth from the ids of a field that is not refused. They stand past the table of neighbours until it is done, and are put back where it is stopped.
+fn grow_regions(
+    w: usize,
+    h: usize,
+    index: &[u32],
+    count: &[u8],
+    area: &[u8],
+    con: &[u8],
+    dist: &[u16],
+    max_distance: u16,
+    border_size: u16,
+    ws: &mut [u16],
+    ids: &mut [u16],
+    table: usize,
+) -> Growth
+    requires { ⌜ Admitted (lent w h (now index) (now count) (now area) (now con)) (now dist) (now ws) (now ids) × (table ≡ tableAt (length (now area))) ⌝ }
+    ensures { λ r. ⌜ (let F = lent w h (now (index .entry)) (now (count .entry)) (now (area .entry)) (now (con .entry)) in
+        let ids₀ = now (ids .entry) in
+        Raised F (now (dist .entry)) «max_distance» «border_size» table ids₀ (r .next) (r .stop) (now (ids .exit)) (now (ws .exit))) ⌝ }
+{
+    let n = area.len();
+    let kept = table + 4 * n;
+    copy_part(ids, ws, kept);
+    clear(ids);
+    clear_part(ws, 0, table);
+    let g = grow(
+        w,
+        h,
+        index,
+        count,
+        area,
+        con,
+        dist,
+        ids,
+        ws,
+        table,
+        max_distance,
+        border_size,
+    );
+    if g.stop != GOES_ON {
+        put_back(ws, kept, ids);
+    }
+    g
+}
+
+// The refusal that stops growth.
+fn stop_refusal(stop: u16) -> Refusal
+    requires { ⌜ (stop ≡ 12) ⊎ (stop ≡ 13) ⌝ }
+    ensures { λ r. ⌜ numberOf r ≡ stop ⌝ }
+{
+    if stop == IDS_RUN_OUT {
+        return Refusal::NoIds;
+    }
+    Refusal::NoSum
+}
+
+// What growth and the stages after it find: the refusal that stops growth, and the regions.
+pub struct Found {
+    pub stop: u16,
+    pub regions: Regions,
+}
+
 // The regions of a field that is not refused. The table of neighbours stands past the most that the records take.
 fn find_regions(
     w: usize,
@@ -101,20 +180,19 @@ fn find_regions(
     merge_region_area: u16,
     ws: &mut [u16],
     ids: &mut [u16],
-) -> Regions
+) -> Found
     requires { ⌜ Admitted (lent w h (now index) (now count) (now area) (now con)) (now dist) (now ws) (now ids) ⌝ }
     ensures { λ r. ⌜ (let F = lent w h (now (index .entry)) (now (count .entry)) (now (area .entry)) (now (con .entry)) in
-        let g = grown F (now (dist .entry)) «max_distance» «border_size» in
-        record { ids = now (ids .exit); most = r .«max_region»; over = r .overlaps; cut = r .cut }
-        ≡ regions F «min_region_area» «merge_region_area» (g .ids) (g .next)) ⌝ }
+        let z : Sizes = record { border = «border_size»; least = «min_region_area»; merge = «merge_region_area» } in
+        let v = r .regions in
+        let found : rules.Regions = record { ids = now (ids .exit); most = v .«max_region»; over = v .overlaps; cut = v .cut } in
+        Finds F (now (dist .entry)) «max_distance» z (now (ids .entry)) (r .stop) found) ⌝ }
     ensures { λ _. ⌜ now (ws .exit) ≡ replicate (length (now (ws .entry))) 0 ⌝ }
     ensures bytes { λ _. ⌜ Bytes (lent w h (now (index .entry)) (now (count .entry)) (now (area .entry)) (now (con .entry))) ⌝ }
 {
     let n = area.len();
     let table = records_end(n + MORE_RECORDS, n);
-    clear(ids);
-    clear_part(ws, 0, table);
-    let next = grow(
+    let g = grow_regions(
         w,
         h,
         index,
@@ -122,17 +200,32 @@ fn find_regions(
         area,
         con,
         dist,
-        ids,
-        ws,
-        table,
         max_distance,
         border_size,
-    ) as usize;
+        ws,
+        ids,
+        table,
+    );
+    let all = ws.len();
+    if g.stop != GOES_ON {
+        clear(ws);
+        return Found {
+            stop: g.stop,
+            regions: Regions {
+                max_region: 0,
+                overlaps: 0,
+                cut: 0,
+            },
+        };
+    }
+    let next = g.next as usize;
     build_records(w, h, index, count, area, con, ids, ws, table, next);
     let r = merge_and_filter_regions(ws, ids, next + 1, n, min_region_area, merge_region_area);
-    let all = ws.len();
     clear_part(ws, 0, all);
-    r
+    Found {
+        stop: GOES_ON,
+        regions: r,
+    }
 }
 
 // Ids of the regions of any lists, in either form: a field that is refused leaves ids and workspace as they were.
@@ -175,7 +268,7 @@ fn build_form(
     ) {
         Verdict::Refused(r) => RegionAnswer::Refused(r),
         Verdict::Sound => {
-            let r = find_regions(
+            let f = find_regions(
                 width,
                 height,
                 index,
@@ -190,7 +283,10 @@ fn build_form(
                 workspace,
                 ids,
             );
-            let x = give_form(form, border_size, ids, r);
+            if f.stop != GOES_ON {
+                return RegionAnswer::Refused(stop_refusal(f.stop));
+            }
+            let x = give_form(form, border_size, ids, f.regions);
             RegionAnswer::Done(x.max_region, x.overlaps, x.cut)
         }
     }

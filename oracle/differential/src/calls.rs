@@ -134,6 +134,12 @@ impl Call {
                 };
                 Ok(format!("regions{overlaps}{cut}"))
             }
+            // "the id list is as before the call and the workspace is zeroed"
+            Err(refusal @ (Refusal::IdsRunOut | Refusal::SumTooGreat)) => {
+                ids.is_kept("ids")?;
+                workspace.holds_zeros("workspace")?;
+                Ok(refusal.to_string())
+            }
             Err(refusal) => {
                 ids.is_kept("ids")?;
                 workspace.is_kept("workspace")?;

@@ -14,7 +14,7 @@ pub fn put(call: &mut Call, fault: usize, rng: &mut Rng) {
         0 => field.w = rng.pick(&[0, 257, 300, 65_535]),
         1 => field.h = rng.pick(&[0, 257, 300, 65_535]),
         2 => {
-            let more = rng.pick(&[32_001, 33_000, 65_536 + n]);
+            let more = rng.pick(&[65_001, 65_535, 65_536 + n]);
             field.area.resize(more, 1);
         }
         3 => field.index.resize(near(field.index.len(), rng), 0),

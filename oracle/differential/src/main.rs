@@ -9,6 +9,7 @@ mod large;
 mod lent;
 mod library;
 mod small;
+mod stops;
 mod tally;
 mod winding;
 
@@ -23,6 +24,7 @@ struct Order {
     small: u64,
     large: u64,
     edited: u64,
+    edges: u64,
     doors: u64,
     seed: u64,
 }
@@ -58,6 +60,10 @@ fn run() -> Result<bool, String> {
     if winding.fields > 0 {
         print!("winding corridors, and their answers:\n{winding}");
     }
+    let stops = stops::compare(order.edges);
+    if stops.fields > 0 {
+        print!("fields at the edges of ids and source distances, and their answers:\n{stops}");
+    }
     let edited = edited::compare(seed, order.edited);
     if edited.fields > 0 {
         print!("mendings of edited fields by edit, and their answers:\n{edited}");
@@ -71,7 +77,7 @@ fn run() -> Result<bool, String> {
     if doors.fields > 0 {
         print!("refreshes by kind, and their answers:\n{doors}");
     }
-    if [&small, &large, &winding, &edited, &files, &doors]
+    if [&small, &large, &winding, &stops, &edited, &files, &doors]
         .iter()
         .any(|tally| tally.is_enough())
     {
@@ -80,13 +86,14 @@ fn run() -> Result<bool, String> {
     let differences = small.differences
         + large.differences
         + winding.differences
+        + stops.differences
         + edited.differences
         + files.differences
         + doors.differences;
     println!(
         "compared {} small, {} large, {} edited fields, {} files mended, {} fields with doors: {differences} differences",
         small.fields,
-        large.fields + winding.fields,
+        large.fields + winding.fields + stops.fields,
         edited.fields,
         files.fields,
         doors.fields
@@ -103,6 +110,7 @@ fn order() -> Result<Order, String> {
         small: 20_000,
         large: 38,
         edited: 7_000,
+        edges: 2,
         doors: 3_000,
         seed: 0,
     };
@@ -117,6 +125,7 @@ fn order() -> Result<Order, String> {
             "--small" => order.small = number,
             "--large" => order.large = number,
             "--edited" => order.edited = number,
+            "--edges" => order.edges = number,
             "--doors" => order.doors = number,
             "--seed" => order.seed = number,
             _ => {

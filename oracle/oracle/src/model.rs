@@ -13,6 +13,7 @@ mod refusals;
 mod spans;
 
 use crate::field::{Field, Settings};
+pub use growth::Stop;
 pub use mistake::Mistake;
 use spans::Spans;
 
@@ -78,18 +79,18 @@ impl Model {
         distance::distances(self, &Spans::new(self, field))
     }
 
-    /// The region entry, in the compared form, on a field, distances and a greatest distance that are not refused.
+    /// The region entry, in the compared form, on a field, distances and a greatest distance that 1 to 8 let pass; or what stops growth.
     pub fn regions(
         self,
         field: &Field,
         distances: &[u16],
         max_distance: u16,
         settings: Settings,
-    ) -> Regions {
+    ) -> Result<Regions, Stop> {
         let spans = Spans::new(self, field);
-        let grown = growth::grow(self, &spans, distances, max_distance, settings.border_size);
+        let grown = growth::grow(self, &spans, distances, max_distance, settings.border_size)?;
         let built = records::build(self, &spans, &grown);
-        merge::finish(self, &spans, grown, built, settings)
+        Ok(merge::finish(self, &spans, grown, built, settings))
     }
 
     /// What the program prints for a file.
@@ -113,7 +114,9 @@ impl Model {
             ..
         } = self.distances(&field);
         refusals::distances(&blurred, max_distance)?;
-        let regions = self.regions(&field, &blurred, max_distance, settings);
+        let regions = self
+            .regions(&field, &blurred, max_distance, settings)
+            .map_err(|stop| stop as u8)?;
         let regions = form(regions);
         Ok(file::listing(self, &field, max_distance, &regions))
     }

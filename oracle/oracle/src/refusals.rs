@@ -8,7 +8,7 @@ use std::fmt;
 pub enum Refusal {
     /// The width or the height is above 256.
     GridTooLarge = 1,
-    /// There are more than 32,000 spans.
+    /// There are more than 65,000 spans.
     TooManySpans = 2,
     /// A lent list other than the workspace has the wrong length.
     WrongLength = 3,
@@ -24,6 +24,10 @@ pub enum Refusal {
     DistanceTooGreat = 8,
     /// A rectangle that is empty or not in the field.
     WrongRect = 11,
+    /// A successful flood would make the next id 0x8000 (request A6).
+    IdsRunOut = 12,
+    /// A sum that expansion computes would exceed 65,535 (request A6).
+    SumTooGreat = 13,
     /// A file with an unknown or misplaced record, cut short, or with bytes after the end.
     BadFile = 20,
     /// A file with too many cells or spans for the program.
@@ -41,7 +45,7 @@ impl fmt::Display for Refusal {
 }
 
 const SIDE_LIMIT: u16 = 256;
-const SPAN_LIMIT: usize = 32_000;
+const SPAN_LIMIT: usize = 65_000;
 const COUNT_LIMIT: u8 = 63;
 const DISTANCE_LIMIT: u16 = 510;
 

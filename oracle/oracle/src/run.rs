@@ -2,7 +2,7 @@
 
 use crate::{
     field::{Field, Settings},
-    model::Model,
+    model::{self, Model, Stop},
     refusals::{self, Refusal},
 };
 use rerecast::{AreaType, CompactCell, CompactHeightfield, CompactSpan, RegionId};
@@ -54,6 +54,30 @@ pub fn regions(
 ) -> Result<Regions, Refusal> {
     let workspace_len = refusals::workspace_needed(field.spans());
     refusals::region_entry(field, distances, max_distance, field.spans(), workspace_len)?;
+    // The unchanged Rust overflows where 12 and 13 are given, so the model is asked first.
+    let modelled = Model::RIGHT
+        .regions(field, distances, max_distance, settings)
+        .map_err(|stop| match stop {
+            Stop::Ids => Refusal::IdsRunOut,
+            Stop::Sum => Refusal::SumTooGreat,
+        })?;
+    let (ids, max_region, overlaps) = unguarded(field, distances, max_distance, settings);
+    Ok(Regions {
+        max_region,
+        overlaps,
+        cut: cut(&modelled, &ids),
+        ids,
+    })
+}
+
+/// The ids, the last number given and the overlap count of the unchanged Rust, which is asked whatever the model says:
+/// with overflow checks it panics where refusal 13 is given.
+pub fn unguarded(
+    field: &Field,
+    distances: &[u16],
+    max_distance: u16,
+    settings: Settings,
+) -> (Vec<u16>, u16, usize) {
     let mut heightfield = heightfield(field);
     heightfield.dist = distances.to_vec();
     heightfield.max_distance = max_distance;
@@ -64,30 +88,22 @@ pub fn regions(
             settings.least_area,
             settings.merge_area,
         )
-        .expect("ids don't run out below 32,001 spans");
-    let ids: Vec<_> = heightfield
+        .expect("65,000 spans give no 65,535 ids");
+    let ids = heightfield
         .spans
         .iter()
         .map(|span| span.region.bits())
         .collect();
-    Ok(Regions {
-        max_region: heightfield.max_region.bits(),
-        overlaps: tracing::take_len().unwrap_or(0),
-        cut: cut(field, distances, max_distance, settings, &ids),
+    (
         ids,
-    })
+        heightfield.max_region.bits(),
+        tracing::take_len().unwrap_or(0),
+    )
 }
 
-/// The number that the unchanged Rust does not tell: how many contours were cut short. The model walks them again; it
+/// The number that the unchanged Rust does not tell: how many contours were cut short. The model walked them again; it
 /// counts only where its ids are the Rust's.
-fn cut(
-    field: &Field,
-    distances: &[u16],
-    max_distance: u16,
-    settings: Settings,
-    ids: &[u16],
-) -> usize {
-    let modelled = Model::RIGHT.regions(field, distances, max_distance, settings);
+fn cut(modelled: &model::Regions, ids: &[u16]) -> usize {
     assert_eq!(modelled.ids, ids, "the model and the unchanged Rust differ");
     modelled.cut
 }

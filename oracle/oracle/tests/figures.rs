@@ -2,6 +2,7 @@
 
 use oracle::{
     field::{Field, Settings},
+    levels::edges,
     refusals::{self, Refusal, workspace_needed},
     run::{self, Distances, Regions},
 };
@@ -223,16 +224,16 @@ fn spans_at_the_limit() {
 
 #[test]
 fn spans_past_the_limit() {
-    let mut field = Field::open(256, 125);
+    let mut field = edges::apart(65_000);
     assert_eq!(run::distances(&field).err(), None);
-    // One more layer in the last cell.
-    *field.count.last_mut().unwrap() = 2;
+    // One more span, in the cell after the last that has one.
+    field.count[65_000] = 1;
     field.area.push(1);
     field.con.extend([255; 4]);
-    assert_eq!(field.spans(), 32_001);
+    assert_eq!(field.spans(), 65_001);
     assert_eq!(run::distances(&field), Err(Refusal::TooManySpans));
     assert_eq!(
-        run::regions(&field, &[0; 32_001], 0, Settings::default()),
+        run::regions(&field, &[0; 65_001], 0, Settings::default()),
         Err(Refusal::TooManySpans)
     );
 }

@@ -70,7 +70,7 @@ fn the_refusals_before_come_first() {
     high.count[0] = 64;
     assert_eq!(mending::mend(&high, 0), Err(Refusal::WrongCells));
     let mut many = edited();
-    many.area = vec![1; 32_001];
+    many.area = vec![1; 65_001];
     assert_eq!(mending::mend(&many, 0), Err(Refusal::TooManySpans));
 }
 

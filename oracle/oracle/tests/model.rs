@@ -25,7 +25,9 @@ fn check(name: &str, case: &Case, given: Option<(&[u16], u16)>) {
     );
     let (blurred, max_distance) = given.unwrap_or((&distances.blurred, distances.max_distance));
     let regions = run::regions(field, blurred, max_distance, *settings).expect(name);
-    let modelled = Model::RIGHT.regions(field, blurred, max_distance, *settings);
+    let modelled = Model::RIGHT
+        .regions(field, blurred, max_distance, *settings)
+        .expect(name);
     assert_eq!(modelled.ids, regions.ids, "{name}: ids");
     assert_eq!(
         modelled.max_region, regions.max_region,

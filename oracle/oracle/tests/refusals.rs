@@ -254,7 +254,7 @@ fn first_refusal_is_given() {
         (|lent| lent.field.index[5] = 0, Refusal::WrongCells),
         (|lent| lent.field.con.push(255), Refusal::WrongLength),
         (
-            |lent| lent.field.area = vec![1; 32_001],
+            |lent| lent.field.area = vec![1; 65_001],
             Refusal::TooManySpans,
         ),
         (|lent| lent.field.w = 257, Refusal::GridTooLarge),

@@ -174,8 +174,8 @@ fn calls() -> Vec<Call> {
         call("w 257", empty_cells(257, 1)),
         call("h 256", empty_cells(1, 256)),
         call("h 257", empty_cells(1, 257)),
-        call("n 32,000", alone(32_000)),
-        call("n 32,001", alone(32_001)),
+        call("n 65,000", alone(65_000)),
+        call("n 65,001", alone(65_001)),
         call("index short", three(|field| field.index.truncate(8))),
         call("count short", three(|field| field.count.truncate(8))),
         call("con short", three(|field| field.con.truncate(35))),
@@ -247,9 +247,9 @@ fn empty_cells(w: u16, h: u16) -> Field {
 fn alone(spans: usize) -> Field {
     Field {
         w: 250,
-        h: 128,
-        index: (0..32_000).collect(),
-        count: vec![1; 32_000],
+        h: 130,
+        index: (0..32_500).map(|cell| 2 * cell).collect(),
+        count: vec![2; 32_500],
         area: vec![1; spans],
         con: vec![255; 4 * spans],
     }

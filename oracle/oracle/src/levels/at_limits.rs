@@ -1,29 +1,29 @@
-//! Fields at the limits of the two entries: 32,000 spans, 256 by 256 cells, 63 layers.
+//! Fields at the limits of the two entries: 65,000 spans, 256 by 256 cells, 63 layers.
 
 use super::{draft::Draft, long_corridor};
 use crate::{field::Field, rng::Rng};
 
-const MOST_SPANS: usize = 32_000;
+const MOST_SPANS: usize = 65_000;
 const MOST_LAYERS: usize = 63;
 
-/// Open fields of exactly 32,000 spans.
+/// Open fields of nearly 65,000 spans: no grid within 256 by 256 has just so many cells.
 pub fn largest_open(rng: &mut Rng) -> Field {
     let (w, h) = rng.pick(&[
+        (256, 253),
+        (253, 256),
+        (255, 254),
+        (254, 255),
         (256, 125),
-        (125, 256),
-        (250, 128),
-        (128, 250),
         (160, 200),
-        (200, 160),
     ]);
     Field::open(w, h)
 }
 
-/// 256 by 256 cells and exactly 32,000 spans: a floor with holes from the first row on, or spans strewn over all of it.
+/// 256 by 256 cells and exactly 65,000 spans: a floor with holes from the first row on, or spans strewn over all of it.
 pub fn whole_grid(rng: &mut Rng) -> Field {
     let mut draft = Draft::new((256, 256), MOST_SPANS);
     let strewn = rng.chance(30);
-    let (put, layers) = if strewn { (49, 1) } else { (96, 2) };
+    let (put, layers) = if strewn { (96, 1) } else { (96, 2) };
     let climb = rng.pick(&[0, 1, 3]);
     for place in draft.places() {
         for layer in 0..layers {
@@ -44,7 +44,7 @@ pub fn whole_grid(rng: &mut Rng) -> Field {
 
 /// 63 spans in every cell, as many cells as that allows; joined by layers, or at random.
 pub fn highest(rng: &mut Rng) -> Field {
-    let (w, h) = rng.pick(&[(13, 39), (39, 13), (22, 23), (2, 253), (253, 2)]);
+    let (w, h) = rng.pick(&[(13, 79), (79, 13), (32, 32), (4, 256), (256, 4)]);
     let mut draft = Draft::new((w, h), MOST_SPANS);
     let odd = rng.pick(&[0, 1, 5]);
     for place in draft.places() {

@@ -2,6 +2,7 @@
 
 pub mod at_limits;
 mod draft;
+pub mod edges;
 mod long_corridor;
 mod shapes;
 
@@ -27,7 +28,7 @@ impl Size {
             Self::Small => Limits::PROGRAM,
             Self::Large => Limits {
                 cells: 256 * 256,
-                spans: 32_000,
+                spans: 65_000,
             },
         }
     }

@@ -10,6 +10,15 @@ pub struct Grown {
     pub next: u16,
 }
 
+/// What stops growth (request A6): the first met in the order of the rules.
+#[derive(Debug, Clone, Copy, PartialEq, Eq)]
+pub enum Stop {
+    /// A successful flood would make the next id 0x8000.
+    Ids = 12,
+    /// A sum that expansion computes would exceed 65,535.
+    Sum = 13,
+}
+
 /// A span on a level stack.
 #[derive(Clone, Copy)]
 struct Entry {
@@ -38,7 +47,7 @@ pub fn grow(
     distances: &[u16],
     max_distance: u16,
     border_size: u16,
-) -> Grown {
+) -> Result<Grown, Stop> {
     let mut growth = Growth {
         model,
         spans,
@@ -55,14 +64,14 @@ pub fn grow(
             _ => 5,
         };
     }
-    growth.turns(max_distance);
+    growth.turns(max_distance)?;
     if !model.has(Mistake::NoLastExpansion) {
-        growth.last_expansion();
+        growth.last_expansion()?;
     }
-    Grown {
+    Ok(Grown {
         ids: growth.ids,
         next: growth.next,
-    }
+    })
 }
 
 impl Growth<'_> {
@@ -115,7 +124,7 @@ impl Growth<'_> {
     }
 
     /// The turns, from the greatest distance down to level 0.
-    fn turns(&mut self, max_distance: u16) {
+    fn turns(&mut self, max_distance: u16) -> Result<(), Stop> {
         let mut level = match self.model.mistake {
             Some(Mistake::LevelNotRounded) => max_distance,
             Some(Mistake::LevelRoundedDown) => max_distance / 2 * 2,
@@ -140,12 +149,12 @@ impl Growth<'_> {
                 self.append(&mut stacks, turn);
             }
             if self.has(Mistake::ExpandAfterFloods) {
-                self.floods(&stacks[turn], level);
-                self.expand(&mut stacks[turn], level);
+                self.floods(&stacks[turn], level)?;
+                self.expand(&mut stacks[turn], level)?;
             } else {
-                self.expand(&mut stacks[turn], level);
+                self.expand(&mut stacks[turn], level)?;
                 if is_first || !self.has(Mistake::FirstLevelOnly) {
-                    self.floods(&stacks[turn], level);
+                    self.floods(&stacks[turn], level)?;
                 }
             }
             if self.has(Mistake::LevelLoweredAfter) {
@@ -154,6 +163,7 @@ impl Growth<'_> {
             turn = (turn + 1) % turns;
             is_first = false;
         }
+        Ok(())
     }
 
     /// All stacks are emptied and every walkable span of id 0 goes, in scan order, to the stack numbered (level/2 −
@@ -212,7 +222,7 @@ impl Growth<'_> {
 
     /// First, entries that have an id are marked used. Then rounds, until one in which nothing changed, or the eighth
     /// at a level above 0.
-    fn expand(&mut self, stack: &mut [Entry], level: u16) {
+    fn expand(&mut self, stack: &mut [Entry], level: u16) -> Result<(), Stop> {
         for entry in stack.iter_mut() {
             if self.ids[entry.span] != 0 && !self.has(Mistake::ExpandNotMarked) {
                 entry.used = true;
@@ -227,16 +237,16 @@ impl Growth<'_> {
             || self.has(Mistake::ExpandLimitedAtZero);
         let mut round = 0;
         loop {
-            let changed = self.round(stack);
+            let changed = self.round(stack)?;
             round += 1;
             if !changed || (limited && round == rounds) {
-                break;
+                return Ok(());
             }
         }
     }
 
     /// Every unused entry takes the id of a neighbour, and is used then. All are written together at the round's end.
-    fn round(&mut self, stack: &mut [Entry]) -> bool {
+    fn round(&mut self, stack: &mut [Entry]) -> Result<bool, Stop> {
         let mut changes = Vec::new();
         let mut changed = false;
         for entry in stack.iter_mut() {
@@ -244,7 +254,7 @@ impl Growth<'_> {
             if entry.used && !again {
                 continue;
             }
-            let Some((id, sum)) = self.nearest(entry.span) else {
+            let Some((id, sum)) = self.nearest(entry.span)? else {
                 continue;
             };
             if again && sum >= self.source_distances[entry.span] {
@@ -261,7 +271,7 @@ impl Growth<'_> {
         for (span, id, sum) in changes {
             self.take(span, id, sum);
         }
-        changed
+        Ok(changed)
     }
 
     fn take(&mut self, span: usize, id: u16, sum: u16) {
@@ -272,8 +282,8 @@ impl Growth<'_> {
     }
 
     /// Among same-area neighbours of nonzero unflagged ids, in direction order, the id of the first with the least
-    /// source distance plus 2, and that sum.
-    fn nearest(&self, span: usize) -> Option<(u16, u16)> {
+    /// source distance plus 2, and that sum. A sum above 65,535 stops growth, whether or not it would be taken.
+    fn nearest(&self, span: usize) -> Result<Option<(u16, u16)>, Stop> {
         let mut nearest: Option<(u16, u16)> = None;
         for d in 0..4 {
             let neighbour = if self.has(Mistake::ExpandAcrossAreas) {
@@ -290,11 +300,13 @@ impl Growth<'_> {
             } else {
                 2
             };
-            let sum = self.source_distances[neighbour] + added;
             let takes_flagged = self.has(Mistake::ExpandFlagged);
             if !(is_grown(id) || (takes_flagged && is_flagged(id))) {
                 continue;
             }
+            let sum = self.source_distances[neighbour]
+                .checked_add(added)
+                .ok_or(Stop::Sum)?;
             let is_better = nearest.is_none_or(|(_, least)| {
                 if self.has(Mistake::ExpandTieToLast) {
                     sum <= least
@@ -306,11 +318,12 @@ impl Growth<'_> {
                 nearest = Some((id, sum));
             }
         }
-        nearest
+        Ok(nearest)
     }
 
     /// Flood from each unused entry of id 0, in stack order, with the next id; only success advances it.
-    fn floods(&mut self, stack: &[Entry], level: u16) {
+    /// One that would make it 0x8000 stops growth.
+    fn floods(&mut self, stack: &[Entry], level: u16) -> Result<(), Stop> {
         let mut order = stack.to_vec();
         if self.has(Mistake::FloodsBackward) {
             order.reverse();
@@ -324,8 +337,12 @@ impl Growth<'_> {
             }
             if self.flood(entry.span, level) || self.has(Mistake::FailedFloodTakesNumber) {
                 self.next += 1;
+                if self.next == FLAG {
+                    return Err(Stop::Ids);
+                }
             }
         }
+        Ok(())
     }
 
     /// Last in, first out. With an objection a span returns to id 0. Otherwise it counts, and its neighbours join.
@@ -461,10 +478,10 @@ impl Growth<'_> {
     }
 
     /// Last, all walkable spans of id 0 are expanded at level 0.
-    fn last_expansion(&mut self) {
+    fn last_expansion(&mut self) -> Result<(), Stop> {
         let is_left = |&span: &usize| self.spans.is_walkable(span) && self.ids[span] == 0;
         let left = (0..self.spans.number()).filter(is_left);
         let mut stack: Vec<_> = left.map(Entry::new).collect();
-        self.expand(&mut stack, 0);
+        self.expand(&mut stack, 0)
     }
 }

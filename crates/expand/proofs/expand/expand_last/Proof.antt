@@ -1,7 +1,7 @@
 -- The stack holds the rule's list, is expanded at level 0, and is cleared; so past the source distances all is as it was (Blanks).
 -- Assumes nothing.
 use borrow.Author.Needs.{needs}
-use Rattle.expand.proofs.Blanks.{filled-mutual, filled-given, last-view, last-count, last-kept, last-low}
+use Rattle.expand.proofs.Blanks.{filled-mutual, filled-given, last-view, last-strays, last-kept}
 use Rattle.expand.proofs.expand.expand_last.Statement.{statement}
 use Rattle.expand.proofs.expand.expand_last.Tie as tie
 
@@ -33,13 +33,10 @@ returns c =
     let v = f .fill-stack .ensures in
     let z = l .clear-part .kept .0 in
     let k = l .clear-part .ensures in (
-      last-view _ _ _ _ _ _ _ v (s .pre .1) _ _ (q .1 .0) _ z (k .0) (k .1) (q .0),
+      last-view _ _ _ _ _ _ _ v (s .pre .1) _ _ (q .1 .1 .0) _ z (k .0) (k .1) (q .0),
       (
-        last-count _ (s .args .at .changes) (s .args .at .table) _ _ _ _ v,
-        (
-          last-kept _ _ _ _ _ _ _ v (s .pre .1) (r .expand-regions .last .1 .0) _ (q .1 .0) _ z (k .0) (k .1),
-          last-low _ _ _ _ _ _ _ v (s .pre .1) _ _ (q .1 .0) _ z (k .0) (k .1) (q .1 .1),
-        ),
+        last-strays _ _ _ _ _ _ _ v (s .pre .1) _ (q .1 .0),
+        last-kept _ _ _ _ _ _ _ v (s .pre .1) (r .expand-regions .last .1 .0) _ (q .1 .1 .0) _ z (k .0) (k .1),
       ),
     )
 

@@ -2,7 +2,7 @@
 -- Assumes nothing.
 use borrow.Author.Needs.{needs}
 use denote.Ref.{now}
-use Rattle.expand.proofs.Ends.{given-part, given-entries, used-above, used-apart, used-entries, lit-mutual, lit-all, most-some, gone-idents, gone-below, gone-above, gone-entries, expanded, expanded-kept, expanded-given}
+use Rattle.expand.proofs.Ends.{given-part, given-entries, used-above, used-apart, used-entries, lit-mutual, lit-all, most-some, gone-idents, gone-below, gone-above, gone-entries, expanded, expanded-strays, expanded-kept, expanded-given}
 use Rattle.expand.proofs.expand.expand_regions.Statement.{statement}
 use Rattle.expand.proofs.expand.expand_regions.Tie as tie
 
@@ -56,10 +56,10 @@ settle-requires c κs =
     let v = f .flag-all .ensures in
     let e = p .most-rounds .ensures in
     let g = r .rounds .ensures in (
-      (gone-idents _ _ _ _ _ (s .args .level) _ _ _ _ q y (s .pre .1) _ v _ e _ _ _ g, q, s .pre .1 .sizes .apart, g .few),
+      (gone-idents _ _ _ _ _ (s .args .level) _ _ _ _ q y (s .pre .1) _ v _ e _ _ _ _ g, q, s .pre .1 .sizes .apart, g .few),
       (
-        (gone-below _ _ _ _ _ (s .args .level) _ _ _ _ q y (s .pre .1) _ v _ e _ _ _ g, gone-above _ _ _ _ _ (s .args .level) _ _ _ _ q y (s .pre .1) _ v _ e _ _ _ g),
-        gone-entries _ _ _ _ _ (s .args .level) _ _ _ _ q y (s .pre .1) _ v _ e _ _ _ g,
+        (gone-below _ _ _ _ _ (s .args .level) _ _ _ _ q y (s .pre .1) _ v _ e _ _ _ _ g, gone-above _ _ _ _ _ (s .args .level) _ _ _ _ q y (s .pre .1) _ v _ e _ _ _ _ g),
+        gone-entries _ _ _ _ _ (s .args .level) _ _ _ _ q y (s .pre .1) _ v _ e _ _ _ _ g,
       ),
     )
 
@@ -82,10 +82,13 @@ returns c =
     let v = f .flag-all .ensures in
     let e = p .most-rounds .ensures in
     let g = r .rounds .ensures in (
-      expanded _ _ _ _ _ (s .args .level) _ _ _ _ q y (s .pre .1) _ v _ e _ _ _ g _ (t .settle .ensures),
+      expanded _ _ _ _ _ (s .args .level) _ _ _ _ q y (s .pre .1) _ v _ e _ _ _ _ g _ (t .settle .ensures),
       (
-        expanded-kept _ _ _ _ _ (s .args .level) _ _ _ _ q y (s .pre .1) _ v _ e _ _ _ g _ (t .settle .ensures),
-        expanded-given _ _ _ _ _ (s .args .level) _ _ _ _ q y (s .pre .1) _ v _ e _ _ _ g _ (t .settle .ensures),
+        expanded-strays _ _ _ _ _ (s .args .level) _ _ _ _ q y (s .pre .1) _ v _ e _ _ _ _ g,
+        (
+          expanded-kept _ _ _ _ _ (s .args .level) _ _ _ _ q y (s .pre .1) _ v _ e _ _ _ _ g _ (t .settle .ensures),
+          expanded-given _ _ _ _ _ (s .args .level) _ _ _ _ q y (s .pre .1) _ v _ e _ _ _ _ g _ (t .settle .ensures),
+        ),
       ),
     )
 

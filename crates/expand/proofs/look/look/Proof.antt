@@ -1,11 +1,13 @@
 -- Each way out is the rule's look under what has been tested by then (Looks); a neighbour that is there is a span, so its area, id and source
--- distance can be read, and the sum fits because source distances are bounded. Assumes nothing.
+-- distance can be read, and the sum fits where it is made. Assumes nothing.
 use native.Mathlib.Omega.{arith}
 use borrow.Author.Needs.{needs}
 use denote.Ref.{now}
 use lib.ListN.{length}
 use Prim.Native.Nat.{_<_}
-use Rattle.expand.proofs.Looks.{sight-small, sight-slot, sight-inside, look-none, look-area, look-zero, look-flag, look-far, look-take}
+use mathlib.Core.Path.{refl}
+use mathlib.Core.Bool.{false}
+use Rattle.expand.proofs.Looks.{sight-small, sight-slot, sight-inside, look-none, look-area, look-zero, look-flag, look-stray, look-far, look-take}
 use Rattle.expand.proofs.look.look.Statement.{statement}
 use Rattle.expand.proofs.look.look.Tie as tie
 
@@ -22,18 +24,18 @@ E2 c = c .before .before .before
 abbrev E3 : tie.Else4 → tie.Else3
 E3 c = c .before .before
 
-abbrev E4 : tie.After-struct-known2 → tie.Else4
-E4 c = c .before .before
-
 -- the neighbour is a span
 inside : (c : tie.Else1) → c .before .neighbour .result .0 < length (now (S (c .before) .args .area))
-inside c = let e = c .before in let s = S e in sight-inside _ _ _ _ _ _ _ _ (record { id = 0; far = 0 }) (s .pre .0) (s .pre .1) (s .pre .2) (e .neighbour .ensures) (c .if1 .left)
+inside c = let e = c .before in let s = S e in sight-inside _ _ _ _ _ _ _ _ (record { id = 0; far = 0 }) false (s .pre .0 .0) (s .pre .0 .1) (s .pre .0 .2) (e .neighbour .ensures) (c .if1 .left)
 
 neighbour-requires : tie.Need-neighbour-requires
 neighbour-requires c κs = (search needs, search (needs, sight-small), search needs, search (needs, sight-slot))
 
 returns : tie.Need-returns
-returns c = search (needs, look-none)
+returns c =
+    let e = c .before in
+    let s = S e in
+    look-none _ _ _ _ _ _ _ _ _ _ (s .pre .0 .0) (s .pre .0 .1) (s .pre .0 .2) (e .neighbour .ensures) (c .if1 .taken) (s .pre .0 .3)
 
 at8-requires : tie.Need-at8-requires
 at8-requires c κs = inside c
@@ -43,10 +45,10 @@ returns-2 c =
     let f = c .before .before in
     let e = f .before in
     let s = S e in
-    look-area _ _ _ _ _ _ _ _ _ (s .pre .0) (s .pre .1) (s .pre .2) (e .neighbour .ensures) (inside f) _ (c .before .at8 .ensures .0) (c .if2 .taken)
+    look-area _ _ _ _ _ _ _ _ _ _ (s .pre .0 .0) (s .pre .0 .1) (s .pre .0 .2) (e .neighbour .ensures) (inside f) _ (c .before .at8 .ensures .0) (c .if2 .taken)
 
 id-at-requires : tie.Need-id-at-requires
-id-at-requires c κs = omega (arith, inside (E1 c), S (E1 c .before) .pre .0 .idents)
+id-at-requires c κs = omega (arith, inside (E1 c), S (E1 c .before) .pre .0 .0 .idents)
 
 returns-3 : tie.Need-returns-3
 returns-3 c =
@@ -54,7 +56,7 @@ returns-3 c =
     let f = E1 (i .before) in
     let e = f .before in
     let s = S e in
-    look-zero _ _ _ _ _ _ _ _ _ (s .pre .0) (s .pre .1) (s .pre .2) (e .neighbour .ensures) (inside f) _ (i .id-at .ensures) (c .if3 .taken)
+    look-zero _ _ _ _ _ _ _ _ _ _ (s .pre .0 .0) (s .pre .0 .1) (s .pre .0 .2) (e .neighbour .ensures) (inside f) _ (i .id-at .ensures) (c .if3 .taken)
 
 is-border-requires : tie.Need-is-border-requires
 is-border-requires c κs = search needs
@@ -65,33 +67,49 @@ returns-4 c =
     let f = E1 (E2 g) in
     let e = f .before in
     let s = S e in
-    look-flag _ _ _ _ _ _ _ _ _ (s .pre .0) (s .pre .1) (s .pre .2) (e .neighbour .ensures) (inside f) _ (g .before .before .id-at .ensures) _ (c .before .is-border .ensures) (c .if4 .taken)
+    look-flag _ _ _ _ _ _ _ _ _ _ (s .pre .0 .0) (s .pre .0 .1) (s .pre .0 .2) (e .neighbour .ensures) (inside f) _ (g .before .before .id-at .ensures) _ (c .before .is-border .ensures) (c .if4 .taken)
 
-farther-requires : tie.Need-farther-requires
-farther-requires c κs =
+source-at-requires : tie.Need-source-at-requires
+source-at-requires c κs =
     let f = E1 (E2 (E3 c)) in
-    let v = S (f .before) .pre .0 .calm in
-    (omega (arith, inside f, v .fits), v .most _ (inside f))
+    let v = S (f .before) .pre .0 .0 in
+    omega (arith, inside f, v .low, v .room)
 
 returns-5 : tie.Need-returns-5
 returns-5 c =
-    let r = E4 (c .before) in
+    let l = c .before in
+    let r = l .before in
     let g = E3 r in
     let f = E1 (E2 g) in
     let e = f .before in
     let s = S e in
-    look-take _ _ _ _ _ _ _ _ _ (s .pre .0) (s .pre .1) (s .pre .2) (e .neighbour .ensures) (inside f) _ (g .before .before .id-at .ensures) _ (r .before .is-border .ensures)
-    _ (c .before .before .farther .ensures) _ (E2 g .before .at8 .ensures .0) (E2 g .if2 .left) (g .if3 .left) (r .if4 .left) (c .if5 .taken)
+    look-stray _ _ _ _ _ _ _ _ _ _ (s .pre .0 .0) (s .pre .0 .1) (s .pre .0 .2) (e .neighbour .ensures) (inside f) _ (g .before .before .id-at .ensures) _ (r .before .is-border .ensures)
+    _ (l .source-at .ensures) _ (E2 g .before .at8 .ensures .0) (E2 g .if2 .left) (g .if3 .left) (r .if4 .left) (s .pre .1) (c .if5 .taken)
+
+add-far : tie.Need-add-far
+add-far c = search needs
 
 returns-6 : tie.Need-returns-6
 returns-6 c =
-    let r = E4 (c .before) in
+    let l = c .before .before in
+    let r = l .before .before in
     let g = E3 r in
     let f = E1 (E2 g) in
     let e = f .before in
     let s = S e in
-    look-far _ _ _ _ _ _ _ _ _ (s .pre .0) (s .pre .1) (s .pre .2) (e .neighbour .ensures) (inside f) _ (g .before .before .id-at .ensures) _ (r .before .is-border .ensures)
-    _ (c .before .before .farther .ensures) (c .if5 .left)
+    look-take _ _ _ _ _ _ _ _ _ _ (s .pre .0 .0) (s .pre .0 .1) (s .pre .0 .2) (e .neighbour .ensures) (inside f) _ (g .before .before .id-at .ensures) _ (r .before .is-border .ensures)
+    _ (l .before .source-at .ensures) _ refl (l .if5 .left) _ (E2 g .before .at8 .ensures .0) (E2 g .if2 .left) (g .if3 .left) (r .if4 .left) (c .if6 .taken)
+
+returns-7 : tie.Need-returns-7
+returns-7 c =
+    let l = c .before .before in
+    let r = l .before .before in
+    let g = E3 r in
+    let f = E1 (E2 g) in
+    let e = f .before in
+    let s = S e in
+    look-far _ _ _ _ _ _ _ _ _ _ (s .pre .0 .0) (s .pre .0 .1) (s .pre .0 .2) (e .neighbour .ensures) (inside f) _ (g .before .before .id-at .ensures) _ (r .before .is-border .ensures)
+    _ (l .before .source-at .ensures) _ refl (l .if5 .left) (c .if6 .left)
 
 pub look-spec : {M : Type 1} → statement M
 look-spec =
@@ -105,6 +123,8 @@ look-spec =
     returns-3
     is-border-requires
     returns-4
-    farther-requires
+    source-at-requires
     returns-5
-    returns-6)
+    add-far
+    returns-6
+    returns-7)

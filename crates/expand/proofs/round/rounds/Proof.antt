@@ -7,10 +7,10 @@ use Rattle.expand.proofs.round.rounds.Statement.{statement}
 use Rattle.expand.proofs.round.rounds.Tie as tie
 
 abbrev Inv-loop : tie.InvT-loop
-Inv-loop area ids₀ ws₀ at most from fill lo₀ hi₀ left₀ ids ws lo hi left = Going area from (at .changes) (at .table) fill most ids₀ ws₀ ids ws lo hi left
+Inv-loop area ids₀ ws₀ at most from fill lo₀ t₀ left₀ ids ws lo t left = Going area from (at .changes) (at .table) fill most ids₀ ws₀ ids ws lo (t .noted) (t .strays) left
 
 abbrev μ-loop : tie.MeasureT-loop
-μ-loop area ids₀ ws₀ at most from fill lo₀ hi₀ left₀ ids ws lo hi left = left
+μ-loop area ids₀ ws₀ at most from fill lo₀ t₀ left₀ ids ws lo t left = left
 
 try-all-requires : tie.Need-try-all-requires Inv-loop μ-loop
 try-all-requires c κs = ((search (needs, mutual-closed), search needs), ((search (needs, lit-board), search needs), search needs))
@@ -20,14 +20,14 @@ loop-holds c = search (needs, going-start)
 
 write-all-requires : tie.Need-write-all-requires Inv-loop μ-loop
 write-all-requires c κs =
-    let l = c .before .before .before in
+    let l = c .before .before .before .before in
     let t = l .before .before .before in
     let s = t .before .before .before .before .before .before in
     let m = t .try-all .ensures .0 in
-    let x = tried-mutual _ _ _ _ _ (s .args .most) _ _ (s .pre .0 .0) (s .pre .1) _ _ m in
-    let z = tried-begun _ _ _ _ _ (s .args .most) _ _ (s .pre .0 .0) (s .pre .1) _ _ m in
+    let x = tried-mutual _ _ _ _ _ (s .args .most) _ _ (s .pre .0 .0) (s .pre .1) _ _ _ m in
+    let z = tried-begun _ _ _ _ _ (s .args .most) _ _ (s .pre .0 .0) (s .pre .1) _ _ _ m in
     let g = l .loop .inv in
-    ((going-part _ _ _ _ _ (s .args .most) _ _ x z _ _ _ _ _ g, going-few _ _ _ _ _ (s .args .most) _ _ x z _ _ _ _ _ g), going-spans _ _ _ _ _ (s .args .most) _ _ x z _ _ _ _ _ g)
+    ((going-part _ _ _ _ _ (s .args .most) _ _ x z _ _ _ _ _ _ g, going-few _ _ _ _ _ (s .args .most) _ _ x z _ _ _ _ _ _ g), going-spans _ _ _ _ _ (s .args .most) _ _ x z _ _ _ _ _ _ g)
 
 same-length : tie.Need-same-length Inv-loop μ-loop
 same-length c = search needs
@@ -39,30 +39,30 @@ returns : tie.Need-returns Inv-loop μ-loop
 returns c =
     let y = c .before .before .before .before .before in
     let i = y .before .before .before in
-    let l = i .before in
+    let l = i .before .before in
     let t = l .before .before .before in
     let s = t .before .before .before .before .before .before in
     let m = t .try-all .ensures .0 in
-    let x = tried-mutual _ _ _ _ _ (s .args .most) _ _ (s .pre .0 .0) (s .pre .1) _ _ m in
-    let z = tried-begun _ _ _ _ _ (s .args .most) _ _ (s .pre .0 .0) (s .pre .1) _ _ m in
-    gone-from _ _ _ _ _ _ _ _ (s .pre .0 .0) (s .pre .1) _ _ m _ _ _
-    (going-last _ _ _ _ _ (s .args .most) _ _ x z _ _ _ _ _ (l .loop .inv) _ _ (y .write-all .ensures) (i .loop-test .taken) (c .if1 .taken))
+    let x = tried-mutual _ _ _ _ _ (s .args .most) _ _ (s .pre .0 .0) (s .pre .1) _ _ _ m in
+    let z = tried-begun _ _ _ _ _ (s .args .most) _ _ (s .pre .0 .0) (s .pre .1) _ _ _ m in
+    gone-from _ _ _ _ _ _ _ _ (s .pre .0 .0) (s .pre .1) _ _ _ m _ _ _ _
+    (going-last _ _ _ _ _ (s .args .most) _ _ x z _ _ _ _ _ _ (l .loop .inv) _ _ (y .write-all .ensures) (i .if1 .taken) (c .if2 .taken))
 
 try-beside-requires : tie.Need-try-beside-requires Inv-loop μ-loop
 try-beside-requires c κs =
     let y = c .before .before .before .before .before .before .before in
     let i = y .before .before .before in
-    let l = i .before in
+    let l = i .before .before in
     let t = l .before .before .before in
     let s = t .before .before .before .before .before .before in
     let m = t .try-all .ensures .0 in
-    let x = tried-mutual _ _ _ _ _ (s .args .most) _ _ (s .pre .0 .0) (s .pre .1) _ _ m in
-    let z = tried-begun _ _ _ _ _ (s .args .most) _ _ (s .pre .0 .0) (s .pre .1) _ _ m in
+    let x = tried-mutual _ _ _ _ _ (s .args .most) _ _ (s .pre .0 .0) (s .pre .1) _ _ _ m in
+    let z = tried-begun _ _ _ _ _ (s .args .most) _ _ (s .pre .0 .0) (s .pre .1) _ _ _ m in
     let g = l .loop .inv in
     let w = y .write-all .ensures in
-    let o = i .loop-test .taken in (
-      (written-closed _ _ _ _ _ (s .args .most) _ _ x z _ _ _ _ _ g _ _ w o, s .pre .0 .1),
-      (written-board _ _ _ _ _ (s .args .most) _ _ x z _ _ _ _ _ g _ _ w o, written-spans _ _ _ _ _ (s .args .most) _ _ x z _ _ _ _ _ g _ _ w o),
+    let o = i .if1 .taken in (
+      (written-closed _ _ _ _ _ (s .args .most) _ _ x z _ _ _ _ _ _ g _ _ w o, s .pre .0 .1),
+      (written-board _ _ _ _ _ (s .args .most) _ _ x z _ _ _ _ _ _ g _ _ w o, written-spans _ _ _ _ _ (s .args .most) _ _ x z _ _ _ _ _ _ g _ _ w o),
     )
 
 sub-left : tie.Need-sub-left Inv-loop μ-loop
@@ -77,14 +77,14 @@ loop-again c =
     let f = b .before .before .before in
     let y = f .before .before .before .before .before in
     let i = y .before .before .before in
-    let l = i .before in
+    let l = i .before .before in
     let t = l .before .before .before in
     let s = t .before .before .before .before .before .before in
     let m = t .try-all .ensures .0 in
-    let x = tried-mutual _ _ _ _ _ (s .args .most) _ _ (s .pre .0 .0) (s .pre .1) _ _ m in
-    let z = tried-begun _ _ _ _ _ (s .args .most) _ _ (s .pre .0 .0) (s .pre .1) _ _ m in
-    going-next _ _ _ _ _ (s .args .most) _ _ x z _ _ _ _ _ (l .loop .inv) _ _ (y .write-all .ensures) (i .loop-test .taken) (f .if1 .left) _ _
-    (b .try-beside .ensures .0) (b .try-beside .ensures .1)
+    let x = tried-mutual _ _ _ _ _ (s .args .most) _ _ (s .pre .0 .0) (s .pre .1) _ _ _ m in
+    let z = tried-begun _ _ _ _ _ (s .args .most) _ _ (s .pre .0 .0) (s .pre .1) _ _ _ m in
+    going-next _ _ _ _ _ (s .args .most) _ _ x z _ _ _ _ _ _ (l .loop .inv) _ _ (y .write-all .ensures) (i .if1 .taken) _ _ _
+    (b .try-beside .ensures .0) (b .try-beside .ensures .1) (f .if2 .left)
 
 same-length-3 : tie.Need-same-length-3 Inv-loop μ-loop
 same-length-3 c = search needs
@@ -94,13 +94,13 @@ same-length-4 c = search needs
 
 returns-2 : tie.Need-returns-2 Inv-loop μ-loop
 returns-2 c =
-    let l = c .before in
+    let l = c .before .before in
     let t = l .before .before .before in
     let s = t .before .before .before .before .before .before in
     let m = t .try-all .ensures .0 in
-    let x = tried-mutual _ _ _ _ _ (s .args .most) _ _ (s .pre .0 .0) (s .pre .1) _ _ m in
-    let z = tried-begun _ _ _ _ _ (s .args .most) _ _ (s .pre .0 .0) (s .pre .1) _ _ m in
-    gone-from _ _ _ _ _ _ _ _ (s .pre .0 .0) (s .pre .1) _ _ m _ _ _ (going-end _ _ _ _ _ (s .args .most) _ _ x z _ _ _ _ _ (l .loop .inv) (c .loop-test .left))
+    let x = tried-mutual _ _ _ _ _ (s .args .most) _ _ (s .pre .0 .0) (s .pre .1) _ _ _ m in
+    let z = tried-begun _ _ _ _ _ (s .args .most) _ _ (s .pre .0 .0) (s .pre .1) _ _ _ m in
+    gone-from _ _ _ _ _ _ _ _ (s .pre .0 .0) (s .pre .1) _ _ _ m _ _ _ _ (going-end _ _ _ _ _ (s .args .most) _ _ x z _ _ _ _ _ _ (l .loop .inv) (c .if1 .left))
 
 pub rounds-spec : {M : Type 1} → statement M
 rounds-spec =

@@ -2,17 +2,18 @@
 -- Assumes nothing.
 use borrow.Author.Needs.{needs}
 use Prim.Native.Nat.{_-_, _≤_}
+use mathlib.Core.Bool.{false}
 use Rattle.expand.specs.Front.{Moved, Entered}
 use Rattle.expand.proofs.Trying.{moved-none, moved-closed, moved-board, moved-then, entered-start, entered-at, entered-small, entered-entry, entered-next, entered-end}
 use Rattle.expand.proofs.tries.try_all.Statement.{statement}
 use Rattle.expand.proofs.tries.try_all.Tie as tie
 
 abbrev Inv-loop : tie.InvT-loop
-Inv-loop area ids ws₀ at from fill k₀ j₀ ws k j =
-    Moved area (at .changes) (at .table) ids ws₀ 0 ws k × (j ≤ fill) × Entered area from (at .changes) (at .table) ids ws₀ ws j
+Inv-loop area ids ws₀ at from fill t₀ j₀ ws t j =
+    Moved area (at .changes) (at .table) ids ws₀ 0 false ws (t .noted) (t .strays) × (j ≤ fill) × Entered area from (at .changes) (at .table) ids ws₀ ws (t .strays) j
 
 abbrev μ-loop : tie.MeasureT-loop
-μ-loop area ids ws₀ at from fill k₀ j₀ ws k j = fill - j
+μ-loop area ids ws₀ at from fill t₀ j₀ ws t j = fill - j
 
 loop-holds : tie.Need-loop-holds Inv-loop μ-loop
 loop-holds c = (search (needs, moved-none), search needs, search (needs, entered-start))

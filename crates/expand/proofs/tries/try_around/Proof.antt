@@ -8,10 +8,11 @@ use Rattle.expand.proofs.tries.try_around.Statement.{statement}
 use Rattle.expand.proofs.tries.try_around.Tie as tie
 
 abbrev Inv-loop : tie.InvT-loop
-Inv-loop area ids ws₀ at span noted k₀ d₀ ws k d = Moved area (at .changes) (at .table) ids ws₀ noted ws k × Sides area (at .changes) (at .table) ids ws₀ ws (span .0) d
+Inv-loop area ids ws₀ at span t d₀ ws r d =
+    Moved area (at .changes) (at .table) ids ws₀ (t .noted) (t .strays) ws (r .noted) (r .strays) × Sides area (at .changes) (at .table) ids ws₀ ws (r .strays) (span .0) d
 
 abbrev μ-loop : tie.MeasureT-loop
-μ-loop area ids ws₀ at span noted k₀ d₀ ws k d = 4 - d
+μ-loop area ids ws₀ at span t d₀ ws r d = 4 - d
 
 loop-holds : tie.Need-loop-holds Inv-loop μ-loop
 loop-holds c = (search (needs, moved-none), search (needs, sides-start))

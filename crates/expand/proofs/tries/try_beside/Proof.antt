@@ -8,11 +8,11 @@ use Rattle.expand.proofs.tries.try_beside.Statement.{statement}
 use Rattle.expand.proofs.tries.try_beside.Tie as tie
 
 abbrev Inv-loop : tie.InvT-loop
-Inv-loop area ids ws₀ at lo hi k₀ i₀ ws k i =
-    Moved area (at .changes) (at .table) ids ws₀ hi ws k × (lo ≤ i) × (i ≤ hi) × Beside area (at .changes) (at .table) ids ws₀ ws lo i
+Inv-loop area ids ws₀ at lo hi strays t₀ i₀ ws t i =
+    Moved area (at .changes) (at .table) ids ws₀ hi strays ws (t .noted) (t .strays) × (lo ≤ i) × (i ≤ hi) × Beside area (at .changes) (at .table) ids ws₀ ws (t .strays) lo i
 
 abbrev μ-loop : tie.MeasureT-loop
-μ-loop area ids ws₀ at lo hi k₀ i₀ ws k i = hi - i
+μ-loop area ids ws₀ at lo hi strays t₀ i₀ ws t i = hi - i
 
 loop-holds : tie.Need-loop-holds Inv-loop μ-loop
 loop-holds c = (search (needs, moved-none), search needs, search needs, search (needs, beside-start))

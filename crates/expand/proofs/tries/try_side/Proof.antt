@@ -19,7 +19,7 @@ returns : tie.Need-returns
 returns c =
     let e = c .before .before in
     let s = S e in
-    (search (needs, moved-none), side-none _ _ _ _ _ _ _ _ _ (s .pre .0 .0) (s .pre .1 .0) (s .pre .1 .1) (s .pre .1 .2) (e .neighbour .ensures) (c .if1 .taken))
+    (search (needs, moved-none), side-none _ _ _ _ _ _ _ _ _ (s .pre .0 .0) (s .pre .1 .0) (s .pre .1 .1) (s .pre .1 .2) (e .neighbour .ensures) _ (c .if1 .taken))
 
 try-span-requires : tie.Need-try-span-requires
 try-span-requires c κs =
@@ -35,7 +35,7 @@ returns-2 c =
     let t = c .before .before in
     let e = t .before .before .before .before in
     let s = S e in
-    (t .try-span .ensures .0, side-tried _ _ _ _ _ _ _ _ _ (s .pre .0 .0) (s .pre .1 .0) (s .pre .1 .1) (s .pre .1 .2) (e .neighbour .ensures) _ (t .try-span .ensures .1))
+    (t .try-span .ensures .0, side-tried _ _ _ _ _ _ _ _ _ (s .pre .0 .0) (s .pre .1 .0) (s .pre .1 .1) (s .pre .1 .2) (e .neighbour .ensures) _ _ (t .try-span .ensures .1))
 
 pub try-side-spec : {M : Type 1} → statement M
 try-side-spec = tie.close (tie.spec neighbour-requires same-length returns try-span-requires same-length-2 returns-2)

@@ -4,7 +4,7 @@ use borrow.Author.Needs.{needs}
 use Rattle.expand.specs.Front.{Up}
 use denote.Ref.{now}
 use lib.ListN.{length}
-use Rattle.expand.proofs.Trying.{board-sight, moved-none, note-room, up-is, tried-down, tried-nothing, tried-found, moved-one, tried-one}
+use Rattle.expand.proofs.Trying.{board-sight, moved-none, moved-still, note-room, up-is, tried-down, tried-nothing, tried-found, moved-one, tried-one}
 use Rattle.expand.proofs.tries.try_span.Statement.{statement}
 use Rattle.expand.proofs.tries.try_span.Tie as tie
 
@@ -12,8 +12,8 @@ use Rattle.expand.proofs.tries.try_span.Tie as tie
 abbrev S : tie.Else1 → tie.Start
 S c = c .before .before .before .before .before .before .before
 
-abbrev E1 : tie.Else2 → tie.Else1
-E1 c = c .before .before .before .before .before
+abbrev E1 : tie.After-takes → tie.Else1
+E1 c = c .before .before
 
 -- the flag is up
 up : (c : tie.Else1) → Up (length (now (S c .args .area))) (S c .args .at .changes) (now (S c .args .ws)) (S c .args .span .0)
@@ -38,7 +38,13 @@ same-length-2 : tie.Need-same-length-2
 same-length-2 c = search needs
 
 returns-2 : tie.Need-returns-2
-returns-2 c = (search (needs, moved-none), tried-nothing _ _ _ _ _ _ _ _ (c .before .before .before .takes .ensures) (c .if2 .taken))
+returns-2 c =
+    let t = c .before .before .before in
+    let e = E1 t in
+    let s = S e in (
+      moved-still _ _ _ _ _ _ (s .pre .1 .0) _ (s .pre .1 .1) (up e) _ _ (t .takes .ensures .1),
+      tried-nothing _ _ _ _ _ _ _ _ (t .takes .ensures .0) _ _ (t .takes .ensures .1) (c .if2 .taken),
+    )
 
 mul-note : tie.Need-mul-note
 mul-note c = search needs
@@ -51,12 +57,12 @@ cast-note c = search needs
 
 note-requires : tie.Need-note-requires
 note-requires c κs =
-    let e = E1 (c .before .before) in
+    let e = E1 (c .before .before .before .before .before) in
     let s = S e in
     (search needs, note-room (now (s .args .area)) _ _ _ _ _ (s .pre .1 .0) _ (s .pre .1 .1) (up e), search needs, search needs)
 
-add-result : tie.Need-add-result
-add-result c = search needs
+add-t11 : tie.Need-add-t11
+add-t11 c = search needs
 
 same-length-3 : tie.Need-same-length-3
 same-length-3 c = search needs
@@ -66,11 +72,11 @@ returns-3 c =
     let n = c .before .before in
     let f = n .before .before .before in
     let t = f .before .before .before in
-    let e = E1 f in
+    let e = E1 t in
     let s = S e in (
       moved-one _ _ _ _ _ _ (s .pre .1 .0) _ (s .pre .1 .1) (up e) _ _ _ (s .pre .0 .1)
-          (tried-found _ (s .args .at .changes) _ _ _ _ _ _ (t .takes .ensures) (s .pre .1 .1) (s .pre .1 .0 .few) (f .if2 .left)) _ (n .note .ensures),
-      tried-one _ _ _ _ _ _ (s .pre .1 .0) _ (s .pre .1 .1) (up e) _ _ _ (s .pre .0 .1) _ (n .note .ensures),
+          (tried-found _ (s .args .at .changes) _ _ _ _ _ _ (t .takes .ensures .0) (s .pre .1 .1) (s .pre .1 .0 .few) (f .if2 .left)) _ _ (t .takes .ensures .1) _ (n .note .ensures),
+      tried-one _ _ _ _ _ _ (s .pre .1 .0) _ (s .pre .1 .1) (up e) _ _ _ (s .pre .0 .1) _ _ (n .note .ensures),
     )
 
 pub try-span-spec : {M : Type 1} → statement M
@@ -88,6 +94,6 @@ try-span-spec =
     add-note
     cast-note
     note-requires
-    add-result
+    add-t11
     same-length-3
     returns-3)

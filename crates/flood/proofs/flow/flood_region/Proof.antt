@@ -6,6 +6,7 @@ use native.Mathlib.Omega.{arith}
 use borrow.Author.Needs.{needs}
 use denote.Ref.{now}
 use lib.ListN.{length, getD, length-set}
+use Rattle.rules.specs.Refusals.{mostSpans}
 use Rattle.net.specs.Table.{netAt}
 use Rattle.net.proofs.Tables.{lent-same, net-few}
 use Rattle.flood.specs.Looks.{seedOf}
@@ -27,7 +28,7 @@ abbrev μ-loop : tie.MeasureT-loop
 from-in : (s : tie.Start Inv-loop μ-loop) → s .args .from .0 < length (now (s .args .area))
 from-in s = omega (arith, s .pre .1 .0 .within, s .pre .0 .1 .idents)
 
-few : (s : tie.Start Inv-loop μ-loop) → length (now (s .args .area)) ≤ 32000
+few : (s : tie.Start Inv-loop μ-loop) → length (now (s .args .area)) ≤ mostSpans
 few s = net-few _ _ _ (s .pre .0 .0 .closed)
 
 room : (s : tie.Start Inv-loop μ-loop) → s .args .at .stack + length (now (s .args .area)) ≤ length (now (s .args .ws))

@@ -5,6 +5,7 @@ use borrow.Author.Needs.{needs}
 use denote.Ref.{now}
 use lib.ListN.{length, length-set}
 use Prim.Native.Nat.{_+_, _<_}
+use Rattle.rules.specs.Refusals.{mostSpans}
 use Rattle.net.proofs.Tables.{slot-in, leads-inside, net-few}
 use Rattle.flood.proofs.Pushes.{skip-none, skip-area, skip-id, skip-shallow, push-flow, skipped, stack-in, push-fits, push-pushed}
 use Rattle.flood.proofs.flow.push_one.Statement.{statement}
@@ -30,7 +31,7 @@ E4 c = E1 (E2 (E3 c))
 inside : (c : tie.After-neighbour) → c .neighbour .result .0 < length (now (S (c .before) .args .area))
 inside c = let s = S (c .before) in leads-inside _ _ _ _ _ _ _ (s .pre .0 .0) (s .pre .1 .0) (c .neighbour .ensures) (c .before .before .if1 .left)
 
-small : (c : tie.After-neighbour) → c .neighbour .result .0 < 32000
+small : (c : tie.After-neighbour) → c .neighbour .result .0 < mostSpans
 small c = omega (arith, inside c, net-few _ _ _ (S (c .before) .pre .0 .0 .closed))
 
 -- there is room on the stack

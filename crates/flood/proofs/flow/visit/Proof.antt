@@ -5,6 +5,7 @@ use Prim.Native.Nat.{_+_, _-_, _<_, _≤_}
 use native.Mathlib.Omega.{arith}
 use denote.Ref.{now}
 use lib.ListN.{length, length-set}
+use Rattle.rules.specs.Refusals.{mostSpans}
 use Rattle.net.specs.Table.{netAt, AtSpan}
 use Rattle.net.proofs.Tables.{lent-span, lent-same, net-few}
 use Rattle.flood.specs.Stack.{Kept}
@@ -18,7 +19,7 @@ use Rattle.flood.proofs.flow.visit.Tie as tie
 top-in : (s : tie.Start) → s .args .height .top - 1 < length (now (s .args .area))
 top-in s = omega (arith, good-held _ _ _ _ _ _ (s .pre .1 .0 .0 .good) .1, s .pre .1 .0 .1)
 
-few : (s : tie.Start) → length (now (s .args .area)) ≤ 32000
+few : (s : tie.Start) → length (now (s .args .area)) ≤ mostSpans
 few s = net-few _ _ _ (s .pre .0 .0 .closed)
 
 place-in : (s : tie.Start) → s .args .at .stack + (s .args .height .top - 1) < length (now (s .args .ws))

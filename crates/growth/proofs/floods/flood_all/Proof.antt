@@ -1,11 +1,12 @@
 -- The loop's invariant: floods from the entries from j on give what floods from all give (`FloodedTo`). The measure is the entries left.
 -- Assumes nothing.
 use Prim.Native.Nat.{_-_, _≤_}
+use mathlib.Core.Path.{_∙_}
 use native.Mathlib.Omega.{arith}
 use denote.Ref.{now}
 use lib.ListN.{length}
 use Rattle.flood.proofs.Pushes.{placed-kept}
-use Rattle.growth.proofs.FloodLaws.{FloodedTo, flooded-start, flooded-lent, flooded-at, flooded-entry, flooded-next, flooded-end, blank-past}
+use Rattle.growth.proofs.FloodLaws.{FloodedTo, flooded-start, flooded-lent, flooded-at, flooded-entry, flag-not, flooded-next, flooded-out, flooded-end, blank-past}
 use Rattle.growth.proofs.floods.flood_all.Statement.{statement}
 use Rattle.growth.proofs.floods.flood_all.Tie as tie
 
@@ -65,14 +66,14 @@ flood-one-requires c κs =
     )
 
 add-j : tie.Need-add-j Inv-loop μ-loop
-add-j c = let t = T (R c .before .before .before) in omega (arith, t .if1 .taken, S (A t) .pre .1 .1 .entries .filled, S (A t) .pre .0 .0 .closed .few)
+add-j c = let t = T (R (c .before .before) .before .before .before) in omega (arith, t .if1 .taken, S (A t) .pre .1 .1 .entries .filled, S (A t) .pre .0 .0 .closed .few)
 
 loop-less : tie.Need-loop-less Inv-loop μ-loop
-loop-less c = omega (arith, T (R c .before .before .before) .if1 .taken)
+loop-less c = omega (arith, T (R (c .before .before) .before .before .before) .if1 .taken)
 
 loop-again : tie.Need-loop-again Inv-loop μ-loop
 loop-again c =
-    let r = R c in
+    let r = R (c .before .before) in
     let a = r .before .before .before in
     let t = T a in
     let l = A t in
@@ -80,20 +81,37 @@ loop-again c =
     let k = r .flood-one .kept in
     let q = r .flood-one .ensures in
     flooded-next _ _ _ _ _ _ _ _ _ _ (s .pre .0 .0) (s .pre .1 .1) (past s) _ _ _ _ (l .loop .inv) _ _ _ _ (t .if1 .taken) (a .at16 .ensures .0)
-    (k .1 .1 .1 .0) (k .1 .1 .1 .1 .0) (q .0) (q .1 .0) (q .1 .1)
+    (k .1 .1 .1 .0) (k .1 .1 .1 .1 .0) (q .0) (q .1 .0) (q .1 .2 (flag-not _ (q .1 .1) (c .if2 .left)))
 
 same-length : tie.Need-same-length Inv-loop μ-loop
-same-length c = c .before .before .loop .inv .size₁
+same-length c = let r = R (c .before .before) in r .flood-one .kept .1 .1 .1 .0 ∙ A (T (r .before .before .before)) .loop .inv .size₁
 
 same-length-2 : tie.Need-same-length-2 Inv-loop μ-loop
-same-length-2 c = c .before .before .loop .inv .size₂
+same-length-2 c = let r = R (c .before .before) in r .flood-one .kept .1 .1 .1 .1 .0 ∙ A (T (r .before .before .before)) .loop .inv .size₂
 
 returns : tie.Need-returns Inv-loop μ-loop
 returns c =
+    let r = R (c .before .before) in
+    let a = r .before .before .before in
+    let t = T a in
+    let l = A t in
+    let s = S l in
+    let k = r .flood-one .kept in
+    let q = r .flood-one .ensures in
+    flooded-out _ _ _ _ _ _ _ _ _ _ (s .pre .0 .0) (s .pre .1 .1) (past s) _ _ _ _ (l .loop .inv) _ _ _ _ (t .if1 .taken) (a .at16 .ensures .0)
+    (k .1 .1 .1 .0) (k .1 .1 .1 .1 .0) (q .0) (q .1 .0) (c .if2 .taken)
+
+same-length-3 : tie.Need-same-length-3 Inv-loop μ-loop
+same-length-3 c = c .before .before .loop .inv .size₁
+
+same-length-4 : tie.Need-same-length-4 Inv-loop μ-loop
+same-length-4 c = c .before .before .loop .inv .size₂
+
+returns-2 : tie.Need-returns-2 Inv-loop μ-loop
+returns-2 c =
     let l = c .before .before in
     let s = S l in
-    let v = l .loop .inv in
-    (flooded-end _ _ _ _ _ _ _ _ _ _ (s .pre .0 .0) (s .pre .1 .1) (past s) _ _ _ _ v (c .if1 .left), (v .past, v .ids-below))
+    flooded-end _ _ _ _ _ _ _ _ _ _ (s .pre .0 .0) (s .pre .1 .1) (past s) _ _ _ _ (l .loop .inv) (c .if1 .left)
 
 pub flood-all-spec : {M : Type 1} → statement M
 flood-all-spec =
@@ -105,9 +123,12 @@ flood-all-spec =
     add-at16
     at16-requires
     flood-one-requires
+    same-length
+    same-length-2
+    returns
     add-j
     loop-less
     loop-again
-    same-length
-    same-length-2
-    returns)
+    same-length-3
+    same-length-4
+    returns-2)

@@ -35,7 +35,7 @@ abbrev E2 : tie.After-flood-region → tie.Else2
 E2 c = c .before .before .before
 
 returns : tie.Need-returns
-returns c = (one-used _ _ _ _ _ _ (c .if1 .taken), (refl, S (c .before) .pre .1 .0 .1))
+returns c = let b = S (c .before) .pre .1 .0 .1 in (one-used _ _ _ _ _ _ (c .if1 .taken), (refl, omega (arith, b .plain), λ _. b))
 
 mul-if2 : tie.Need-mul-if2
 mul-if2 c = omega (arith, inside c)
@@ -44,7 +44,7 @@ slice-read-if2 : tie.Need-slice-read-if2
 slice-read-if2 c = omega (arith, inside (c .before), S (c .before .before) .pre .0 .1 .idents)
 
 returns-2 : tie.Need-returns-2
-returns-2 c = let e = c .before .before .before in (one-has-id _ _ _ _ _ _ (e .if1 .left) (c .if2 .taken), (refl, S (e .before) .pre .1 .0 .1))
+returns-2 c = let e = c .before .before .before in (one-has-id _ _ _ _ _ _ (e .if1 .left) (c .if2 .taken), (refl, omega (arith, S (e .before) .pre .1 .0 .1 .plain), λ _. S (e .before) .pre .1 .0 .1))
 
 flood-region-requires : tie.Need-flood-region-requires
 flood-region-requires c κs =
@@ -65,11 +65,11 @@ returns-3 c =
     let s = S2 e in
     let q = r .flood-region .ensures in (
       failed-one _ _ _ _ _ _ _ _ _ _ _ (q .0) (e .if2 .left) (E1 e .if1 .left) (c .if3 .taken),
-      (q .1 .0, failed-below _ _ _ _ _ _ _ _ _ _ _ (q .0) (e .if2 .left) (s .pre .1 .0 .1) (inside (E1 e)) (byte e) (c .if3 .taken)),
+      (q .1 .0, omega (arith, s .pre .1 .0 .1 .plain), λ _. failed-below _ _ _ _ _ _ _ _ _ _ _ (q .0) (e .if2 .left) (s .pre .1 .0 .1) (inside (E1 e)) (byte e) (c .if3 .taken)),
     )
 
 add-result : tie.Need-add-result
-add-result c = omega (arith, S2 (E2 (R (c .before))) .pre .1 .0 .1 .room)
+add-result c = omega (arith, S2 (E2 (R (c .before))) .pre .1 .0 .1 .plain)
 
 same-length-3 : tie.Need-same-length-3
 same-length-3 c = search needs
@@ -84,7 +84,7 @@ returns-4 c =
     let s = S2 e in
     let q = r .flood-region .ensures in (
       won-one _ _ _ _ _ _ _ _ _ _ _ (q .0) (e .if2 .left) (E1 e .if1 .left) (c .if3 .left),
-      (q .1 .0, won-below _ _ _ _ _ _ _ _ _ _ _ (q .0) (e .if2 .left) (s .pre .1 .0 .1) (inside (E1 e)) (byte e) (c .if3 .left)),
+      (q .1 .0, omega (arith, s .pre .1 .0 .1 .plain), λ p. won-below _ _ _ _ _ _ _ _ _ _ _ (q .0) (e .if2 .left) (s .pre .1 .0 .1) (inside (E1 e)) (byte e) (c .if3 .left) p),
     )
 
 pub flood-one-spec : {M : Type 1} → statement M

@@ -44,7 +44,6 @@ grow-painted-requires c κs =
       between-first _ _ _ _ _ _ (now (s .args .dist)) _ (s .args .max-distance) _ _ _ (s .pre .0) _ (p .paint-border .ensures .1) _ (p .paint-border .ensures .0) _
           (f .0) (f .1) (k .fill-neighbours .kept .1 .1 .1 .1 .1 .1 .0) _ (c .sections .ensures .0) (c .sections .ensures .1),
       s .pre .1,
-      record { byte = λ i l. omega (arith, p .before .before .before .before .before .before .shared-slice-known3 .given i) },
     )
 
 clear-part-requires : tie.Need-clear-part-requires
@@ -70,7 +69,7 @@ returns c =
     let s = S (p .before) in
     let f = k .fill-neighbours .ensures in
     full _ _ _ _ _ _ _ _ _ _ _ _ (s .pre .0) _ (p .paint-border .ensures .1) _ (p .paint-border .ensures .0) _ (f .0) (f .1) (k .fill-neighbours .kept .1 .1 .1 .1 .1 .1 .0)
-    _ _ _ _ _ (d .sections .ensures .1) (g .grow-painted .ensures) (x .clear-part .kept .0) (g .grow-painted .kept .1 .1 .1 .1 .0) (x .clear-part .ensures .0) (x .clear-part .ensures .1)
+    _ _ _ _ _ _ (d .sections .ensures .1) (g .grow-painted .ensures) (x .clear-part .kept .0) (g .grow-painted .kept .1 .1 .1 .1 .0) (x .clear-part .ensures .0) (x .clear-part .ensures .1)
 
 pub grow-spec : {M : Type 1} → statement M
 grow-spec =

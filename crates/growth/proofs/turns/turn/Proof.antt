@@ -1,10 +1,10 @@
--- Loading leaves what the expansion asks, that what the floods ask, and the three together are the rule's turn (WholeTurn). Assumes nothing.
+-- Loading leaves what the expansion asks, that what the floods ask, and the three together are the rule's turn, or what stops it (WholeTurn). Assumes nothing.
 use native.Mathlib.Omega.{arith}
 use borrow.Author.Needs.{needs}
 use Rattle.growth.proofs.KeptLaws.{few-spans, flags-at}
-use Rattle.growth.proofs.ExpandTurn.{given-as, expanded-as, held-as}
+use Rattle.growth.proofs.ExpandTurn.{given-as, expanded-as, strays-as, held-as}
 use Rattle.growth.proofs.FloodTurn.{between-placed, flooded}
-use Rattle.growth.proofs.WholeTurn.{ready-turn, turned}
+use Rattle.growth.proofs.WholeTurn.{ready-turn, turn-strayed, turn-out, turned}
 use Rattle.growth.proofs.turns.turn.Statement.{statement}
 use Rattle.growth.proofs.turns.turn.Tie as tie
 
@@ -19,7 +19,7 @@ abbrev T : tie.After-expand-regions → tie.After-turn-stack
 T c = c .before .before .before
 
 abbrev X : tie.After-flood-all → tie.After-expand-regions
-X c = c .before .before .before .before .before .before .before
+X c = c .before .before .before .before .before .before .before .before
 
 load-requires : tie.Need-load-requires
 load-requires c κs =
@@ -44,7 +44,7 @@ expand-regions-requires c κs =
 
 flood-all-requires : tie.Need-flood-all-requires
 flood-all-requires c κs =
-    let x = c .before .before .before .before .before .before in
+    let x = c .before .before .before .before .before .before .before in
     let t = T x in
     let l = L t in
     let s = S (l .before) in
@@ -52,7 +52,7 @@ flood-all-requires c κs =
     let a = t .turn-stack .ensures .0 in
     let f = t .turn-stack .ensures .1 in
     let q = x .expand-regions .ensures in
-    let e = expanded-as _ _ _ _ _ _ _ _ r _ _ a f _ _ _ (q .0) (q .1 .0) (q .1 .1) .ready in (
+    let e = expanded-as _ _ _ _ _ _ _ _ r _ _ a f _ _ _ (q .0) (q .1 .1 .0) .ready in (
       (e .between .lent, between-placed _ _ _ _ _ _ _ _ _ (e .between) (s .pre .1)),
       ((e .between .stack, e .between .ids-below), held-as _ _ _ _ _ _ _ _ e _ _ a f),
     )
@@ -65,7 +65,28 @@ same-length-2 c = search needs
 
 returns : tie.Need-returns
 returns c =
-    let y = c .before .before .before .before in
+    let x = c .before .before .before .before .before in
+    let t = T x in
+    let l = L t in
+    let s = S (l .before) in
+    let v = s .pre .0 in
+    let k = l .load .kept .1 .1 .1 .0 in
+    let r = ready-turn _ _ _ _ _ _ _ _ _ _ v _ _ _ k (l .load .ensures) in
+    let a = t .turn-stack .ensures .0 in
+    let f = t .turn-stack .ensures .1 in
+    let q = x .expand-regions .ensures in
+    turn-strayed _ _ _ _ _ _ _ _ _ _ v _ _ _ k (l .load .ensures) _ _ (expanded-as _ _ _ _ _ _ _ _ r _ _ a f _ _ _ (q .0) (q .1 .1 .0))
+    _ (strays-as _ _ _ _ _ _ _ _ r _ _ a f _ _ (q .1 .0)) (c .if1 .taken)
+
+same-length-3 : tie.Need-same-length-3
+same-length-3 c = search needs
+
+same-length-4 : tie.Need-same-length-4
+same-length-4 c = search needs
+
+returns-2 : tie.Need-returns-2
+returns-2 c =
+    let y = c .before .before .before .before .before .before in
     let x = X y in
     let t = T x in
     let l = L t in
@@ -76,12 +97,47 @@ returns c =
     let a = t .turn-stack .ensures .0 in
     let f = t .turn-stack .ensures .1 in
     let q = x .expand-regions .ensures in
-    let e = expanded-as _ _ _ _ _ _ _ _ r _ _ a f _ _ _ (q .0) (q .1 .0) (q .1 .1) in
-    let p = y .flood-all .ensures in
-    turned _ _ _ _ _ _ _ _ _ _ v _ _ _ k (l .load .ensures) _ _ e _ _ _
-    (flooded _ _ _ _ _ _ _ _ _ (e .ready) (s .pre .2) _ _ a f _ _ _ _ (p .0) (y .flood-all .kept .1 .1 .1 .1 .0) (p .1 .0) (p .1 .1))
+    let e = expanded-as _ _ _ _ _ _ _ _ r _ _ a f _ _ _ (q .0) (q .1 .1 .0) in
+    turn-out _ _ _ _ _ _ _ _ _ _ v _ _ _ k (l .load .ensures) _ _ e _ (strays-as _ _ _ _ _ _ _ _ r _ _ a f _ _ (q .1 .0)) (y .before .before .before .if1 .left)
+    _ _ _ (flooded _ _ _ _ _ _ _ _ _ (e .ready) _ _ a f _ _ _ _ (y .flood-all .ensures) (y .flood-all .kept .1 .1 .1 .1 .0)) (c .if2 .taken)
+
+same-length-5 : tie.Need-same-length-5
+same-length-5 c = search needs
+
+same-length-6 : tie.Need-same-length-6
+same-length-6 c = search needs
+
+returns-3 : tie.Need-returns-3
+returns-3 c =
+    let y = c .before .before .before .before .before .before in
+    let x = X y in
+    let t = T x in
+    let l = L t in
+    let s = S (l .before) in
+    let v = s .pre .0 in
+    let k = l .load .kept .1 .1 .1 .0 in
+    let r = ready-turn _ _ _ _ _ _ _ _ _ _ v _ _ _ k (l .load .ensures) in
+    let a = t .turn-stack .ensures .0 in
+    let f = t .turn-stack .ensures .1 in
+    let q = x .expand-regions .ensures in
+    let e = expanded-as _ _ _ _ _ _ _ _ r _ _ a f _ _ _ (q .0) (q .1 .1 .0) in
+    turned _ _ _ _ _ _ _ _ _ _ v _ _ _ k (l .load .ensures) _ _ e _ (strays-as _ _ _ _ _ _ _ _ r _ _ a f _ _ (q .1 .0)) (y .before .before .before .if1 .left)
+    _ _ _ (flooded _ _ _ _ _ _ _ _ _ (e .ready) _ _ a f _ _ _ _ (y .flood-all .ensures) (y .flood-all .kept .1 .1 .1 .1 .0)) (c .if2 .left)
 
 pub turn-spec : {M : Type 1} → statement M
 turn-spec =
     tie.close
-    (tie.spec load-requires turn-stack-requires expand-regions-requires flood-all-requires same-length same-length-2 returns)
+    (tie.spec
+    load-requires
+    turn-stack-requires
+    expand-regions-requires
+    same-length
+    same-length-2
+    returns
+    flood-all-requires
+    same-length-3
+    same-length-4
+    returns-2
+    same-length-5
+    same-length-6
+    returns-3)

@@ -1,11 +1,11 @@
 -- The loop's invariant: what is there is what the turns so far leave (`SomeTurns`), count - left of them; each turn adds one (TurnsLaws). The measure
 -- is the turns left. Assumes nothing.
-use mathlib.Core.Path.{_≡_}
+use mathlib.Core.Path.{_≡_, _∙_}
 use Prim.Native.Nat.{suc, _-_, _≤_}
 use native.Mathlib.Omega.{arith}
 use borrow.Author.Needs.{needs}
 use Rattle.growth.specs.Turns.{SomeTurns}
-use Rattle.growth.proofs.TurnsLaws.{turns-start, turns-next, turns-end}
+use Rattle.growth.proofs.TurnsLaws.{turns-start, turns-next, turns-stopped, turns-end}
 use Rattle.growth.proofs.turns.turns.Statement.{statement}
 use Rattle.growth.proofs.turns.turns.Tie as tie
 
@@ -38,28 +38,54 @@ mul-turn c = let a = A c in omega (arith, a .loop .inv .0, S a .pre .1, c .befor
 turn-requires : tie.Need-turn-requires Inv-loop μ-loop
 turn-requires c κs =
     let a = A c in
-    (a .loop .inv .1 .between, S a .pre .0 .1, S a .pre .0 .2)
+    (a .loop .inv .1 .between, S a .pre .0 .1)
 
-loop-less : tie.Need-loop-less Inv-loop μ-loop
-loop-less c = let t = c .before .before .before .before .before in omega (arith, t .before .before .before .loop-test .taken)
-
-loop-again : tie.Need-loop-again Inv-loop μ-loop
-loop-again c =
-    let t = c .before .before .before .before .before in
-    let a = A (t .before) in
-    let s = S a in
-    let h = t .before .before .before .loop-test .taken in
-    let e : s .args .count - (a .loop .left - 1) ≡ suc (s .args .count - a .loop .left) = omega (arith, h, a .loop .inv .0) in
-    (omega (arith, a .loop .inv .0), rw e (turns-next _ _ _ _ _ _ _ _ (s .pre .0 .0) _ _ _ _ _ _ (a .loop .inv .1) _ (omega (arith, h, a .loop .inv .0)) _ _ _ _ _ (t .turn .ensures)))
+-- the turn, where nothing stops it
+abbrev U : tie.After-l Inv-loop μ-loop → tie.After-turn Inv-loop μ-loop
+U c = c .before .before .before .before .before .before .before
 
 same-length : tie.Need-same-length Inv-loop μ-loop
-same-length c = let a = c .before in omega (arith, a .loop .inv .1 .between .ids-below .size, S a .pre .0 .0 .ids-below .size)
+same-length c =
+    let t = c .before .before .before .before .before .before in
+    let a = A (t .before) in
+    omega (arith, t .turn .kept .1 .1 .1 .0, a .loop .inv .1 .between .ids-below .size, S a .pre .0 .0 .ids-below .size)
 
 same-length-2 : tie.Need-same-length-2 Inv-loop μ-loop
-same-length-2 c = c .before .loop .inv .1 .size
+same-length-2 c =
+    let t = c .before .before .before .before .before .before in
+    t .turn .kept .1 .1 .1 .1 .0 ∙ A (t .before) .loop .inv .1 .size
 
 returns : tie.Need-returns Inv-loop μ-loop
 returns c =
+    let t = c .before .before .before .before .before .before in
+    let a = A (t .before) in
+    let s = S a in
+    let h = t .before .before .before .loop-test .taken in
+    turns-stopped _ _ _ _ _ _ _ _ (s .pre .0 .0) _ _ _ _ _ _ (a .loop .inv .1) _ (omega (arith, h, a .loop .inv .0)) _ _ _ _ _ _ (t .turn .ensures)
+    (omega (arith, h, a .loop .inv .0)) (c .if1 .taken) _
+
+loop-less : tie.Need-loop-less Inv-loop μ-loop
+loop-less c = let t = U c in omega (arith, t .before .before .before .loop-test .taken)
+
+loop-again : tie.Need-loop-again Inv-loop μ-loop
+loop-again c =
+    let t = U c in
+    let a = A (t .before) in
+    let s = S a in
+    let h = t .before .before .before .loop-test .taken in
+    let e : s .args .count - (a .loop .left - 1) ≡ suc (s .args .count - a .loop .left) = omega (arith, h, a .loop .inv .0) in (
+      omega (arith, a .loop .inv .0),
+      rw e (turns-next _ _ _ _ _ _ _ _ (s .pre .0 .0) _ _ _ _ _ _ (a .loop .inv .1) _ (omega (arith, h, a .loop .inv .0)) _ _ _ _ _ _ (t .turn .ensures) (c .before .if1 .left)),
+    )
+
+same-length-3 : tie.Need-same-length-3 Inv-loop μ-loop
+same-length-3 c = let a = c .before in omega (arith, a .loop .inv .1 .between .ids-below .size, S a .pre .0 .0 .ids-below .size)
+
+same-length-4 : tie.Need-same-length-4 Inv-loop μ-loop
+same-length-4 c = c .before .loop .inv .1 .size
+
+returns-2 : tie.Need-returns-2 Inv-loop μ-loop
+returns-2 c =
     let a = c .before in
     turns-end _ _ _ _ _ _ _ _ (S a .pre .0 .0) _ _ _ _ _ _ (a .loop .inv .1) (omega (arith, c .loop-test .left))
 
@@ -73,8 +99,11 @@ turns-spec =
     sub-left
     mul-turn
     turn-requires
-    loop-less
-    loop-again
     same-length
     same-length-2
-    returns)
+    returns
+    loop-less
+    loop-again
+    same-length-3
+    same-length-4
+    returns-2)

@@ -4,6 +4,7 @@ use Prim.Native.Nat.{_+_, _≤_}
 use mathlib.Core.Path.{_≡_, refl, _∙_}
 use lib.ListN.{length, set, length-set}
 use denote.Ref.{now}
+use Rattle.rules.specs.Refusals.{mostSpans}
 use Rattle.records.proofs.CountLaws.{slot-room}
 use Rattle.records.proofs.FreshLaws.{floors-fit, renewed-one}
 use native.Mathlib.Omega.{arith}
@@ -14,7 +15,7 @@ use Rattle.records.proofs.fresh.renew_one.Tie as tie
 abbrev S : tie.After-at → tie.Start
 S c = c .before .before .before .before
 
-lower-few : (c : tie.After-at) → S c .args .lower ≤ 32000
+lower-few : (c : tie.After-at) → S c .args .lower ≤ mostSpans
 lower-few c = omega (arith, S c .pre .0 .2, S c .pre .1 .1, slot-room (now (S c .args .ids)) (S c .args .i))
 
 two-stores : (c : tie.After-at) → length (set (set (now (S c .args .ws)) (S c .args .i) (S c .args .i)) (S c .args .m + S c .args .i) 0) ≡ length (now (S c .args .ws))

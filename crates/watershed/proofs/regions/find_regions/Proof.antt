@@ -2,38 +2,35 @@
 -- Assumes nothing.
 use Prim.Native.Nat.{ℕ, _<_}
 use native.Mathlib.Omega.{arith}
-use mathlib.Core.Path.{_∙_, ap}
+use mathlib.Core.Path.{refl, _∙_, ap}
 use borrow.Author.Needs.{needs}
 use lib.ListN.{getD, replicate}
 use denote.Ref.{now}
-use Rattle.watershed.proofs.StageLaws.{areas-are-bytes, few, poised, given, fits, blank, ready, whole, all-clear}
+use Rattle.watershed.proofs.StageLaws.{areas-are-bytes, few, given, fits, blank, ready, whole, all-clear, finds-stop, finds-regions}
 use Rattle.watershed.proofs.regions.find_regions.Statement.{statement}
 use Rattle.watershed.proofs.regions.find_regions.Tie as tie
 
--- the place of the table, the entry, the cleared ids, the cleared part of the workspace, the growth, the records
-abbrev N : tie.After-clear-arg → tie.After-records-end
-N c = c .before
+-- the place of the table, the entry, the growth, the records
+abbrev N : tie.After-grow-regions-arg2 → tie.After-records-end
+N c = c .before .before
 
-abbrev S : tie.After-clear-arg → tie.Start
+abbrev S : tie.After-grow-regions-arg2 → tie.Start
 S c = N c .before .before .before .before .before .before .before .before
 
-abbrev A : tie.After-clear-arg → tie.After-shared-slice-known3
+abbrev A : tie.After-grow-regions-arg2 → tie.After-shared-slice-known3
 A c = N c .before .before .before .before .before
 
-abbrev I : tie.After-clear-part-arg → tie.After-clear
-I c = c .before .before .before
+abbrev G : tie.After-struct-known → tie.After-grow-regions
+G c = c .before .before .before .before .before
 
-abbrev P : tie.After-grow-arg2 → tie.After-clear-part
-P c = c .before .before .before .before
-
-abbrev G : tie.After-build-records-arg2 → tie.After-grow
-G c = c .before .before .before .before .before .before
+abbrev E : tie.After-build-records-arg2 → tie.Else1
+E c = c .before .before .before
 
 abbrev B : tie.After-merge-and-filter-regions-arg2 → tie.After-build-records
 B c = c .before .before .before .before
 
 -- area codes are bytes, as their type says
-bytes : (c : tie.After-clear-arg) (j : ℕ) → getD (now (S c .args .area)) j 0 < 256
+bytes : (c : tie.After-grow-regions-arg2) (j : ℕ) → getD (now (S c .args .area)) j 0 < 256
 bytes c j = omega (arith, A c .shared-slice-known3 .given j)
 
 add-records-end : tie.Need-add-records-end
@@ -44,32 +41,41 @@ records-end-requires c κs =
     let n = few _ _ _ _ _ _ _ _ _ (c .before .before .before .before .before .before .before .pre) in
     (omega (arith, n), n)
 
+grow-regions-requires : tie.Need-grow-regions-requires
+grow-regions-requires c κs = (S c .pre, N c .records-end .ensures)
+
 clear-requires : tie.Need-clear-requires
 clear-requires c κs = search needs
 
-clear-part-requires : tie.Need-clear-part-requires
-clear-part-requires c κs = search needs
+same-length : tie.Need-same-length
+same-length c = search needs
 
-grow-requires : tie.Need-grow-requires
-grow-requires c κs =
-    let k = P c in
-    let i = I (k .before) in
-    let s = S (i .before) in
-    (poised _ _ _ _ _ _ _ _ _ (s .pre) _ (N (i .before) .records-end .ensures) _ _ (i .clear .ensures) (k .clear-part .kept .0) (k .clear-part .ensures .0), s .pre .distances)
+same-length-2 : tie.Need-same-length-2
+same-length-2 c = search needs
+
+returns : tie.Need-returns
+returns c =
+    let x = c .before .before in
+    let t = x .before .before in
+    let g = G (t .before) in (
+      finds-stop _ _ _ _ _ _ _ _ _ _ (g .grow-regions .ensures) (t .if1 .taken) _ refl,
+      (x .clear .ensures ∙ ap (λ (l : ℕ). replicate l 0) (g .grow-regions .kept .1 .1 .1 .1 .1 .1 .1 .1 .1 .0), areas-are-bytes _ _ _ _ _ _ (bytes (g .before))),
+    )
 
 cast-next : tie.Need-cast-next
 cast-next c = search needs
 
 build-records-requires : tie.Need-build-records-requires
 build-records-requires c κs =
-    let g = G c in
-    let k = P (g .before) in
-    let i = I (k .before) in
-    let s = S (i .before) in (
-      given _ _ _ _ _ _ _ _ _ (s .pre) _ (N (i .before) .records-end .ensures) (bytes (i .before)) _ _ _ (k .clear-part .kept .0) _ _ _ (g .grow .ensures) (g .grow .kept .1 .1 .1 .1 .1 .1 .1 .1 .0),
+    let e = E c in
+    let g = G (e .before) in
+    let s = S (g .before) in
+    let r = g .grow-regions .ensures in
+    let z = g .grow-regions .kept .1 .1 .1 .1 .1 .1 .1 .1 .1 .0 in (
+      given _ _ _ _ _ _ _ _ _ (s .pre) _ (N (g .before) .records-end .ensures) (bytes (g .before)) _ _ _ _ _ _ r (e .if1 .left) z,
       (
-        blank _ _ _ _ _ _ _ _ _ (s .pre) _ (N (i .before) .records-end .ensures) (bytes (i .before)) _ _ _ (k .clear-part .kept .0) _ _ _ (g .grow .ensures) (g .grow .kept .1 .1 .1 .1 .1 .1 .1 .1 .0),
-        fits _ _ _ _ _ _ _ _ _ (s .pre) _ (N (i .before) .records-end .ensures) (bytes (i .before)) _ _ _ (k .clear-part .kept .0) _ _ _ (g .grow .ensures) (g .grow .kept .1 .1 .1 .1 .1 .1 .1 .1 .0),
+        blank _ _ _ _ _ _ _ _ _ (s .pre) _ (N (g .before) .records-end .ensures) (bytes (g .before)) _ _ _ _ _ _ r (e .if1 .left) z,
+        fits _ _ _ _ _ _ _ _ _ (s .pre) _ (N (g .before) .records-end .ensures) (bytes (g .before)) _ _ _ _ _ _ r (e .if1 .left) z,
       ),
     )
 
@@ -78,50 +84,41 @@ add-merge-and-filter-regions c = search needs
 
 merge-and-filter-regions-requires : tie.Need-merge-and-filter-regions-requires
 merge-and-filter-regions-requires c κs =
-    let r = B c in
-    let g = G (r .before) in
-    let k = P (g .before) in
-    let i = I (k .before) in
-    let s = S (i .before) in
-    ready _ _ _ _ _ _ _ _ _ (s .pre) _ (N (i .before) .records-end .ensures) (bytes (i .before)) _ _ _ (k .clear-part .kept .0) _ _ _ (g .grow .ensures) (g .grow .kept .1 .1 .1 .1 .1 .1 .1 .1 .0) _ (r .build-records .ensures)
+    let b = B c in
+    let e = E (b .before) in
+    let g = G (e .before) in
+    let s = S (g .before) in
+    ready _ _ _ _ _ _ _ _ _ (s .pre) _ (N (g .before) .records-end .ensures) (bytes (g .before)) _ _ _ _ _ _ (g .grow-regions .ensures) (e .if1 .left) (g .grow-regions .kept .1 .1 .1 .1 .1 .1 .1 .1 .1 .0)
+    _ (b .build-records .ensures)
 
-clear-part-requires-2 : tie.Need-clear-part-requires-2
-clear-part-requires-2 c κs =
+clear-part-requires : tie.Need-clear-part-requires
+clear-part-requires c κs =
     let m = c .before .before .before .before .before in
-    let r = B (m .before) in
-    let g = G (r .before) in
-    let k = P (g .before) in
-    let s = S (I (k .before) .before) in (
-      omega arith,
-      omega
-          (arith, m .merge-and-filter-regions .kept .0, r .build-records .ensures .size, g .grow .kept .1 .1 .1 .1 .1 .1 .1 .1 .0, k .clear-part .kept .0, s .pre .room),
-    )
+    let b = B (m .before) in
+    (omega arith, omega (arith, m .merge-and-filter-regions .kept .0, b .build-records .ensures .size))
 
-same-length : tie.Need-same-length
-same-length c = search needs
+same-length-3 : tie.Need-same-length-3
+same-length-3 c = search needs
 
-same-length-2 : tie.Need-same-length-2
-same-length-2 c =
-    let m = c .before .before .before .before .before .before .before .before in
-    let g = G (B (m .before) .before) in
-    let i = I (P (g .before) .before) in
-    m .merge-and-filter-regions .kept .1 .0 ∙ g .grow .kept .1 .1 .1 .1 .1 .1 .1 .0 ∙ i .clear .kept .0
+same-length-4 : tie.Need-same-length-4
+same-length-4 c = search needs
 
-returns : tie.Need-returns
-returns c =
+returns-2 : tie.Need-returns-2
+returns-2 c =
     let x = c .before .before in
     let m = x .before .before .before .before .before .before in
-    let r = B (m .before) in
-    let g = G (r .before) in
-    let k = P (g .before) in
-    let i = I (k .before) in
-    let s = S (i .before) in (
-      whole _ _ _ _ _ _ _ _ _ (s .pre) _ (N (i .before) .records-end .ensures) (bytes (i .before)) _ _ _ (k .clear-part .kept .0) _ _ _ (g .grow .ensures) (g .grow .kept .1 .1 .1 .1 .1 .1 .1 .1 .0) _ (r .build-records .ensures) _ _ _
-          (m .merge-and-filter-regions .ensures),
+    let b = B (m .before) in
+    let e = E (b .before) in
+    let g = G (e .before) in
+    let s = S (g .before) in
+    let r = g .grow-regions .ensures in
+    let z = g .grow-regions .kept .1 .1 .1 .1 .1 .1 .1 .1 .1 .0 in (
+      finds-regions _ _ _ _ _ _ _ _ _ _ r (e .if1 .left) _
+          (whole _ _ _ _ _ _ _ _ _ (s .pre) _ (N (g .before) .records-end .ensures) (bytes (g .before)) _ _ _ _ _ _ r (e .if1 .left) z _ (b .build-records .ensures) _ _ _
+          (m .merge-and-filter-regions .ensures)),
       (
-        all-clear _ _ (x .clear-part2 .kept .0) (x .clear-part2 .ensures .0)
-            ∙ ap (λ (l : ℕ). replicate l 0) (m .merge-and-filter-regions .kept .0 ∙ r .build-records .ensures .size ∙ g .grow .kept .1 .1 .1 .1 .1 .1 .1 .1 .0 ∙ k .clear-part .kept .0),
-        areas-are-bytes _ _ _ _ _ _ (bytes (i .before)),
+        all-clear _ _ (x .clear-part .kept .0 ∙ m .merge-and-filter-regions .kept .0 ∙ b .build-records .ensures .size) (x .clear-part .ensures .0) ∙ ap (λ (l : ℕ). replicate l 0) z,
+        areas-are-bytes _ _ _ _ _ _ (bytes (g .before)),
       ),
     )
 
@@ -131,14 +128,16 @@ find-regions-spec =
     (tie.spec
     add-records-end
     records-end-requires
+    grow-regions-requires
     clear-requires
-    clear-part-requires
-    grow-requires
+    same-length
+    same-length-2
+    returns
     cast-next
     build-records-requires
     add-merge-and-filter-regions
     merge-and-filter-regions-requires
-    clear-part-requires-2
-    same-length
-    same-length-2
-    returns)
+    clear-part-requires
+    same-length-3
+    same-length-4
+    returns-2)

@@ -3,8 +3,8 @@ use Prim.Native.Nat.{_-_, _≤_}
 use mathlib.Core.Path.{_≡_}
 use lib.ListN.{length}
 use borrow.Author.Needs.{needs}
-use Rattle.limits.proofs.fields.count_up.Statement.{statement}
-use Rattle.limits.proofs.fields.count_up.Tie as tie
+use Rattle.limits.proofs.fields.count_in_twos.Statement.{statement}
+use Rattle.limits.proofs.fields.count_in_twos.Tie as tie
 
 abbrev Inv-loop : tie.InvT-loop
 Inv-loop l₀ i₀ i-end l i = (i-end ≡ length l) × (i ≤ i-end) × (length l ≡ length l₀)
@@ -20,6 +20,9 @@ cast-l c = search needs
 
 mul-l : tie.Need-mul-l Inv-loop μ-loop
 mul-l c = search needs
+
+mul-l-2 : tie.Need-mul-l-2 Inv-loop μ-loop
+mul-l-2 c = search needs
 
 slice-write-l : tie.Need-slice-write-l Inv-loop μ-loop
 slice-write-l c = search needs
@@ -39,8 +42,8 @@ same-length c = search needs
 returns : tie.Need-returns Inv-loop μ-loop
 returns c = search needs
 
-pub count-up-spec : {M : Type 1} → statement M
-count-up-spec =
+pub count-in-twos-spec : {M : Type 1} → statement M
+count-in-twos-spec =
     tie.close
     (tie.spec
     Inv-loop
@@ -48,6 +51,7 @@ count-up-spec =
     loop-holds
     cast-l
     mul-l
+    mul-l-2
     slice-write-l
     add-i
     loop-less

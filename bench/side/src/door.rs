@@ -86,8 +86,9 @@ fn set(field: &mut Field, door: Rect, code: u8) {
     for x in door.x0..=door.x1 {
         let cell = usize::from(x) + usize::from(door.z0) * usize::from(field.w);
         let span = field.index[cell] as usize;
-        assert_eq!(field.count[cell], 1, "the door is on one floor");
-        field.area[span] = code;
+        let storeys = usize::from(field.count[cell]);
+        assert_ne!(storeys, 0, "the door is on a floor");
+        field.area[span..][..storeys].fill(code);
     }
 }
 

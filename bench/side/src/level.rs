@@ -28,19 +28,42 @@ const KINDS: [(&str, &str, u64); 12] = [
     ("63 layers", "layers", 110),
 ];
 
+/// Of the same kinds, levels of some 65,000 spans, or of as many as the kind has.
+const FULL: [(&str, &str, u64); 12] = [
+    ("open", "open", 0),
+    ("terrain", "terrain", 78),
+    ("buildings", "rooms", 28),
+    ("buildings, border 4", "borders", 28),
+    ("blocks", "blocks", 112),
+    ("towers, 3 storeys", "towers", 32),
+    ("spiral", "spiral", 51),
+    ("spiral stairs, 53 layers", "helix", 60),
+    ("corridor", "corridor", 51),
+    ("noise", "random", 38),
+    ("8 layers", "layers", 287),
+    ("63 layers", "layers", 13),
+];
+
 /// The numbers of spans that show how cost grows.
-const STEPS: [usize; 5] = [2_000, 4_000, 8_000, 16_000, 32_000];
+const STEPS: [usize; 6] = [2_000, 4_000, 8_000, 16_000, 32_000, 65_000];
 
 /// Levels of some 31,000 spans, by name; the last three have their own size.
 pub fn large() -> Vec<(String, Case)> {
     let mut all: Vec<_> = KINDS
         .iter()
-        .map(|&(name, kind, seed)| (name.to_owned(), large_of(kind, seed)))
+        .map(|&(name, kind, seed)| (name.to_owned(), level_of(kind, Size::Medium, seed)))
         .collect();
     all.push(("passage".to_owned(), with_settings(passage(8_000))));
     all.push(("sparse".to_owned(), with_settings(sparse())));
     all.push(("halls, 3 layers".to_owned(), with_settings(halls())));
     all
+}
+
+/// Levels of some 65,000 spans, by name.
+pub fn full() -> Vec<(String, Case)> {
+    FULL.iter()
+        .map(|&(name, kind, seed)| (name.to_owned(), level_of(kind, Size::Large, seed)))
+        .collect()
 }
 
 /// A field of a number of spans.
@@ -65,9 +88,9 @@ pub fn growing() -> Vec<(String, Case)> {
     all
 }
 
-fn large_of(kind: &str, seed: u64) -> Case {
+fn level_of(kind: &str, size: Size, seed: u64) -> Case {
     let kind = levels::kind(kind).expect("a kind of the oracle");
-    let mut case = kind.make(Size::Large, seed);
+    let mut case = kind.make(size, seed);
     case.settings = Settings {
         border_size: if case.settings.border_size > 0 && kind.name == "borders" {
             4
@@ -91,9 +114,13 @@ fn open(n: usize) -> Field {
     flat(n, n.isqrt() as u16, |_, _| true)
 }
 
-/// Rooms of 7 by 7 with a door to the right and one below.
+/// Rooms of 7 by 7 with a door to the right and one below; in two storeys where one would not be on the grid.
 pub(crate) fn buildings(n: usize) -> Field {
-    flat(n, (n * 5 / 4).isqrt() as u16, |x, z| match (x % 8, z % 8) {
+    let w = (n * 5 / 4).isqrt();
+    if w > 256 {
+        return storeys(2, buildings(n / 2));
+    }
+    flat(n, w as u16, |x, z| match (x % 8, z % 8) {
         (7, 7) => false,
         (7, along) | (along, 7) => along == 3,
         _ => true,

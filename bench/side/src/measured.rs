@@ -1,9 +1,6 @@
 //! Files of levels and answers, and the marks that a counting emulator sees.
 
-use crate::{
-    level,
-    run::{self, Answer, Entries},
-};
+use crate::run::{self, Answer, Entries};
 use oracle::{
     field::Case,
     file::{self, Limits},
@@ -12,12 +9,7 @@ use std::{env, fs, path::Path};
 
 /// Writes NUMBER.field and NUMBER.answer for each level to a folder, and prints a line for each: its number, its number of spans,
 /// its name.
-pub fn write_levels(folder: &str, growing: bool) {
-    let levels = if growing {
-        level::growing()
-    } else {
-        level::large()
-    };
+pub fn write_levels(folder: &str, levels: Vec<(String, Case)>) {
     for (number, (name, case)) in levels.into_iter().enumerate() {
         let stem = Path::new(folder).join(number.to_string());
         let answer = run::rust(&case, Entries::Both, |_| ());

@@ -132,10 +132,7 @@ pub fn both(field: &Field, settings: Settings) -> Result<(Distances, Regions), R
 }
 
 /// Both entries in turn, in the compared form.
-pub fn both_compared(
-    field: &Field,
-    settings: Settings,
-) -> Result<(Distances, Regions), Refusal> {
+pub fn both_compared(field: &Field, settings: Settings) -> Result<(Distances, Regions), Refusal> {
     let distances = distances(field)?;
     let regions = regions(field, &distances.blurred, distances.max_distance, settings)?;
     Ok((distances, regions))

@@ -70,7 +70,12 @@ fn dense_form() {
     };
     assert_eq!(most(Field::open(3, 3), border(0)), (1, 1));
     assert_eq!(most(Field::open(5, 5), border(1)), (1, 1));
-    for (size, settings) in [(0, border(0)), (0, border(1)), (1, border(0)), (1, border(1))] {
+    for (size, settings) in [
+        (0, border(0)),
+        (0, border(1)),
+        (1, border(0)),
+        (1, border(1)),
+    ] {
         assert_eq!(most(Field::open(size, size), settings), (0, 0));
     }
 }

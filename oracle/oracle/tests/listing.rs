@@ -75,6 +75,7 @@ fn two_floors() {
             .collect(),
         ..floor
     };
-    let text = "max_distance 2 max_region 2 overlaps 0 cut 0\n1/2 1/2 1/2\n1/2 1/2 1/2\n1/2 1/2 1/2\n";
+    let text =
+        "max_distance 2 max_region 2 overlaps 0 cut 0\n1/2 1/2 1/2\n1/2 1/2 1/2\n1/2 1/2 1/2\n";
     assert_eq!(answer(field, Settings::default()), text);
 }

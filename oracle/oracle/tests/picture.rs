@@ -87,7 +87,10 @@ fn regions_that_touch_differ_in_colour() {
 
 #[test]
 fn strips_are_hatched_and_id_0_is_dark() {
-    let (w, _, pixels) = drawn("4", "max_distance 2 max_region 6 overlaps 0 cut 0\n32769 0 5\n");
+    let (w, _, pixels) = drawn(
+        "4",
+        "max_distance 2 max_region 6 overlaps 0 cut 0\n32769 0 5\n",
+    );
     assert_eq!(w, 12);
     assert_ne!(pixels[0], pixels[2]);
     assert!(pixels[4..8].iter().all(|pixel| *pixel == "48 48 56"));
@@ -101,7 +104,10 @@ fn what_is_no_listing_is_told() {
         ("8", "1 1 1\n"),
         ("8", "max_distance 0 max_region 1 overlaps 0 cut 0\n"),
         ("8", "max_distance 0 max_region 1 overlaps 0 cut 0\n\n\n"),
-        ("8", "max_distance 0 max_region 1 overlaps 0 cut 0\n1 1\n1\n"),
+        (
+            "8",
+            "max_distance 0 max_region 1 overlaps 0 cut 0\n1 1\n1\n",
+        ),
         ("8", "max_distance 0 max_region 1 overlaps 0 cut 0\nx\n"),
         ("big", "max_distance 0 max_region 1 overlaps 0 cut 0\n1\n"),
     ] {

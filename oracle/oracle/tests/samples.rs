@@ -66,6 +66,10 @@ fn stories_are_true() {
         let sample = samples.iter().find(|sample| sample.name == name);
         let sample = sample.unwrap_or_else(|| panic!("no sample {name}"));
         let mistaken = Model::with(mistake).compared(&sample.file);
-        assert_ne!(mistaken, Model::RIGHT.compared(&sample.file), "{name} {mistake:?}");
+        assert_ne!(
+            mistaken,
+            Model::RIGHT.compared(&sample.file),
+            "{name} {mistake:?}"
+        );
     }
 }

@@ -46,7 +46,8 @@ fn the_rust_panics_exactly_where_a_sum_exceeds_65535() {
     for (steps, expected) in cases {
         let (field, distances, max_distance) = by_span(steps);
         assert_eq!(stop(&field, &distances, max_distance), expected);
-        let ran = catch_unwind(|| run::unguarded(&field, &distances, max_distance, Settings::default()));
+        let ran =
+            catch_unwind(|| run::unguarded(&field, &distances, max_distance, Settings::default()));
         assert_eq!(ran.is_err(), expected.is_some(), "{} spans", field.spans());
     }
 }

@@ -1,22 +1,23 @@
-//! side levels|growing FOLDER: writes the levels. side gussetraft|checker|rust distance|regions FILE: runs the distance entry, or both, on one.
+//! side levels|growing|full FOLDER: writes the levels. side gussetraft|checker|rust distance|regions FILE: runs the distance entry, or both, on one.
 //! side time FILE [LIBRARY]: the least times of all on one, C++ Recast being in that library. side door build|refresh|checks|time N: a door in buildings of some N spans.
 
 use side::{
-    door,
+    door, level,
     measured::{compare, mark, read_level, write_levels},
     run::{self, Entries},
     timed::{self, Recast},
 };
 use std::env;
 
-const USAGE: &str = "side levels|growing FOLDER, side gussetraft|checker|rust distance|regions FILE, side time FILE [LIBRARY], or side door build|refresh|checks|time N";
+const USAGE: &str = "side levels|growing|full FOLDER, side gussetraft|checker|rust distance|regions FILE, side time FILE [LIBRARY], or side door build|refresh|checks|time N";
 
 fn main() {
     let words: Vec<_> = env::args().skip(1).collect();
     let words: Vec<_> = words.iter().map(String::as_str).collect();
     match words[..] {
-        ["levels", folder] => write_levels(folder, false),
-        ["growing", folder] => write_levels(folder, true),
+        ["levels", folder] => write_levels(folder, level::large()),
+        ["growing", folder] => write_levels(folder, level::growing()),
+        ["full", folder] => write_levels(folder, level::full()),
         ["time", path] => println!(
             "{}",
             timed::line(&timed::times(&read_level(path), path, None))

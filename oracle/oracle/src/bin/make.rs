@@ -13,14 +13,15 @@ use std::{
 };
 
 const HELP: &str = "\
-usage: make [--kind KIND] [--size small|large] [--seed S] [--count N] [--out DIR]
+usage: make [--kind KIND] [--size small|medium|large] [--seed S] [--count N] [--out DIR]
 
 Makes field files. Without --out, one file goes to standard output. With --out,
 N files of the seeds S, S+1, .. go to DIR as KIND-SEED.field.
 
   --kind KIND  make this kind only; without it all kinds take turns
-  --size SIZE  small (up to 1,024 cells and 200 spans; without --size) or
-               large (up to 256 by 256 cells and 32,000 spans; sound kinds only)
+  --size SIZE  small (up to 1,024 cells and 200 spans; without --size), medium
+               or large (up to 256 by 256 cells and 32,000 or 65,000 spans;
+               sound kinds only)
   --seed S     the first seed (without it 0)
   --count N    how many files (without it 1)
   --list       list the kinds
@@ -44,7 +45,7 @@ impl Recipe {
         let sound = KINDS.iter().map(Self::Sound);
         match size {
             Size::Small => sound.chain(DAMAGES.iter().map(Self::Damaged)).collect(),
-            Size::Large => sound.collect(),
+            Size::Medium | Size::Large => sound.collect(),
         }
     }
 
@@ -122,7 +123,9 @@ impl Order {
     }
 
     fn fill(&self) -> Result<(), String> {
-        if let (Some(Recipe::Damaged(damage)), Size::Large) = (self.recipe, self.size) {
+        if let (Some(Recipe::Damaged(damage)), Size::Medium | Size::Large) =
+            (self.recipe, self.size)
+        {
             return Err(format!("{} is always small", damage.name));
         }
         let recipes = self
@@ -153,6 +156,7 @@ impl Order {
 fn size(value: &str) -> Result<Size, String> {
     match value {
         "small" => Ok(Size::Small),
+        "medium" => Ok(Size::Medium),
         "large" => Ok(Size::Large),
         _ => Err(format!("{value} is not a size; see --help")),
     }

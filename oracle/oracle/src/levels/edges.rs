@@ -13,7 +13,9 @@ pub fn apart(spans: usize) -> Field {
     Field {
         w: WIDTH as u16,
         h: rows as u16,
-        index: (0..WIDTH * rows).map(|cell| cell.min(spans) as u32).collect(),
+        index: (0..WIDTH * rows)
+            .map(|cell| cell.min(spans) as u32)
+            .collect(),
         count: (0..WIDTH * rows).map(has_span).collect(),
         area: vec![1; spans],
         con: vec![255; 4 * spans],

@@ -18,6 +18,8 @@ pub use long_corridor::long_corridor;
 pub enum Size {
     /// Small enough for the program that reads files.
     Small,
+    /// Up to 32,000 spans, where neither ids nor source distances can run out.
+    Medium,
     /// Up to the limits of the two entries.
     Large,
 }
@@ -26,6 +28,10 @@ impl Size {
     fn limits(self) -> Limits {
         match self {
             Self::Small => Limits::PROGRAM,
+            Self::Medium => Limits {
+                cells: 256 * 256,
+                spans: 32_000,
+            },
             Self::Large => Limits {
                 cells: 256 * 256,
                 spans: 65_000,

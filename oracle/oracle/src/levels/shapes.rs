@@ -180,7 +180,7 @@ pub fn helix(rng: &mut Rng, size: Size) -> Field {
     let radius = hole
         + match size {
             Size::Small => rng.within(1..=4),
-            Size::Large => rng.within(3..=18),
+            Size::Medium | Size::Large => rng.within(3..=18),
         };
     let side = 2 * radius as u16 + 1;
     let (hole, radius) = (hole as i32, radius as i32);

@@ -42,7 +42,8 @@ fn grow_painted(
 ) -> Growth
     requires { ⌜ Between (now area) (now con) at next [] 7 (now ids) (now ws) × (length (now dist) ≡ length (now area)) ⌝ }
     ensures { λ r. ⌜ (let ids₀ = now (ids .entry) in let ws₀ = now (ws .entry) in
-        Grew (now (area .entry)) (now (dist .entry)) (at .table) «max_distance» next ids₀ ws₀ (r .next) (r .stop) (now (ids .exit)) (now (ws .exit))) ⌝ }
+        let area₀ = now (area .entry) in let dist₀ = now (dist .entry) in
+        Grew area₀ dist₀ (at .table) «max_distance» next ids₀ ws₀ (r .next) (r .stop) (now (ids .exit)) (now (ws .exit))) ⌝ }
 {
     let count = max_distance / 2 + max_distance % 2;
     let g = turns(area, con, dist, ids, ws, at, count, next);

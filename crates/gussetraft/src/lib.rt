@@ -61,7 +61,8 @@ fn numbers(a: DistanceAnswer) -> Distances
 }
 
 fn region_numbers(a: RegionAnswer) -> Regions
-    ensures { λ r. ⌜ (r .refusal ≡ regionsRefusedBy a) × (r .«max_region» ≡ maxRegionIn a) × (r .overlaps ≡ overlapsIn a) × (r .cut ≡ cutIn a) ⌝ }
+    ensures { λ r. ⌜ (r .refusal ≡ regionsRefusedBy a) × (r .«max_region» ≡ maxRegionIn a)
+        × (r .overlaps ≡ overlapsIn a) × (r .cut ≡ cutIn a) ⌝ }
 {
     match a {
         RegionAnswer::Refused(r) => Regions {

@@ -187,7 +187,7 @@ rename-all-bare old new [] = refl
 rename-all-bare old new (r ∷ rs) =
     ap (λ (x : Rec). x ∷ map (renamed old new) (map bare rs)) (renamed-bare old new r) ∙ ap (λ (l : List Rec). bare (renamed old new r) ∷ l) (rename-all-bare old new rs)
 
--- may b, at r, be picked for a?
+-- whether b, at r, may be picked for a
 abbrev fits : Rec → ℕ → Rec → ℕ → Bool
 fits a r b size = not (flagged r) and not (eqb (b .id) 0) and not (b .overlap) and ltb (b .count) size and suits a b and suits b a
 

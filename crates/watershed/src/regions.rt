@@ -118,7 +118,8 @@ fn grow_regions(
     ids: &mut [u16],
     table: usize,
 ) -> Growth
-    requires { ⌜ Admitted (lent w h (now index) (now count) (now area) (now con)) (now dist) (now ws) (now ids) × (table ≡ tableAt (length (now area))) ⌝ }
+    requires { ⌜ Admitted (lent w h (now index) (now count) (now area) (now con)) (now dist) (now ws) (now ids)
+        × (table ≡ tableAt (length (now area))) ⌝ }
     ensures { λ r. ⌜ (let F = lent w h (now (index .entry)) (now (count .entry)) (now (area .entry)) (now (con .entry)) in
         let ids₀ = now (ids .entry) in
         Raised F (now (dist .entry)) «max_distance» «border_size» table ids₀ (r .next) (r .stop) (now (ids .exit)) (now (ws .exit))) ⌝ }

@@ -1,0 +1,4 @@
+pub mod FillLaws
+pub mod Joining
+pub mod Filled
+pub mod Numbered

@@ -1,0 +1,2 @@
+-- What the promises of plain rooms cite.
+pub mod Stack

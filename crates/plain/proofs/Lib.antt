@@ -1,4 +1,8 @@
+-- Laws of plain rooms.
 pub mod FillLaws
 pub mod Joining
 pub mod Filled
 pub mod Numbered
+pub mod Checks
+pub mod Stages
+pub mod Outcome

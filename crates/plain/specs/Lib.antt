@@ -1,2 +1,4 @@
 -- What the promises of plain rooms cite.
 pub mod Stack
+pub mod Stages
+pub mod Answer

@@ -6,3 +6,7 @@ pub mod Numbered
 pub mod Checks
 pub mod Stages
 pub mod Outcome
+pub mod Spreading
+pub mod Scanning
+pub mod Meaning
+pub mod Calls

@@ -19,7 +19,7 @@ ghost use Rattle.space.specs.Space.{sec};
 ghost use Rattle.field.specs.Lent.{lent};
 ghost use Rattle.checker.specs.Answer.{verdictNumber};
 ghost use Rattle.plain.specs.Stages.{Admitted, Finds};
-ghost use Rattle.plain.specs.Answer.{outcome};
+ghost use Rattle.plain.specs.Answer.{outcome, GivesPlainRooms};
 
 // What the entry gives: the refusal, or max_region.
 pub enum RoomsAnswer {
@@ -108,6 +108,8 @@ pub fn build_rooms(
 ) -> RoomsAnswer
     ensures { λ r. ⌜ (let F = lent w h (now (index .entry)) (now (count .entry)) (now (area .entry)) (now (con .entry)) in
         outcome r (now (workspace .exit)) (now (ids .exit)) ≡ roomsOutcome F «border_size» (now (workspace .entry)) (now (ids .entry))) ⌝ }
+    ensures rooms { λ r. ⌜ (let F = lent w h (now (index .entry)) (now (count .entry)) (now (area .entry)) (now (con .entry)) in
+        GivesPlainRooms F «border_size» r (now (ids .exit))) ⌝ }
 {
     let width = w as usize;
     let height = h as usize;

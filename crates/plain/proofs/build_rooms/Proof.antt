@@ -2,11 +2,13 @@
 -- there are too many rooms. Assumes nothing.
 use mathlib.Core.Path.{_∙_, ap}
 use Prim.Native.Nat.{ℕ}
+use native.Mathlib.Omega.{arith}
 use denote.Ref.{now}
 use lib.ListN.{replicate}
 use borrow.Author.Needs.{needs}
 use Rattle.plain.proofs.Checks.{rooms-admitted}
 use Rattle.plain.proofs.Outcome.{rooms-refused, rooms-run-out, rooms-done}
+use Rattle.plain.proofs.Calls.{lent-bytes, call-gives-plain-rooms, refused-no-rooms}
 use Rattle.plain.proofs.build_rooms.Statement.{statement}
 use Rattle.plain.proofs.build_rooms.Tie as tie
 
@@ -22,6 +24,10 @@ T c = c .before .before .before
 
 abbrev S : tie.After-check-rooms → tie.Start
 S c = c .before .before .before .before .before .before .before
+
+-- what is lent as areas
+abbrev B : tie.After-check-rooms → tie.After-shared-slice-known3
+B c = c .before .before .before .before
 
 check-rooms-requires : tie.Need-check-rooms-requires
 check-rooms-requires c κs = search needs
@@ -53,12 +59,14 @@ returns c =
     let f = F z in
     let t = T f in
     let k = t .before .before in
-    let s = S k in
-    rooms-run-out _ _ (now (s .args .workspace)) (now (s .args .ids)) (k .check-rooms .result) (k .check-rooms .ensures) (t .enum-told .given .1) _ _ (f .find-rooms .ensures) _
-    (z .clear .ensures ∙ ap (λ (n : ℕ). replicate n 0) (f .find-rooms .kept .1 .1 .1 .1 .1 .1 .1 .0)) (c .if1 .taken)
+    let s = S k in (
+      rooms-run-out _ _ (now (s .args .workspace)) (now (s .args .ids)) (k .check-rooms .result) (k .check-rooms .ensures) (t .enum-told .given .1) _ _ (f .find-rooms .ensures) _
+          (z .clear .ensures ∙ ap (λ (n : ℕ). replicate n 0) (f .find-rooms .kept .1 .1 .1 .1 .1 .1 .1 .0)) (c .if1 .taken),
+      refused-no-rooms _ _ _ _,
+    )
 
 returns-2 : tie.Need-returns-2
-returns-2 c = search (needs, rooms-refused)
+returns-2 c = (search (needs, rooms-refused), search (needs, refused-no-rooms))
 
 same-length-3 : tie.Need-same-length-3
 same-length-3 c = search needs
@@ -73,8 +81,11 @@ returns-3 c =
     let t = T f in
     let k = t .before .before in
     let s = S k in
-    rooms-done _ _ (now (s .args .workspace)) (now (s .args .ids)) (k .check-rooms .result) (k .check-rooms .ensures) (t .enum-told .given .1) _ _ (f .find-rooms .ensures) _
-    (z .clear .ensures ∙ ap (λ (n : ℕ). replicate n 0) (f .find-rooms .kept .1 .1 .1 .1 .1 .1 .1 .0)) (c .if1 .left)
+    let ws = now (s .args .workspace) in
+    let ids = now (s .args .ids) in
+    let done = rooms-done _ _ ws ids (k .check-rooms .result) (k .check-rooms .ensures) (t .enum-told .given .1) _ _ (f .find-rooms .ensures) _
+    (z .clear .ensures ∙ ap (λ (n : ℕ). replicate n 0) (f .find-rooms .kept .1 .1 .1 .1 .1 .1 .1 .0)) (c .if1 .left) in
+    (done, call-gives-plain-rooms _ _ ws ids _ _ _ done (lent-bytes _ _ _ _ (now (s .args .area)) _ (λ i. omega (arith, B k .shared-slice-known3 .given i))))
 
 pub build-rooms-spec : {M : Type 1} → statement M
 build-rooms-spec =

@@ -117,7 +117,7 @@ fn begin_room(
 }
 
 // The rooms of all spans that have no id yet, in scan order. Gives how many there are.
-pub fn number_rooms(area: &[u8], ids: &mut [u16], ws: &mut [u16], table: usize) -> u16
+pub(crate) fn number_rooms(area: &[u8], ids: &mut [u16], ws: &mut [u16], table: usize) -> u16
     requires { ⌜ Held table (now area) (now ws) × (length (now ids) ≡ length (now area)) ⌝ }
     ensures { λ r. ⌜ roomsAt (now (ids .exit)) r
         ≡ upto (length (now (area .entry))) (begins (netAt table (now (area .entry)) (now (ws .entry)))) (roomsAt (now (ids .entry)) 0) ⌝ }

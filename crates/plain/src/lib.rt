@@ -1,5 +1,5 @@
 // Plain rooms: one id for each set of walkable spans of one area that connections join, numbered in scan order of the first span.
-pub mod fill;
+mod fill;
 
 use crate::fill::number_rooms;
 use checker::Refusal;

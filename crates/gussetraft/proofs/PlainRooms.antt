@@ -7,7 +7,7 @@ use Rattle.rules.specs.Field.{Field}
 use Rattle.rules.specs.Plain.{RoomsOutcome}
 use Rattle.plain.specs.declared.RoomsAnswer.{RoomsAnswer}
 use Rattle.plain.specs.Answer.{roomsRefusedBy, roomsMostIn, outcome, GivesPlainRooms}
-use Rattle.gussetraft.specs.declared.rooms.Rooms.{Rooms}
+use Rattle.gussetraft.specs.declared.roomids.Rooms.{Rooms}
 use Rattle.gussetraft.specs.PlainRooms.{GivesRooms, LeavesPlainRooms}
 
 pub gives-rooms : (o : RoomsOutcome) (a : RoomsAnswer) (r : Rooms) (ws ids : List ℕ) → outcome a ws ids ≡ o

@@ -5,7 +5,7 @@ use mathlib.Core.List.{List}
 use Rattle.rules.specs.Field.{Field}
 use Rattle.rules.specs.Plain.{RoomsOutcome}
 use Rattle.plain.specs.PlainRooms.{PlainRooms}
-use Rattle.gussetraft.specs.declared.rooms.Rooms.{Rooms}
+use Rattle.gussetraft.specs.declared.roomids.Rooms.{Rooms}
 
 pub record GivesRooms (o : RoomsOutcome) (r : Rooms) (workspace ids : List ℕ) : Type 0 where
   pub refusal : r .refusal ≡ o .refused

@@ -1,5 +1,5 @@
 // The functions that C and Rust call (include/gussetraft.h). They take any input, as the entries do.
-pub mod rooms;
+pub mod roomids;
 
 use checker::refusal_number;
 use mend::MendAnswer;

@@ -73,12 +73,19 @@ fn as_many_rooms_as_there_can_be_and_one_more() {
 fn refused() {
     let field = Field::open(7, 5);
     let n = field.spans();
-    let wide = Field { w: 257, ..field.clone() };
+    let wide = Field {
+        w: 257,
+        ..field.clone()
+    };
     let mut astray = field.clone();
     astray.con[0] = 3;
     let mut unanswered = field.clone();
     unanswered.con[2] = 255;
-    for (name, field) in [("wide", wide), ("astray", astray), ("unanswered", unanswered)] {
+    for (name, field) in [
+        ("wide", wide),
+        ("astray", astray),
+        ("unanswered", unanswered),
+    ] {
         check(name, &field, 1, workspace_len(n), n);
     }
     check("an id more", &field, 1, workspace_len(n), n + 1);

@@ -49,7 +49,11 @@ fn too_many_rooms() {
             con: vec![255; 4 * spans],
         };
         let found = rooms(&field, 0).map(|found| found.max_region);
-        let expected = if few { Ok(32_767) } else { Err(Refusal::IdsRunOut) };
+        let expected = if few {
+            Ok(32_767)
+        } else {
+            Err(Refusal::IdsRunOut)
+        };
         assert_eq!(found, expected);
     }
 }

@@ -34,8 +34,8 @@ extern "C" {
 #define GUSSETRAFT_WORKSPACE_LEN(n) ((size_t)128 * (size_t)(n) + (size_t)4096)
 
 /* Refusals, looked for in this order; the first that applies is given. 7, 8, 12 and 13 are given by the two region functions alone, 11 and 31 by
- * gussetraft_refresh_distance_field alone, 27 by gussetraft_mend alone, which gives 1 to 4 beside it. A refused call changes nothing that was
- * lent, but 12 and 13 leave a workspace of zeros. */
+ * gussetraft_refresh_distance_field alone, 27 by gussetraft_mend alone, which gives 1 to 4 beside it; gussetraft_build_rooms gives 1 to 7 and
+ * 12. A refused call changes nothing that was lent, but 12 and 13 leave a workspace of zeros. */
 enum {
     GUSSETRAFT_TOO_WIDE = 1,     /* w or h above 256 */
     GUSSETRAFT_TOO_MANY = 2,     /* n above 65,000 */
@@ -46,7 +46,8 @@ enum {
     GUSSETRAFT_TOO_SHORT = 7,    /* workspace_len is below GUSSETRAFT_WORKSPACE_LEN(n) */
     GUSSETRAFT_TOO_FAR = 8,      /* max_distance is above 510, or a distance is above max_distance */
     GUSSETRAFT_WRONG_RECT = 11,  /* the rectangle is empty or not in the field */
-    GUSSETRAFT_NO_IDS = 12,      /* a successful flood would make the next id 0x8000; never with at most 32,000 spans */
+    GUSSETRAFT_NO_IDS = 12,      /* a successful flood would make the next id 0x8000, or there are more than 32,767 plain rooms; never with at most
+                                  * 32,000 spans */
     GUSSETRAFT_NO_SUM = 13,      /* a source distance in expansion would exceed 65,535; never with at most 32,000 spans */
     GUSSETRAFT_NO_ROOM = 27,     /* there are more changes than places in their list */
     GUSSETRAFT_WRONG_STORED = 31 /* a stored pass 1 or raw value is above 510 */
@@ -65,7 +66,7 @@ static inline const char *gussetraft_refusal_text(uint16_t refusal) {
     case GUSSETRAFT_TOO_SHORT: return "the workspace is shorter than 128 numbers a span and 4,096";
     case GUSSETRAFT_TOO_FAR: return "the greatest distance is above 510, or a distance is above the greatest";
     case GUSSETRAFT_WRONG_RECT: return "the rectangle is empty or not in the field";
-    case GUSSETRAFT_NO_IDS: return "ids run out: a successful flood would make the next id 0x8000";
+    case GUSSETRAFT_NO_IDS: return "ids run out: the next would be 0x8000";
     case GUSSETRAFT_NO_SUM: return "a source distance in expansion would exceed 65,535";
     case GUSSETRAFT_WRONG_STORED: return "a stored pass 1 or raw value is above 510";
     case GUSSETRAFT_NO_ROOM: return "there are more changes than places in their list";
@@ -222,6 +223,28 @@ gussetraft_mend_answer gussetraft_mend(
     const uint8_t *area, size_t area_len,
     uint8_t *con, size_t con_len,
     uint16_t *changes, size_t changes_len);
+
+/* refusal: 0, or the number of the refusal; max_region, the number of rooms and so the greatest id of one: 0 where refused. */
+typedef struct {
+    uint16_t refusal;
+    uint16_t max_region;
+} gussetraft_room_answer;
+
+/* Plain rooms, with no watershed: one id for each set of walkable spans of one area that connections join, numbered from 1 in the order of
+ * their first spans. The border is painted as gussetraft_build_regions paints it, and painted spans join nothing. Two walkable spans of one
+ * area that are not painted have the same id exactly if a chain of such spans joins them; a span of area 0 has id 0.
+ *
+ * Refusals: 1 to 7, and then 12 where there are more than 32,767 rooms, which takes as many spans. The workspace is that of
+ * gussetraft_build_regions and holds zeros after a call that is not refused, or is refused 12; ids then hold what they held. */
+gussetraft_room_answer gussetraft_build_rooms(
+    uint16_t w, uint16_t h,
+    const uint32_t *index, size_t index_len,
+    const uint8_t *count, size_t count_len,
+    const uint8_t *area, size_t area_len,
+    const uint8_t *con, size_t con_len,
+    uint16_t border_size,
+    uint16_t *workspace, size_t workspace_len,
+    uint16_t *ids, size_t ids_len);
 
 #ifdef __cplusplus
 }

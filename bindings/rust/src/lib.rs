@@ -131,7 +131,8 @@ pub enum Refusal {
     TooFar = 8,
     /// 11: the rectangle is empty or not in the field.
     WrongRect = 11,
-    /// 12: ids run out: a successful flood would make the next id 0x8000. Never with at most 32,000 spans.
+    /// 12: ids run out: a successful flood would make the next id 0x8000, or there are more than 32,767 plain rooms. Never with
+    /// at most 32,000 spans.
     NoIds = 12,
     /// 13: a source distance in expansion would exceed 65,535. Never with at most 32,000 spans.
     NoSum = 13,
@@ -193,7 +194,7 @@ impl Refusal {
                 "the greatest distance is above 510, or a distance is above the greatest"
             }
             Self::WrongRect => "the rectangle is empty or not in the field",
-            Self::NoIds => "ids run out: a successful flood would make the next id 0x8000",
+            Self::NoIds => "ids run out: the next would be 0x8000",
             Self::NoSum => "a source distance in expansion would exceed 65,535",
             Self::WrongStored => "a stored pass 1 or raw value is above 510",
             Self::NoRoom => "there are more changes than places in their list",
@@ -463,4 +464,44 @@ pub fn refresh_distance_field(
         pass2_rows: c..=d,
         blur_rows: e..=f,
     })
+}
+
+/// Plain rooms, with no watershed: one id for each set of walkable spans of one area that connections join. Gives the number of
+/// rooms, which is the greatest id of one.
+///
+/// Rooms are numbered from 1 in the order of their first spans. The border is painted as [`build_regions`] paints it, and
+/// painted spans join nothing. Two walkable spans of one area that are not painted have the same id exactly if a chain of such
+/// spans joins them; a span that is not walkable has id 0. The workspace is that of [`build_regions`].
+///
+/// ```
+/// use gussetraft::{build_rooms, workspace_len, Field, Refusal, NO_CONNECTION};
+///
+/// // Six cells in a row, all joined; the third is a wall, and the last two are another area.
+/// let mut con = [NO_CONNECTION; 24];
+/// for x in 0..5 {
+///     con[4 * x + 2] = 0;
+///     con[4 * (x + 1)] = 0;
+/// }
+/// let area = [1, 1, 0, 1, 2, 2];
+/// let field = Field { w: 6, h: 1, index: &[0, 1, 2, 3, 4, 5], count: &[1; 6], area: &area, con: &con };
+/// let (mut workspace, mut ids) = (vec![0; workspace_len(6)], [0; 6]);
+/// let rooms = build_rooms(&field, 0, &mut workspace, &mut ids)?;
+/// assert_eq!(ids, [1, 1, 0, 2, 3, 3]);
+/// assert_eq!(rooms, 3);
+/// # Ok::<(), Refusal>(())
+/// ```
+///
+/// # Errors
+///
+/// Refusals 1 to 7. The workspace and the ids then hold what they held before. And 12 where there are more than 32,767 rooms:
+/// the ids then hold what they held before, the workspace zeros.
+pub fn build_rooms(
+    field: &Field<'_>,
+    border_size: u16,
+    workspace: &mut [u16],
+    ids: &mut [u16],
+) -> Result<u16, Refusal> {
+    let answer = sys::rooms(field, border_size, workspace, ids);
+    accepted(answer.refusal)?;
+    Ok(answer.max_region)
 }

@@ -33,8 +33,27 @@ pub struct MendAnswer {
     pub count: u32,
 }
 
+/// What plain rooms answer.
+#[repr(C)]
+#[derive(Debug, Clone, Copy, PartialEq, Eq)]
+pub struct RoomAnswer {
+    pub refusal: u16,
+    pub max_region: u16,
+}
+
 #[rustfmt::skip]
 unsafe extern "C" {
+    fn gussetraft_build_rooms(
+        w: u16, h: u16,
+        index: *const u32, index_len: usize,
+        count: *const u8, count_len: usize,
+        area: *const u8, area_len: usize,
+        con: *const u8, con_len: usize,
+        border_size: u16,
+        workspace: *mut u16, workspace_len: usize,
+        ids: *mut u16, ids_len: usize,
+    ) -> RoomAnswer;
+
     fn gussetraft_build_distance_field(
         w: u16, h: u16,
         index: *const u32, index_len: usize,
@@ -226,6 +245,24 @@ pub fn mend(field: &Field, con: &mut [u8], changes: &mut [u16]) -> MendAnswer {
             field.area.as_ptr(), field.area.len(),
             con.as_mut_ptr(), con.len(),
             changes.as_mut_ptr(), changes.len(),
+        )
+    }
+}
+
+/// Plain rooms.
+#[rustfmt::skip]
+pub fn rooms(field: &Field, border_size: u16, workspace: &mut [u16], ids: &mut [u16]) -> RoomAnswer {
+    // SAFETY: as above.
+    unsafe {
+        gussetraft_build_rooms(
+            field.w, field.h,
+            field.index.as_ptr(), field.index.len(),
+            field.count.as_ptr(), field.count.len(),
+            field.area.as_ptr(), field.area.len(),
+            field.con.as_ptr(), field.con.len(),
+            border_size,
+            workspace.as_mut_ptr(), workspace.len(),
+            ids.as_mut_ptr(), ids.len(),
         )
     }
 }

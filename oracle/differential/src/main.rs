@@ -8,6 +8,7 @@ mod files;
 mod large;
 mod lent;
 mod library;
+mod plain;
 mod small;
 mod stops;
 mod tally;
@@ -26,6 +27,7 @@ struct Order {
     edited: u64,
     edges: u64,
     doors: u64,
+    rooms: u64,
     seed: u64,
 }
 
@@ -77,9 +79,15 @@ fn run() -> Result<bool, String> {
     if doors.fields > 0 {
         print!("refreshes by kind, and their answers:\n{doors}");
     }
-    if [&small, &large, &winding, &stops, &edited, &files, &doors]
-        .iter()
-        .any(|tally| tally.is_enough())
+    let rooms = plain::compare(seed, order.rooms);
+    if rooms.fields > 0 {
+        print!("plain rooms by kind, and their answers:\n{rooms}");
+    }
+    if [
+        &small, &large, &winding, &stops, &edited, &files, &doors, &rooms,
+    ]
+    .iter()
+    .any(|tally| tally.is_enough())
     {
         println!("{ended}");
     }
@@ -89,14 +97,16 @@ fn run() -> Result<bool, String> {
         + stops.differences
         + edited.differences
         + files.differences
-        + doors.differences;
+        + doors.differences
+        + rooms.differences;
     println!(
-        "compared {} small, {} large, {} edited fields, {} files mended, {} fields with doors: {differences} differences",
+        "compared {} small, {} large, {} edited fields, {} files mended, {} fields with doors, {} with plain rooms: {differences} differences",
         small.fields,
         large.fields + winding.fields + stops.fields,
         edited.fields,
         files.fields,
-        doors.fields
+        doors.fields,
+        rooms.fields
     );
     Ok(differences == 0)
 }
@@ -112,6 +122,7 @@ fn order() -> Result<Order, String> {
         edited: 7_000,
         edges: 2,
         doors: 3_000,
+        rooms: 2_000,
         seed: 0,
     };
     while let Some(option) = arguments.next() {
@@ -127,6 +138,7 @@ fn order() -> Result<Order, String> {
             "--edited" => order.edited = number,
             "--edges" => order.edges = number,
             "--doors" => order.doors = number,
+            "--rooms" => order.rooms = number,
             "--seed" => order.seed = number,
             _ => {
                 return Err(format!(

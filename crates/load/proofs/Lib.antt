@@ -1,1 +1,3 @@
 mod Ways
+pub mod Pieces
+pub mod Loads

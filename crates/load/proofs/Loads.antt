@@ -56,3 +56,420 @@ set-over l old i v e h =
     let k : length (l ++ (v ∷ [])) ≡ suc (length l) = length-append l (v ∷ []) ∙ add-one (length l) in
     rw (e, drop-cons old (length l) 0 g, set-append-seam l (getD old (length l) 0) (drop (suc (length l)) old) v, k)
     (sym (append-assoc l (v ∷ []) (drop (suc (length l)) old)))
+
+-- ---------------------------------------------------------------- the loading as it goes
+
+-- what a caller is told who loads these bytes and declares the end
+unfoldable pub tell : List ℕ → Loading → Told
+tell bytes x = let y = feed bytes x in told (with y (loadEnd (y .loader)))
+
+stopped : (l : Loader) (n p : ℕ) → (n ≡ 0 → ⊥) → going (refusing n p l) ≡ false
+unfolding going refusing _and_
+stopped l n p h = rw (ne-eqb n 0 h)
+
+told-refused : (x : Loading) (n p : ℕ) → (n ≡ 0 → ⊥) → told (with x (refusing n p (x .loader))) ≡ refusedTold n p (x .index) (x .count) (x .area) (x .con)
+unfolding told with refusing if_then_else_
+told-refused x n p h = rw (ne-eqb n 0 h)
+
+with-loader : (x : Loading) (l : Loader) → going l ≡ false → going (with x l .loader) ≡ false
+unfolding with
+with-loader x l e = e
+
+with-again : (x : Loading) (l : Loader) → with (with x l) (with x l .loader) ≡ with x l
+unfolding with
+with-again x l = refl
+
+-- a byte that is no kind in place
+refuses : (x : Loading) (b : ℕ) → (b ≡ wanted (x .loader) → ⊥) → going (x .loader) ≡ true → x .loader .kind ≡ 0 → byteIn x b ≡ with x (refusing 20 (x .loader .received) (x .loader))
+unfolding byteIn taken kindByte if_then_else_
+refuses x b n g k = rw (g, eq-eqb (x .loader .kind) 0 k, ne-eqb b (wanted (x .loader)) n)
+
+-- a byte after the end record
+after-refuses : (x : Loading) (b : ℕ) → going (x .loader) ≡ true → x .loader .kind ≡ 4 → byteIn x b ≡ with x (refusing 20 (x .loader .received) (x .loader))
+unfolding byteIn taken if_then_else_
+after-refuses x b g k = rw (g, k)
+
+-- a refusal is told, whatever comes after
+tell-refused : (bytes : List ℕ) (x : Loading) (n p : ℕ) → (n ≡ 0 → ⊥)
+    → tell bytes (with x (refusing n p (x .loader))) ≡ refusedTold n p (x .index) (x .count) (x .area) (x .con)
+unfolding tell
+tell-refused bytes x n p h =
+    let m = refusing n p (x .loader) in
+    let g : going (with x m .loader) ≡ false = with-loader x m (stopped (x .loader) n p h) in
+    rw (feed-nothing bytes (with x m) g, end-changes-nothing (with x m .loader) g, with-again x m) (told-refused x n p h)
+
+tell-next : (b : ℕ) (bytes : List ℕ) (x : Loading) → tell (b ∷ bytes) x ≡ tell bytes (byteIn x b)
+unfolding tell feed
+tell-next b bytes x = refl
+
+tell-step : (b : ℕ) (bytes : List ℕ) (x y : Loading) (t : Told) → byteIn x b ≡ y → tell bytes y ≡ t → tell (b ∷ bytes) x ≡ t
+tell-step b bytes x y t e f = tell-next b bytes x ∙ ap (tell bytes) e ∙ f
+
+module _ (M N : ℕ) (index₀ count₀ area₀ con₀ : List ℕ) (w h : ℕ) (z : Sizes) where
+  -- under way in a record of that kind, with so many bytes of its body, at place p; s spans are whole; F is the field so far
+  unfoldable pub stage : ℕ → ℕ → ℕ → ℕ → ℕ → ℕ → Field → Loading
+  stage kind got start p s due F = record {
+    loader = record {
+      mostCells = M;
+      mostSpans = N;
+      kind = kind;
+      got = got;
+      start = start;
+      received = capped p;
+      w = w;
+      h = h;
+      border = z .border;
+      least = z .least;
+      merge = z .merge;
+      cells = length (F .index);
+      spans = s;
+      due = due;
+      refusal = 0;
+      position = 0;
+      ended = 0;
+    };
+    index = over (F .index) index₀;
+    count = over (F .count) count₀;
+    area = over (F .area) area₀;
+    con = over (F .con) con₀;
+  }
+
+  goes : (kind got start p s due : ℕ) (F : Field) → going (stage kind got start p s due F .loader) ≡ true
+  unfolding stage going _and_
+  goes kind got start p s due F = refl
+
+  abbrev tells : Placed → Told
+  tells = toldBy index₀ count₀ area₀ con₀
+
+  -- cut short
+  tell-cut : (kind got start p s due : ℕ) (F : Field) → (kind ≡ 4 → ⊥) → tell [] (stage kind got start p s due F) ≡ tells (refusedAt 20 p F)
+  unfolding tell feed stage loadEnd going refusing with told toldBy if_then_else_ _and_
+  tell-cut kind got start p s due F n = rw (ne-eqb kind 4 n) refl
+
+  -- a kind byte
+  kind-here : (start p s due kind : ℕ) (F : Field) → wanted (stage 0 0 start p s due F .loader) ≡ kind → byteIn (stage 0 0 start p s due F) kind ≡ stage kind 0 (capped p) (p + 1) s due F
+  unfolding byteIn taken going stage with kindByte onward if_then_else_ _and_
+  kind-here start p s due kind F e = rw (eq-eqb kind (wanted (stage 0 0 start p s due F .loader)) (sym e), up-capped p) refl
+
+  kind-other : (start p s due b kind : ℕ) (F : Field) → wanted (stage 0 0 start p s due F .loader) ≡ kind → (b ≡ kind → ⊥) → (bytes : List ℕ)
+      → tell (b ∷ bytes) (stage 0 0 start p s due F) ≡ tells (refusedAt 20 p F)
+  unfolding stage toldBy
+  kind-other start p s due b kind F e n bytes =
+      let x = stage 0 0 start p s due F in
+      tell-next b bytes x ∙ ap (tell bytes) (refuses x b (λ q. n (q ∙ e)) (goes 0 0 start p s due F) refl) ∙ tell-refused bytes x 20 (capped p) (λ q. omega arith)
+
+  -- the kind that is in place
+  wants-span : (start p s due : ℕ) (F : Field) → 1 ≤ p → wanted (stage 0 0 start p s (suc due) F .loader) ≡ 3
+  unfolding stage wanted if_then_else_
+  wants-span start p s due F g = rw (ne-eqb (capped p) 0 (capped-some p g), lt-ltb 0 (suc due) (omega arith))
+
+  wants-cell : (start p s : ℕ) (F : Field) → 1 ≤ p → length (F .index) < w * h → wanted (stage 0 0 start p s 0 F .loader) ≡ 2
+  unfolding stage wanted if_then_else_
+  wants-cell start p s F g k = rw (ne-eqb (capped p) 0 (capped-some p g), lt-ltb (length (F .index)) (w * h) k)
+
+  wants-end : (start p s : ℕ) (F : Field) → 1 ≤ p → w * h ≤ length (F .index) → wanted (stage 0 0 start p s 0 F .loader) ≡ 4
+  unfolding stage wanted if_then_else_
+  wants-end start p s F g k = rw (ne-eqb (capped p) 0 (capped-some p g), le-ltb (length (F .index)) (w * h) k)
+
+  -- ---------------------------------------------------------------- a cell
+
+  cell-refuses : (start p s c : ℕ) (F : Field) → N < s + c
+      → byteIn (stage 2 0 start p s 0 F) c ≡ with (stage 2 0 start p s 0 F) (refusing 21 start (stage 2 0 start p s 0 F .loader))
+  unfolding byteIn taken going stage cellByte with if_then_else_ _and_
+  cell-refuses start p s c F n = rw (lt-ltb N (s + c) n) refl
+
+  cell-refused : (start p s c q : ℕ) (F : Field) (bytes : List ℕ) → N < s + c → start ≡ capped q → tell (c ∷ bytes) (stage 2 0 start p s 0 F) ≡ tells (refusedAt 21 q F)
+  unfolding stage toldBy
+  cell-refused start p s c q F bytes n e =
+      let x = stage 2 0 start p s 0 F in
+      tell-next c bytes x ∙ ap (tell bytes) (cell-refuses start p s c F n) ∙ tell-refused bytes x 21 start (λ k. omega arith) ∙ rw e refl
+
+  cell-taken : (start p s c : ℕ) (F : Field) → s + c ≤ N → length (F .index) < length index₀ → length (F .count) ≡ length (F .index) → length (F .count) < length count₀
+      → length (F .index) < 4294967295 → byteIn (stage 2 0 start p s 0 F) c ≡ stage 0 0 start (p + 1) s c (withCell s c F)
+  unfolding byteIn taken going stage cellByte cellOn counted onward withCell if_then_else_ _and_
+  cell-taken start p s c F n i e k m =
+      let a : length (F .index ++ (s ∷ [])) ≡ length (F .index) + 1 = length-append (F .index) (s ∷ []) in
+      rw (le-ltb N (s + c) n, set-over (F .index) index₀ (length (F .index)) s refl i, set-over (F .count) count₀ (length (F .index)) c (sym e) (omega arith), up-small (length (F .index)) m, up-capped p, a)
+      refl
+
+  -- ---------------------------------------------------------------- a span
+
+  -- the field with an area more, with a connection more
+  withArea : ℕ → Field → Field
+  withArea b F = record { w = F .w; h = F .h; index = F .index; count = F .count; area = F .area ++ (b ∷ []); con = F .con }
+
+  withCon : ℕ → Field → Field
+  withCon b F = record { w = F .w; h = F .h; index = F .index; count = F .count; area = F .area; con = F .con ++ (b ∷ []) }
+
+  area-taken : (start p s due b : ℕ) (F : Field) → s ≡ length (F .area) → s < length area₀ → byteIn (stage 3 0 start p s due F) b ≡ stage 3 1 start (p + 1) s due (withArea b F)
+  unfolding byteIn taken going stage spanByte spanOn onward withArea if_then_else_ _and_
+  area-taken start p s due b F e i = rw (set-over (F .area) area₀ s b e i, up-capped p) refl
+
+  con-taken : (start p s due b j : ℕ) (F : Field) → (j ≡ 0 → ⊥) → j < 4 → 4 * s + (j - 1) ≡ length (F .con) → 4 * s + (j - 1) < length con₀
+      → byteIn (stage 3 j start p s due F) b ≡ stage 3 (j + 1) start (p + 1) s due (withCon b F)
+  unfolding byteIn taken going stage spanByte spanOn onward withCon if_then_else_ _and_
+  con-taken start p s due b j F n l e i = rw (ne-eqb j 0 n, lt-ltb j 4 l, set-over (F .con) con₀ (4 * s + (j - 1)) b e i, up-capped p) refl
+
+  last-taken : (start p s due b : ℕ) (F : Field) → 4 * s + 3 ≡ length (F .con) → 4 * s + 3 < length con₀ → s < 4294967295
+      → byteIn (stage 3 4 start p s (suc due) F) b ≡ stage 0 0 start (p + 1) (s + 1) due (withCon b F)
+  unfolding byteIn taken going stage spanByte spanOn onward counted withCon if_then_else_ _and_
+  last-taken start p s due b F e i m = let d : suc due - 1 ≡ due = omega arith in rw (d, set-over (F .con) con₀ (4 * s + 3) b e i, up-capped p, up-small s m) refl
+
+  -- ---------------------------------------------------------------- the end
+
+  end-told : (start p : ℕ) (F : Field) → F .w ≡ w → F .h ≡ h → tell [] (stage 4 0 start p (length (F .area)) 0 F) ≡ tells (describes (record { field = F; sizes = z }))
+  unfolding tell feed stage loadEnd going closed with told toldBy if_then_else_ _and_
+  end-told start p F e f = rw (e, f) refl
+
+  end-more : (start p s b : ℕ) (F : Field) (bytes : List ℕ) → tell (b ∷ bytes) (stage 4 0 start p s 0 F) ≡ tells (refusedAt 20 p F)
+  unfolding stage toldBy
+  end-more start p s b F bytes =
+      let x = stage 4 0 start p s 0 F in
+      tell-next b bytes x ∙ ap (tell bytes) (after-refuses x b (goes 4 0 start p s 0 F) refl) ∙ tell-refused bytes x 20 (capped p) (λ k. omega arith)
+
+  -- ---------------------------------------------------------------- the records
+
+  -- a span's body so far
+  span-0 : (F : Field) → withSpan [] F ≡ F
+  unfolding withSpan
+  span-0 F = rw (append-nil (F .area), append-nil (F .con)) refl
+
+  module _ (b0 b1 b2 b3 b4 : ℕ) (F : Field) where
+    span-1 : withSpan (b0 ∷ []) F ≡ withArea b0 F
+    unfolding withSpan withArea
+    span-1 = rw (append-nil (F .con)) refl
+
+    span-2 : withSpan (b0 ∷ b1 ∷ []) F ≡ withCon b1 (withArea b0 F)
+    unfolding withSpan withArea withCon
+    span-2 = refl
+
+    span-3 : withSpan (b0 ∷ b1 ∷ b2 ∷ []) F ≡ withCon b2 (withCon b1 (withArea b0 F))
+    unfolding withSpan withArea withCon
+    span-3 = simp append-assoc
+
+    span-4 : withSpan (b0 ∷ b1 ∷ b2 ∷ b3 ∷ []) F ≡ withCon b3 (withCon b2 (withCon b1 (withArea b0 F)))
+    unfolding withSpan withArea withCon
+    span-4 = simp append-assoc
+
+    span-5 : withSpan (b0 ∷ b1 ∷ b2 ∷ b3 ∷ b4 ∷ []) F ≡ withCon b4 (withCon b3 (withCon b2 (withCon b1 (withArea b0 F))))
+    unfolding withSpan withArea withCon
+    span-5 = simp append-assoc
+
+  spans-more : (b0 b1 b2 b3 b4 : ℕ) (F : Field) → length (F .area) + 1 ≡ length (withSpan (b0 ∷ b1 ∷ b2 ∷ b3 ∷ b4 ∷ []) F .area)
+  unfolding withSpan
+  spans-more b0 b1 b2 b3 b4 F = sym (length-append (F .area) (b0 ∷ []))
+
+  cell-areas : (before c : ℕ) (F : Field) → length (withCell before c F .area) ≡ length (F .area)
+  unfolding withCell
+  cell-areas before c F = refl
+
+  con-more : (b : ℕ) (F : Field) (n : ℕ) → n ≡ length (F .con) → n + 1 ≡ length (withCon b F .con)
+  unfolding withCon
+  con-more b F n e = rw (length-append (F .con) (b ∷ []), e) refl
+
+  area-con : (b : ℕ) (F : Field) (n : ℕ) → n ≡ length (F .con) → n ≡ length (withArea b F .con)
+  unfolding withArea
+  area-con b F n e = e
+
+  -- a field so far, and what is still to come
+  record Sound (F : Field) (cells due promised : ℕ) : Type 0 where
+    wide : F .w ≡ w
+    high : F .h ≡ h
+    indices : length (F .index) + cells ≡ w * h
+    counts : length (F .count) ≡ length (F .index)
+    areas : length (F .area) + due ≡ promised
+    few : promised ≤ N
+    cons : length (F .con) ≡ 4 * length (F .area)
+
+  sound-span : (F : Field) (cells due promised b0 b1 b2 b3 b4 : ℕ) → Sound F cells (suc due) promised → Sound (withSpan (b0 ∷ b1 ∷ b2 ∷ b3 ∷ b4 ∷ []) F) cells due promised
+  unfolding withSpan
+  sound-span F cells due promised b0 b1 b2 b3 b4 o = record {
+    wide = o .wide;
+    high = o .high;
+    indices = o .indices;
+    counts = o .counts;
+    areas = let e = length-append (F .area) (b0 ∷ []) in let f = o .areas in omega arith;
+    few = o .few;
+    cons =
+        let e = length-append (F .area) (b0 ∷ []) in
+        let g = length-append (F .con) (b1 ∷ b2 ∷ b3 ∷ b4 ∷ []) in
+        let f = o .cons in
+        omega arith;
+  }
+
+  sound-cell : (F : Field) (cells promised c : ℕ) → Sound F (suc cells) 0 promised → promised + c ≤ N → Sound (withCell promised c F) cells c (promised + c)
+  unfolding withCell
+  sound-cell F cells promised c o n = record {
+    wide = o .wide;
+    high = o .high;
+    indices = let e = length-append (F .index) (promised ∷ []) in let f = o .indices in omega arith;
+    counts =
+        let e = length-append (F .index) (promised ∷ []) in
+        let g = length-append (F .count) (c ∷ []) in
+        let f = o .counts in
+        omega arith;
+    areas = let f = o .areas in omega arith;
+    few = n;
+    cons = o .cons;
+  }
+
+  module _ (most : w * h ≤ M) (fewM : M ≤ 4294967295) (fewN : N ≤ 4294967295) (li : M ≤ length index₀) (lc : M ≤ length count₀) (la : N ≤ length area₀) (ln : 4 * N ≤ length con₀) where
+    -- a span's bytes, where k bytes of its body have come
+    module _ (start p due promised cells : ℕ) (F : Field) (o : Sound F cells (suc due) promised) where
+      abbrev s : ℕ
+      s = length (F .area)
+
+      here : s < N
+      here = let a = o .areas in let b = o .few in omega arith
+
+      four : 4 * s + 3 < length con₀
+      four = let a = here in omega arith
+
+      -- the loader after one to five bytes
+      first : (b0 : ℕ) → byteIn (stage 3 0 start (p + 1) s (suc due) F) b0 ≡ stage 3 1 start (p + 2) s (suc due) (withArea b0 F)
+      first b0 = let e : (p + 1) + 1 ≡ p + 2 = omega arith in let i : s < length area₀ = (let a = here in omega arith) in rw e at (area-taken start (p + 1) s (suc due) b0 F refl i)
+
+      module _ (b0 b1 b2 b3 b4 : ℕ) where
+        n1 : 4 * s + 0 ≡ length (withArea b0 F .con)
+        n1 = area-con b0 F (4 * s + 0) (let f = o .cons in omega arith)
+
+        n2 : 4 * s + 1 ≡ length (withCon b1 (withArea b0 F) .con)
+        n2 = let e = con-more b1 (withArea b0 F) (4 * s + 0) n1 in omega arith
+
+        n3 : 4 * s + 2 ≡ length (withCon b2 (withCon b1 (withArea b0 F)) .con)
+        n3 = let e = con-more b2 (withCon b1 (withArea b0 F)) (4 * s + 1) n2 in omega arith
+
+        n4 : 4 * s + 3 ≡ length (withCon b3 (withCon b2 (withCon b1 (withArea b0 F))) .con)
+        n4 = let e = con-more b3 (withCon b2 (withCon b1 (withArea b0 F))) (4 * s + 2) n3 in omega arith
+
+        second : byteIn (stage 3 1 start (p + 2) s (suc due) (withArea b0 F)) b1 ≡ stage 3 2 start (p + 3) s (suc due) (withCon b1 (withArea b0 F))
+        second =
+            let e : (p + 2) + 1 ≡ p + 3 = omega arith in
+            rw e at (con-taken start (p + 2) s (suc due) b1 1 (withArea b0 F) (λ q. omega arith) (omega arith) n1 (let f = four in omega arith))
+
+        third : byteIn (stage 3 2 start (p + 3) s (suc due) (withCon b1 (withArea b0 F))) b2 ≡ stage 3 3 start (p + 4) s (suc due) (withCon b2 (withCon b1 (withArea b0 F)))
+        third =
+            let e : (p + 3) + 1 ≡ p + 4 = omega arith in
+            rw e at (con-taken start (p + 3) s (suc due) b2 2 (withCon b1 (withArea b0 F)) (λ q. omega arith) (omega arith) n2 (let f = four in omega arith))
+
+        fourth : byteIn (stage 3 3 start (p + 4) s (suc due) (withCon b2 (withCon b1 (withArea b0 F)))) b3
+            ≡ stage 3 4 start (p + 5) s (suc due) (withCon b3 (withCon b2 (withCon b1 (withArea b0 F))))
+        fourth =
+            let e : (p + 4) + 1 ≡ p + 5 = omega arith in
+            rw e at (con-taken start (p + 4) s (suc due) b3 3 (withCon b2 (withCon b1 (withArea b0 F))) (λ q. omega arith) (omega arith) n3 (let f = four in omega arith))
+
+        fifth : byteIn (stage 3 4 start (p + 5) s (suc due) (withCon b3 (withCon b2 (withCon b1 (withArea b0 F))))) b4
+            ≡ stage 0 0 start (p + 6) (s + 1) due (withCon b4 (withCon b3 (withCon b2 (withCon b1 (withArea b0 F)))))
+        fifth =
+            let e : (p + 5) + 1 ≡ p + 6 = omega arith in
+            rw e at (last-taken start (p + 5) s due b4 (withCon b3 (withCon b2 (withCon b1 (withArea b0 F)))) n4 four (let a = here in omega arith))
+
+      -- "cut short" in the body, or the rest of the file after it
+      body : (k : ℕ) (rest : List ℕ) → length rest ≤ k
+          → ((rest′ : List ℕ) (G : Field) → length rest′ ≤ k → Sound G cells due promised
+          → tell rest′ (stage 0 0 start (p + 6) (length (G .area)) due G) ≡ tells (readOnAt N k (p + 6) cells due promised rest′ G z))
+          → tell rest (stage 3 0 start (p + 1) s (suc due) F)
+          ≡ tells (if leb 5 (length rest) then readOnAt N k (p + 6) cells due promised (drop 5 rest) (withSpan (take 5 rest) F) z else refusedAt 20 (p + suc (length rest)) (withSpan rest F))
+      unfolding if_then_else_
+      body k [] l on = tell-cut 3 0 start (p + 1) s (suc due) F (λ q. omega arith) ∙ rw (span-0 F) refl
+      body k (b0 ∷ []) l on =
+          tell-step b0 [] _ _ _ (first b0) (tell-cut 3 1 start (p + 2) s (suc due) (withArea b0 F) (λ q. omega arith)) ∙ rw (span-1 b0 0 0 0 0 F) refl
+      body k (b0 ∷ b1 ∷ []) l on =
+          tell-step b0 (b1 ∷ []) _ _ _ (first b0)
+          (tell-step b1 [] _ _ _ (second b0 b1 0 0 0) (tell-cut 3 2 start (p + 3) s (suc due) _ (λ q. omega arith)))
+          ∙ rw (span-2 b0 b1 0 0 0 F) refl
+      body k (b0 ∷ b1 ∷ b2 ∷ []) l on =
+          tell-step b0 (b1 ∷ b2 ∷ []) _ _ _ (first b0)
+          (tell-step b1 (b2 ∷ []) _ _ _ (second b0 b1 0 0 0)
+          (tell-step b2 [] _ _ _ (third b0 b1 b2 0 0) (tell-cut 3 3 start (p + 4) s (suc due) _ (λ q. omega arith))))
+          ∙ rw (span-3 b0 b1 b2 0 0 F) refl
+      body k (b0 ∷ b1 ∷ b2 ∷ b3 ∷ []) l on =
+          tell-step b0 (b1 ∷ b2 ∷ b3 ∷ []) _ _ _ (first b0)
+          (tell-step b1 (b2 ∷ b3 ∷ []) _ _ _ (second b0 b1 0 0 0)
+          (tell-step b2 (b3 ∷ []) _ _ _ (third b0 b1 b2 0 0)
+          (tell-step b3 [] _ _ _ (fourth b0 b1 b2 b3 0) (tell-cut 3 4 start (p + 5) s (suc due) _ (λ q. omega arith)))))
+          ∙ rw (span-4 b0 b1 b2 b3 0 F) refl
+      body k (b0 ∷ b1 ∷ b2 ∷ b3 ∷ b4 ∷ rest) l on =
+          let G = withSpan (b0 ∷ b1 ∷ b2 ∷ b3 ∷ b4 ∷ []) F in
+          let e : s + 1 ≡ length (G .area) = spans-more b0 b1 b2 b3 b4 F in
+          let there : leb 5 (length (b0 ∷ b1 ∷ b2 ∷ b3 ∷ b4 ∷ rest)) ≡ true = le-leb 5 (length (b0 ∷ b1 ∷ b2 ∷ b3 ∷ b4 ∷ rest)) (omega arith) in
+          rw there
+          (tell-step b0 (b1 ∷ b2 ∷ b3 ∷ b4 ∷ rest) _ _ _ (first b0)
+          (tell-step b1 (b2 ∷ b3 ∷ b4 ∷ rest) _ _ _ (second b0 b1 0 0 0)
+          (tell-step b2 (b3 ∷ b4 ∷ rest) _ _ _ (third b0 b1 b2 0 0)
+          (tell-step b3 (b4 ∷ rest) _ _ _ (fourth b0 b1 b2 b3 0)
+          (tell-step b4 rest _ _ _ (fifth b0 b1 b2 b3 b4)
+          (rw (← span-5 b0 b1 b2 b3 b4 F, e) (on rest G (omega arith) (sound-span F cells due promised b0 b1 b2 b3 b4 o))))))))
+
+    -- a cell's count, or cut short before it
+    count : (k p cells promised : ℕ) (F : Field) (o : Sound F (suc cells) 0 promised) (rest : List ℕ)
+        → ((c : ℕ) (rest′ : List ℕ) → length rest′ ≤ k → Sound (withCell promised c F) cells c (promised + c)
+        → tell rest′ (stage 0 0 (capped p) (p + 2) (length (withCell promised c F .area)) c (withCell promised c F))
+        ≡ tells (readOnAt N k (p + 2) cells c (promised + c) rest′ (withCell promised c F) z))
+        → length rest ≤ k
+        → tell rest (stage 2 0 (capped p) (p + 1) (length (F .area)) 0 F)
+        ≡ tells (if leb 1 (length rest) then (if ltb N (promised + getD rest 0 0) then refusedAt 21 p F
+        else readOnAt N k (p + 2) cells (getD rest 0 0) (promised + getD rest 0 0) (drop 1 rest) (withCell promised (getD rest 0 0) F) z)
+        else refusedAt 20 (p + suc (length rest)) F)
+    unfolding if_then_else_
+    count k p cells promised F o [] on l = tell-cut 2 0 (capped p) (p + 1) (length (F .area)) 0 F (λ q. omega arith)
+    count k p cells promised F o (c ∷ rest) on l =
+        let a : length (F .area) ≡ promised = (let f = o .areas in omega arith) in
+        let b : length (withCell promised c F .area) ≡ promised = cell-areas promised c F ∙ a in
+        let there : leb 1 (length (c ∷ rest)) ≡ true = le-leb 1 (length (c ∷ rest)) (omega arith) in
+        elim (decLt N (promised + c)) [
+          | yes n ↦ rw (there, lt-ltb N (promised + c) n, a) (cell-refused (capped p) (p + 1) promised c p F rest n refl)
+          | no n ↦
+              let m : promised + c ≤ N = omega arith in
+              let i : length (F .index) < w * h = (let f = o .indices in omega arith) in
+              let q : (p + 1) + 1 ≡ p + 2 = omega arith in
+              let f = o .counts in
+              let x = rw q at (cell-taken (capped p) (p + 1) promised c F m (omega arith) (o .counts) (omega arith) (omega arith)) in
+              rw (there, le-ltb N (promised + c) m, a) (tell-step c rest _ _ _ x (rw b at (on c rest (omega arith) (sound-cell F cells promised c o m))))
+        ]
+
+    -- the end record is read
+    last : (p : ℕ) (F : Field) → F .w ≡ w → F .h ≡ h → (rest : List ℕ) → tell rest (stage 4 0 (capped p) (p + 1) (length (F .area)) 0 F)
+        ≡ tells (if eqb (length rest) 0 then describes (record { field = F; sizes = z }) else refusedAt 20 (p + 1) F)
+    unfolding if_then_else_
+    last p F e f [] = end-told (capped p) (p + 1) F e f
+    last p F e f (b ∷ rest) = rw (ne-eqb (length (b ∷ rest)) 0 (λ q. omega arith)) (end-more (capped p) (p + 1) (length (F .area)) b F rest)
+
+    -- from a stage between two records, the rest of the file
+    loads-on : (k p start cells due promised : ℕ) (bytes : List ℕ) (F : Field) → length bytes ≤ k → 1 ≤ p → Sound F cells due promised
+        → tell bytes (stage 0 0 start p (length (F .area)) due F) ≡ tells (readOnAt N k p cells due promised bytes F z)
+    unfolding readOnAt if_then_else_
+    loads-on zero p start cells due promised [] F l g o = tell-cut 0 0 start p (length (F .area)) due F (λ q. omega arith)
+    loads-on zero p start cells due promised (kind ∷ rest) F l g o = absurd (omega arith)
+    loads-on (suc k) p start cells due promised [] F l g o = tell-cut 0 0 start p (length (F .area)) due F (λ q. omega arith)
+    loads-on (suc k) p start cells (suc due) promised (kind ∷ rest) F l g o =
+        let v = wants-span start p (length (F .area)) due F g in
+        elim (ℕ-discrete kind 3) [
+          | yes e ↦
+              let t : eqb kind 3 ≡ true = eq-eqb kind 3 e in
+              rw (t, e)
+              (tell-step 3 rest _ _ _ (kind-here start p (length (F .area)) (suc due) 3 F v)
+              (body (capped p) p due promised cells F o k rest (omega arith)
+              (λ rest′ G m q. loads-on k (p + 6) (capped p) cells due promised rest′ G m (omega arith) q)))
+          | no n ↦ rw (ne-eqb kind 3 n) (kind-other start p (length (F .area)) (suc due) kind 3 F v n rest)
+        ]
+    loads-on (suc k) p start (suc cells) zero promised (kind ∷ rest) F l g o =
+        let i : length (F .index) < w * h = (let a = o .indices in omega arith) in
+        let v = wants-cell start p (length (F .area)) F g i in
+        elim (ℕ-discrete kind 2) [
+          | yes e ↦
+              let t : eqb kind 2 ≡ true = eq-eqb kind 2 e in
+              rw (t, e)
+              (tell-step 2 rest _ _ _ (kind-here start p (length (F .area)) 0 2 F v)
+              (count k p cells promised F o rest (λ c rest′ m q. loads-on k (p + 2) (capped p) cells c (promised + c) rest′ (withCell promised c F) m (omega arith) q) (omega arith)))
+          | no n ↦ rw (ne-eqb kind 2 n) (kind-other start p (length (F .area)) 0 kind 2 F v n rest)
+        ]
+    loads-on (suc k) p start zero zero promised (kind ∷ rest) F l g o =
+        let i : w * h ≤ length (F .index) = (let a = o .indices in omega arith) in
+        let v = wants-end start p (length (F .area)) F g i in
+        elim (ℕ-discrete kind 4) [
+          | yes e ↦
+              let t : eqb kind 4 ≡ true = eq-eqb kind 4 e in
+              rw (t, e) (tell-step 4 rest _ _ _ (kind-here start p (length (F .area)) 0 4 F v) (last p F (o .wide) (o .high) rest))
+          | no n ↦ rw (ne-eqb kind 4 n) (kind-other start p (length (F .area)) 0 kind 4 F v n rest)
+        ]

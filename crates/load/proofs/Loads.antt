@@ -3,6 +3,7 @@
 use Prim.Native.Nat.{ℕ, zero, suc, _+_, _-_, _*_, _%_, _≤_, _<_}
 use native.Mathlib.Omega.{arith}
 use native.Mathlib.Decide.{decLt, ℕ-discrete}
+use native.Mathlib.Nat.{mod-eq-of-lt}
 use native.Mathlib.Numerals.{add-one}
 use mathlib.Core.Path.{_≡_, refl, sym, ap, _∙_}
 use mathlib.Core.Bool.{Bool, true, false}
@@ -472,4 +473,182 @@ module _ (M N : ℕ) (index₀ count₀ area₀ con₀ : List ℕ) (w h : ℕ) (
               let t : eqb kind 4 ≡ true = eq-eqb kind 4 e in
               rw (t, e) (tell-step 4 rest _ _ _ (kind-here start p (length (F .area)) 0 4 F v) (last p F (o .wide) (o .high) rest))
           | no n ↦ rw (ne-eqb kind 4 n) (kind-other start p (length (F .area)) 0 kind 4 F v n rest)
+        ]
+
+-- ---------------------------------------------------------------- the header
+
+module _ (M N : ℕ) (index₀ count₀ area₀ con₀ : List ℕ) where
+  -- under way in the header, with so many bytes of its body
+  unfoldable head : ℕ → ℕ → ℕ → ℕ → ℕ → ℕ → ℕ → Loading
+  head got p w h b l m = record {
+    loader = record {
+      mostCells = M;
+      mostSpans = N;
+      kind = 1;
+      got = got;
+      start = 0;
+      received = p;
+      w = w;
+      h = h;
+      border = b;
+      least = l;
+      merge = m;
+      cells = 0;
+      spans = 0;
+      due = 0;
+      refusal = 0;
+      position = 0;
+      ended = 0;
+    };
+    index = index₀;
+    count = count₀;
+    area = area₀;
+    con = con₀;
+  }
+
+  abbrev begun : Loading
+  begun = record { loader = loadBegin M N; index = index₀; count = count₀; area = area₀; con = con₀ }
+
+  -- nothing is in the lists yet
+  abbrev nothing : ℕ → ℕ → Told
+  nothing n p = refusedTold n p index₀ count₀ area₀ con₀
+
+  head-cut : (got p w h b l m : ℕ) → tell [] (head got p w h b l m) ≡ nothing 20 p
+  unfolding tell feed head loadEnd going refusing with told if_then_else_ _and_
+  head-cut got p w h b l m = refl
+
+  head-step : (got p w h b l m x : ℕ) → got < 9 → p < 4294967295
+      → byteIn (head got p w h b l m) x
+      ≡ head (got + 1) (p + 1) (numberWith 0 got w x) (numberWith 2 got h x) (numberWith 4 got b x) (numberWith 6 got l x) (numberWith 8 got m x)
+  unfolding byteIn taken going head headerByte sized onward with if_then_else_ _and_
+  head-step got p w h b l m x g n = rw (lt-ltb got 9 g, up-small p n) refl
+
+  head-over : (w h b l m x : ℕ) → M < w * h → byteIn (head 9 10 w h b l m) x ≡ with (head 9 10 w h b l (numberWith 8 9 m x)) (refusing 21 0 (head 9 10 w h b l (numberWith 8 9 m x) .loader))
+  unfolding byteIn taken going head headerByte sized headed numberWith with if_then_else_ _and_
+  head-over w h b l m x n = rw (lt-ltb M (w * h) n) refl
+
+  head-read : (w h b l m x : ℕ) → w * h ≤ M
+      → byteIn (head 9 10 w h b l m) x ≡ stage M N index₀ count₀ area₀ con₀ w h (record { border = b; least = l; merge = numberWith 8 9 m x }) 0 0 0 11 0 0 (emptyField w h)
+  unfolding byteIn taken going head headerByte sized headed numberWith onward up stage emptyField over capped with if_then_else_ _and_
+  head-read w h b l m x n = rw (le-ltb M (w * h) n) refl
+
+  first-kind : byteIn begun 1 ≡ head 0 1 0 0 0 0 0
+  unfolding byteIn taken going loadBegin head kindByte wanted onward up with if_then_else_ _and_
+  first-kind = refl
+
+  first-wants : wanted (loadBegin M N) ≡ 1
+  unfolding wanted loadBegin if_then_else_
+  first-wants = refl
+
+  first-goes : going (loadBegin M N) ≡ true
+  unfolding going loadBegin _and_
+  first-goes = refl
+
+  first-other : (kind : ℕ) (rest : List ℕ) → (kind ≡ 1 → ⊥) → tell (kind ∷ rest) begun ≡ nothing 20 0
+  unfolding loadBegin
+  first-other kind rest n = tell-next kind rest begun ∙ ap (tell rest) (refuses begun kind (λ q. n (q ∙ first-wants)) first-goes refl) ∙ tell-refused rest begun 20 0 (λ q. omega arith)
+
+  -- a header cut short
+  head-short : (rest : List ℕ) (got p w h b l m : ℕ) → got + length rest < 10 → p + length rest < 4294967295 → tell rest (head got p w h b l m) ≡ nothing 20 (p + length rest)
+  head-short [] got p w h b l m g n = let e : p + 0 ≡ p = omega arith in rw e (head-cut got p w h b l m)
+  head-short (x ∷ rest) got p w h b l m g n =
+      let e : (p + 1) + length rest ≡ p + suc (length rest) = omega arith in
+      tell-step x rest _ _ _ (head-step got p w h b l m x (omega arith) (omega arith)) (head-short rest (got + 1) (p + 1) _ _ _ _ _ (omega arith) (omega arith)) ∙ ap (nothing 20) e
+
+  -- nine bytes of the header's body
+  nine : (b0 b1 b2 b3 b4 b5 b6 b7 b8 : ℕ) (rest : List ℕ) → b0 < 256 → b2 < 256 → b4 < 256 → b6 < 256
+      → tell (b0 ∷ b1 ∷ b2 ∷ b3 ∷ b4 ∷ b5 ∷ b6 ∷ b7 ∷ b8 ∷ rest) (head 0 1 0 0 0 0 0) ≡ tell rest (head 9 10 (b0 + 256 * b1) (b2 + 256 * b3) (b4 + 256 * b5) (b6 + 256 * b7) b8)
+  unfolding numberWith if_then_else_
+  nine b0 b1 b2 b3 b4 b5 b6 b7 b8 rest g0 g2 g4 g6 =
+      tell-next b0 _ _ ∙ ap (tell _) (head-step 0 1 0 0 0 0 0 b0 (omega arith) (omega arith))
+      ∙ tell-next b1 _ _ ∙ ap (tell _) (head-step 1 2 b0 0 0 0 0 b1 (omega arith) (omega arith) ∙ rw (mod-eq-of-lt g0) refl)
+      ∙ tell-next b2 _ _ ∙ ap (tell _) (head-step 2 3 (b0 + 256 * b1) 0 0 0 0 b2 (omega arith) (omega arith))
+      ∙ tell-next b3 _ _ ∙ ap (tell _) (head-step 3 4 (b0 + 256 * b1) b2 0 0 0 b3 (omega arith) (omega arith) ∙ rw (mod-eq-of-lt g2) refl)
+      ∙ tell-next b4 _ _ ∙ ap (tell _) (head-step 4 5 (b0 + 256 * b1) (b2 + 256 * b3) 0 0 0 b4 (omega arith) (omega arith))
+      ∙ tell-next b5 _ _ ∙ ap (tell _) (head-step 5 6 (b0 + 256 * b1) (b2 + 256 * b3) b4 0 0 b5 (omega arith) (omega arith) ∙ rw (mod-eq-of-lt g4) refl)
+      ∙ tell-next b6 _ _ ∙ ap (tell _) (head-step 6 7 (b0 + 256 * b1) (b2 + 256 * b3) (b4 + 256 * b5) 0 0 b6 (omega arith) (omega arith))
+      ∙ tell-next b7 _ _ ∙ ap (tell _) (head-step 7 8 (b0 + 256 * b1) (b2 + 256 * b3) (b4 + 256 * b5) b6 0 b7 (omega arith) (omega arith) ∙ rw (mod-eq-of-lt g6) refl)
+      ∙ tell-next b8 _ _ ∙ ap (tell _) (head-step 8 9 (b0 + 256 * b1) (b2 + 256 * b3) (b4 + 256 * b5) (b6 + 256 * b7) 0 b8 (omega arith) (omega arith))
+
+  sound-first : (w h : ℕ) (z : Sizes) → Sound M N index₀ count₀ area₀ con₀ w h z (emptyField w h) (w * h) 0 0
+  unfolding emptyField
+  sound-first w h z = record { wide = refl; high = refl; indices = omega arith; counts = refl; areas = refl; few = omega arith; cons = refl }
+
+  -- "over .. cells (at the header)": refused at its kind byte
+  tenth-over : (w h b l m x : ℕ) (rest : List ℕ) → M < w * h → tell (x ∷ rest) (head 9 10 w h b l m) ≡ nothing 21 0
+  unfolding head
+  tenth-over w h b l m x rest n =
+      tell-next x rest (head 9 10 w h b l m) ∙ ap (tell rest) (head-over w h b l m x n) ∙ tell-refused rest (head 9 10 w h b l (numberWith 8 9 m x)) 21 0 (λ q. omega arith)
+
+  module _ (fewM : M ≤ 4294967295) (fewN : N ≤ 4294967295) (li : M ≤ length index₀) (lc : M ≤ length count₀) (la : N ≤ length area₀) (ln : 4 * N ≤ length con₀) where
+    abbrev tells₀ : Placed → Told
+    tells₀ = toldBy index₀ count₀ area₀ con₀
+
+    -- what the rule makes of a header's body and the rest
+    abbrev rule : List ℕ → Placed
+    rule rest =
+        if leb 10 (length rest) then
+        (if ltb M (word rest 0 * word rest 2) then refusedAt 21 0 (emptyField 0 0)
+        else readOnAt N (length rest) 11 (word rest 0 * word rest 2) 0 0 (drop 10 rest) (emptyField (word rest 0) (word rest 2)) (record { border = word rest 4; least = word rest 6; merge = word rest 8 }))
+        else refusedAt 20 (suc (length rest)) (emptyField 0 0)
+
+    short : (rest : List ℕ) → length rest < 10 → tell rest (head 0 1 0 0 0 0 0) ≡ tells₀ (rule rest)
+    unfolding toldBy over emptyField capped if_then_else_
+    short rest g =
+        let e : 1 + length rest ≡ suc (length rest) = omega arith in
+        rw (lt-leb 10 (length rest) g, lt-ltb (suc (length rest)) 4294967295 (omega arith)) (rw e at (head-short rest 0 1 0 0 0 0 0 (omega arith) (omega arith)))
+
+    nothing-first : nothing 20 0 ≡ tells₀ (refusedAt 20 0 (emptyField 0 0))
+    unfolding toldBy over emptyField capped if_then_else_
+    nothing-first = refl
+
+    empty-file : tell [] begun ≡ tells₀ (refusedAt 20 0 (emptyField 0 0))
+    unfolding tell feed loadBegin loadEnd going refusing with told toldBy over emptyField capped if_then_else_ _and_
+    empty-file = refl
+
+    merged : (w h b l x y : ℕ) → x < 256
+        → stage M N index₀ count₀ area₀ con₀ w h (record { border = b; least = l; merge = numberWith 8 9 x y }) 0 0 0 11 0 0 (emptyField w h)
+        ≡ stage M N index₀ count₀ area₀ con₀ w h (record { border = b; least = l; merge = x + 256 * y }) 0 0 0 11 0 0 (emptyField w h)
+    unfolding numberWith if_then_else_
+    merged w h b l x y g = rw (mod-eq-of-lt g) refl
+
+    nothing-over : tells₀ (refusedAt 21 0 (emptyField 0 0)) ≡ nothing 21 0
+    unfolding toldBy over emptyField capped if_then_else_
+    nothing-over = refl
+
+    header : (rest : List ℕ) → ((i : ℕ) → getD rest i 0 < 256) → tell rest (head 0 1 0 0 0 0 0) ≡ tells₀ (rule rest)
+    unfolding word emptyField if_then_else_
+    header [] g = short [] (omega arith)
+    header (b0 ∷ []) g = short (b0 ∷ []) (omega arith)
+    header (b0 ∷ b1 ∷ []) g = short (b0 ∷ b1 ∷ []) (omega arith)
+    header (b0 ∷ b1 ∷ b2 ∷ []) g = short (b0 ∷ b1 ∷ b2 ∷ []) (omega arith)
+    header (b0 ∷ b1 ∷ b2 ∷ b3 ∷ []) g = short (b0 ∷ b1 ∷ b2 ∷ b3 ∷ []) (omega arith)
+    header (b0 ∷ b1 ∷ b2 ∷ b3 ∷ b4 ∷ []) g = short (b0 ∷ b1 ∷ b2 ∷ b3 ∷ b4 ∷ []) (omega arith)
+    header (b0 ∷ b1 ∷ b2 ∷ b3 ∷ b4 ∷ b5 ∷ []) g = short (b0 ∷ b1 ∷ b2 ∷ b3 ∷ b4 ∷ b5 ∷ []) (omega arith)
+    header (b0 ∷ b1 ∷ b2 ∷ b3 ∷ b4 ∷ b5 ∷ b6 ∷ []) g = short (b0 ∷ b1 ∷ b2 ∷ b3 ∷ b4 ∷ b5 ∷ b6 ∷ []) (omega arith)
+    header (b0 ∷ b1 ∷ b2 ∷ b3 ∷ b4 ∷ b5 ∷ b6 ∷ b7 ∷ []) g = short (b0 ∷ b1 ∷ b2 ∷ b3 ∷ b4 ∷ b5 ∷ b6 ∷ b7 ∷ []) (omega arith)
+    header (b0 ∷ b1 ∷ b2 ∷ b3 ∷ b4 ∷ b5 ∷ b6 ∷ b7 ∷ b8 ∷ []) g = short (b0 ∷ b1 ∷ b2 ∷ b3 ∷ b4 ∷ b5 ∷ b6 ∷ b7 ∷ b8 ∷ []) (omega arith)
+    header (b0 ∷ b1 ∷ b2 ∷ b3 ∷ b4 ∷ b5 ∷ b6 ∷ b7 ∷ b8 ∷ b9 ∷ rest) g =
+        let w = b0 + 256 * b1 in
+        let h = b2 + 256 * b3 in
+        let there : leb 10 (length (b0 ∷ b1 ∷ b2 ∷ b3 ∷ b4 ∷ b5 ∷ b6 ∷ b7 ∷ b8 ∷ b9 ∷ rest)) ≡ true = le-leb 10 (length (b0 ∷ b1 ∷ b2 ∷ b3 ∷ b4 ∷ b5 ∷ b6 ∷ b7 ∷ b8 ∷ b9 ∷ rest)) (omega arith) in
+        nine b0 b1 b2 b3 b4 b5 b6 b7 b8 (b9 ∷ rest) (g 0) (g 2) (g 4) (g 6)
+        ∙ elim (decLt M (w * h)) [
+          | yes n ↦ rw (there, lt-ltb M (w * h) n) (tenth-over w h (b4 + 256 * b5) (b6 + 256 * b7) b8 b9 rest n ∙ sym nothing-over)
+          | no n ↦
+              let m : w * h ≤ M = omega arith in
+              let z : Sizes = record { border = b4 + 256 * b5; least = b6 + 256 * b7; merge = b8 + 256 * b9 } in
+              rw (there, le-ltb M (w * h) m)
+              (tell-step b9 rest _ _ _ (head-read w h (b4 + 256 * b5) (b6 + 256 * b7) b8 b9 m ∙ merged w h (b4 + 256 * b5) (b6 + 256 * b7) b8 b9 (g 8))
+              (loads-on M N index₀ count₀ area₀ con₀ w h z m fewM fewN li lc la ln (length (b0 ∷ b1 ∷ b2 ∷ b3 ∷ b4 ∷ b5 ∷ b6 ∷ b7 ∷ b8 ∷ b9 ∷ rest)) 11 0 (w * h) 0 0 rest (emptyField w h) (omega arith) (omega arith) (sound-first w h z)))
+        ]
+
+    -- the loader, given a whole file and its end, tells what `readFileAt` says
+    pub loader-tells : (file : List ℕ) → ((i : ℕ) → getD file i 0 < 256) → tell file begun ≡ tells₀ (readFileAt M N file)
+    unfolding readFileAt if_then_else_
+    loader-tells [] g = empty-file
+    loader-tells (kind ∷ rest) g =
+        elim (ℕ-discrete kind 1) [
+          | yes e ↦ rw (eq-eqb kind 1 e, e) (tell-step 1 rest _ _ _ first-kind (header rest (λ i. g (suc i))))
+          | no n ↦ rw (ne-eqb kind 1 n) (first-other kind rest n ∙ nothing-first)
         ]

@@ -8,7 +8,7 @@ use lib.Dec.{leb, ltb, eqb}
 use Rattle.rules.specs.Base.{_and_, if_then_else_}
 use Rattle.rules.specs.Field.{Field}
 use Rattle.rules.specs.Outcomes.{Sizes}
-use Rattle.rules.specs.File.{Level, word, withCell, withSpan, emptyField}
+use Rattle.rules.specs.File.{Level, Reading, refused, described, word, withCell, withSpan, emptyField}
 
 -- ---------------------------------------------------------------- a whole file, with the place
 
@@ -47,6 +47,16 @@ readFileAt cells spans (kind ∷ rest) =
     let fits = if ltb cells (w * h) then refusedAt 21 0 (emptyField 0 0) else on in
     let body = if leb 10 (length rest) then fits else refusedAt 20 (suc (length rest)) (emptyField 0 0) in
     if eqb kind 1 then body else refusedAt 20 0 (emptyField 0 0)
+
+-- document 01's reading, the place left out
+unfoldable pub readingBy : Placed → Reading
+readingBy (refusedAt n p F) = refused n
+readingBy (describes L) = described L
+
+-- the field so far, where the reading ends
+unfoldable pub fieldBy : Placed → Field
+fieldBy (refusedAt n p F) = F
+fieldBy (describes L) = L .field
 
 -- ---------------------------------------------------------------- the loader
 

@@ -1,3 +1,4 @@
 mod Ways
 pub mod Pieces
 pub mod Loads
+pub mod Stored

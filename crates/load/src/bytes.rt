@@ -165,7 +165,7 @@ fn put8(list: &mut [u8], i: usize, v: u8)
     }
 }
 
-fn put32(list: &mut [u32], i: usize, v: u32)
+pub(crate) fn put32(list: &mut [u32], i: usize, v: u32)
     ensures { λ _. ⌜ now (list .exit) ≡ set (now (list .entry)) i v ⌝ }
 {
     if i < list.len() {

@@ -1,5 +1,6 @@
 // Loading a field file in pieces (document 02, A2): a loader is handed from call to call, beside the lent lists of the field.
 pub mod bytes;
+pub mod into;
 
 use crate::bytes::feed;
 ghost use mathlib.Core.Path.{_≡_};

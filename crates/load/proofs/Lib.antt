@@ -2,3 +2,4 @@ mod Ways
 pub mod Pieces
 pub mod Loads
 pub mod Stored
+pub mod Whole

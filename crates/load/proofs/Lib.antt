@@ -3,3 +3,4 @@ pub mod Pieces
 pub mod Loads
 pub mod Stored
 pub mod Whole
+pub mod Fine

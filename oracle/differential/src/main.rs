@@ -8,6 +8,7 @@ mod files;
 mod large;
 mod lent;
 mod library;
+mod pieces;
 mod small;
 mod stops;
 mod tally;
@@ -26,6 +27,7 @@ struct Order {
     edited: u64,
     edges: u64,
     doors: u64,
+    pieces: u64,
     seed: u64,
 }
 
@@ -77,7 +79,11 @@ fn run() -> Result<bool, String> {
     if doors.fields > 0 {
         print!("refreshes by kind, and their answers:\n{doors}");
     }
-    if [&small, &large, &winding, &stops, &edited, &files, &doors]
+    let pieces = pieces::compare(seed, order.pieces);
+    if pieces.fields > 0 {
+        print!("files in pieces by kind, and their answers:\n{pieces}");
+    }
+    if [&small, &large, &winding, &stops, &edited, &files, &doors, &pieces]
         .iter()
         .any(|tally| tally.is_enough())
     {
@@ -89,14 +95,16 @@ fn run() -> Result<bool, String> {
         + stops.differences
         + edited.differences
         + files.differences
-        + doors.differences;
+        + doors.differences
+        + pieces.differences;
     println!(
-        "compared {} small, {} large, {} edited fields, {} files mended, {} fields with doors: {differences} differences",
+        "compared {} small, {} large, {} edited fields, {} files mended, {} fields with doors, {} files in pieces: {differences} differences",
         small.fields,
         large.fields + winding.fields + stops.fields,
         edited.fields,
         files.fields,
-        doors.fields
+        doors.fields,
+        pieces.fields
     );
     Ok(differences == 0)
 }
@@ -112,6 +120,7 @@ fn order() -> Result<Order, String> {
         edited: 7_000,
         edges: 2,
         doors: 3_000,
+        pieces: 4_000,
         seed: 0,
     };
     while let Some(option) = arguments.next() {
@@ -127,6 +136,7 @@ fn order() -> Result<Order, String> {
             "--edited" => order.edited = number,
             "--edges" => order.edges = number,
             "--doors" => order.doors = number,
+            "--pieces" => order.pieces = number,
             "--seed" => order.seed = number,
             _ => {
                 return Err(format!(

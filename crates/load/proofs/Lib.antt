@@ -4,3 +4,4 @@ pub mod Loads
 pub mod Stored
 pub mod Whole
 pub mod Fine
+pub mod Places

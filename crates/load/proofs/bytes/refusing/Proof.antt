@@ -1,12 +1,10 @@
+-- `bytes::refusing` meets its contract: two numbers are set, the others stay.
+-- Assumes nothing.
 use Rattle.rules.specs.Load.{refusing}
 use borrow.Author.Needs.{needs}
-use native.Mathlib.Omega.{arith}
 use Rattle.load.proofs.bytes.refusing.Statement.{statement}
 use Rattle.load.proofs.bytes.refusing.Tie as tie
-use Rattle.load.proofs.bytes.refusing.Reads as reads
-use Rattle.load.proofs.bytes.refusing.Lts as lts
 
--- src/bytes.rt:48:1
 returns : tie.Need-returns
 unfolding refusing
 returns c = search needs

@@ -1,45 +1,34 @@
+-- `into::put4` meets its contract: four stores, one after the other.
+-- Assumes nothing.
 use Rattle.load.proofs.Stored.{four-stored}
-use native.Mathlib.Omega.{arith}
 use borrow.Author.Needs.{needs}
 use Rattle.load.proofs.into.put4.Statement.{statement}
 use Rattle.load.proofs.into.put4.Tie as tie
-use Rattle.load.proofs.into.put4.Reads as reads
-use Rattle.load.proofs.into.put4.Lts as lts
-use Rattle.load.proofs.bytes.put32.Reads as put32-reads
 
--- src/into.rt:57:5
 put32-requires : tie.Need-put32-requires
 put32-requires c κs = search needs
 
--- src/into.rt:58:15
 add-put32 : tie.Need-add-put32
 add-put32 c = search needs
 
--- src/into.rt:58:5
 put32-requires-2 : tie.Need-put32-requires-2
 put32-requires-2 c κs = search needs
 
--- src/into.rt:59:15
 add-put32-2 : tie.Need-add-put32-2
 add-put32-2 c = search needs
 
--- src/into.rt:59:5
 put32-requires-3 : tie.Need-put32-requires-3
 put32-requires-3 c κs = search needs
 
--- src/into.rt:60:15
 add-put32-3 : tie.Need-add-put32-3
 add-put32-3 c = search needs
 
--- src/into.rt:60:5
 put32-requires-4 : tie.Need-put32-requires-4
 put32-requires-4 c κs = search needs
 
--- src/into.rt:53:1
 same-length : tie.Need-same-length
 same-length c = search needs
 
--- src/into.rt:53:1
 returns : tie.Need-returns
 returns c = search four-stored
 

@@ -5,3 +5,4 @@ pub mod Stored
 pub mod Whole
 pub mod Fine
 pub mod Places
+pub mod OneAnswer

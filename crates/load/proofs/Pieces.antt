@@ -136,7 +136,7 @@ refused-ends l = refl
 -- ---------------------------------------------------------------- calls
 
 -- a call that is not refused itself
-loads : (piece : List ℕ) (x : Loading) → pieceRefusal x ≡ 0 → loadPiece piece x ≡ feed piece x
+pub loads : (piece : List ℕ) (x : Loading) → pieceRefusal x ≡ 0 → loadPiece piece x ≡ feed piece x
 unfolding loadPiece if_then_else_
 loads piece x e = rw e
 
@@ -162,7 +162,7 @@ room-by x y true e r s h =
     if-ind (λ (n : ℕ). n ≡ 0) (going (y .loader)) (λ _. rw (r, k)) (λ _. refl)
 room-by x y false e r s h = rw (s refl)
 
-room-stays : (piece : List ℕ) (x : Loading) → pieceRefusal x ≡ 0 → pieceRefusal (feed piece x) ≡ 0
+pub room-stays : (piece : List ℕ) (x : Loading) → pieceRefusal x ≡ 0 → pieceRefusal (feed piece x) ≡ 0
 room-stays piece x h =
     room-by x (feed piece x) (going (x .loader)) refl (roomy-kept x (feed piece x) (feed-kept piece x)) (λ e. ap (λ (y : Loading). going (y .loader)) (feed-nothing piece x e) ∙ e) h
 

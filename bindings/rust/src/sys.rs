@@ -366,15 +366,9 @@ pub fn refresh(
     answer
 }
 
-pub fn load_begin(
-    most_cells: u32,
-    most_spans: u32,
-    loader: &mut [u32; LOADER_LEN],
-) -> LoadAnswer {
+pub fn load_begin(most_cells: u32, most_spans: u32, loader: &mut [u32; LOADER_LEN]) -> LoadAnswer {
     // SAFETY: as above.
-    unsafe {
-        gussetraft_load_begin_into(most_cells, most_spans, loader.as_mut_ptr(), loader.len())
-    }
+    unsafe { gussetraft_load_begin_into(most_cells, most_spans, loader.as_mut_ptr(), loader.len()) }
 }
 
 pub fn load_piece(

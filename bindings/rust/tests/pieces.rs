@@ -72,7 +72,10 @@ fn every_vector_cut_at_every_byte_gives_the_same() {
         let whole = load(&[file]);
         for cut in 0..=file.len() {
             let (first, second) = file.split_at(cut);
-            assert!(load(&[first, second]) == whole, "vector {number} cut at {cut}");
+            assert!(
+                load(&[first, second]) == whole,
+                "vector {number} cut at {cut}"
+            );
         }
         let bytes: Vec<_> = file.chunks(1).collect();
         assert!(load(&bytes) == whole, "vector {number}, byte by byte");
@@ -83,7 +86,9 @@ fn every_vector_cut_at_every_byte_gives_the_same() {
 fn every_vector_and_its_beginnings_as_the_model_has_them() {
     for (number, file) in vectors().iter().enumerate() {
         for len in (0..=file.len()).rev().take(40).chain([0, 1, 10, 11, 12]) {
-            let Some(bytes) = file.get(..len) else { continue };
+            let Some(bytes) = file.get(..len) else {
+                continue;
+            };
             let (_, room, answer) = load(&[bytes]);
             let expected = pieces::load(bytes, Limits::PROGRAM);
             let mut left = Room::new();
@@ -123,7 +128,10 @@ fn short_lists_are_refused_3_and_nothing_changes() {
             _ => lists.con = &mut lists.con[1..],
         }
         let refused = loader.piece(&[2], &mut lists).unwrap_err();
-        assert_eq!((refused.refusal, refused.position), (Refusal::WrongLength, None));
+        assert_eq!(
+            (refused.refusal, refused.position),
+            (Refusal::WrongLength, None)
+        );
     }
     assert_eq!((room, loader), before);
 }

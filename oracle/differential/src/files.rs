@@ -87,7 +87,9 @@ fn refused(refusal: Refusal, bytes: &[u8]) -> Printed {
     let stop = pieces::load(bytes, Limits::PROGRAM).answer.err();
     Printed {
         out: format!("{refusal}\n").into_bytes(),
-        told: stop.map_or(String::new(), |stop| format!("position {}\n", stop.position)),
+        told: stop.map_or(String::new(), |stop| {
+            format!("position {}\n", stop.position)
+        }),
     }
 }
 

@@ -61,7 +61,9 @@ impl Lists {
             index: (0..cells).map(|place| number(place) as u32).collect(),
             count: (0..cells).map(|place| number(place + 1) as u8).collect(),
             area: (0..spans).map(|place| number(place + 2) as u8).collect(),
-            con: (0..4 * spans).map(|place| number(place + 3) as u8).collect(),
+            con: (0..4 * spans)
+                .map(|place| number(place + 3) as u8)
+                .collect(),
         }
     }
 }

@@ -83,9 +83,11 @@ fn run() -> Result<bool, String> {
     if pieces.fields > 0 {
         print!("files in pieces by kind, and their answers:\n{pieces}");
     }
-    if [&small, &large, &winding, &stops, &edited, &files, &doors, &pieces]
-        .iter()
-        .any(|tally| tally.is_enough())
+    if [
+        &small, &large, &winding, &stops, &edited, &files, &doors, &pieces,
+    ]
+    .iter()
+    .any(|tally| tally.is_enough())
     {
         println!("{ended}");
     }

@@ -90,9 +90,12 @@ fn compare_file(seed: u64) -> Result<(&'static str, String), String> {
         }
         let (lists, loader) = run(&bytes, limits, &cuts, seed)?;
         if lists != whole || loader != one {
-            return Err(format!("pieces of at most {most} bytes leave something else"));
+            return Err(format!(
+                "pieces of at most {most} bytes leave something else"
+            ));
         }
     }
+    any_numbers(&bytes, &mut rng, seed)?;
     let answer = match expected.answer {
         Ok(_) => "loaded".to_owned(),
         Err(stop) => stop.refusal.to_string(),
@@ -100,11 +103,38 @@ fn compare_file(seed: u64) -> Result<(&'static str, String), String> {
     Ok((kind, answer))
 }
 
+/// A loader of any numbers, that no loading leads to, takes a piece as its two halves; the lists have the lengths that its limits ask.
+fn any_numbers(bytes: &[u8], rng: &mut Rng, seed: u64) -> Result<(), String> {
+    let mut loader: Numbers = std::array::from_fn(|_| {
+        let any = rng.number() as u32;
+        rng.pick(&[0, 0, 1, 2, 3, 4, 9, 255, u32::MAX, any])
+    });
+    (loader[0], loader[1]) = (rng.within(0..=50) as u32, rng.within(0..=50) as u32);
+    if rng.chance(80) {
+        (loader[14], loader[16]) = (0, 0);
+    }
+    let mut lists = Lists::scribbled(loader[0] as usize, loader[1] as usize, seed);
+    let (mut halves, mut other) = (loader, lists.clone());
+    let (first, second) = bytes.split_at(rng.within(0..=bytes.len()));
+    let whole = library::load_piece(bytes, &mut lists, &mut loader);
+    library::load_piece(first, &mut other, &mut halves);
+    let last = library::load_piece(second, &mut other, &mut halves);
+    if (whole, loader, lists) != (last, halves, other) {
+        return Err("a loader of any numbers takes two halves otherwise".to_owned());
+    }
+    Ok(())
+}
+
 /// The loader's numbers.
 type Numbers = [u32; LOADER_LEN];
 
 /// Loads the file in pieces of these lengths and declares its end.
-fn run(bytes: &[u8], limits: Limits, cuts: &[usize], seed: u64) -> Result<(Lists, Numbers), String> {
+fn run(
+    bytes: &[u8],
+    limits: Limits,
+    cuts: &[usize],
+    seed: u64,
+) -> Result<(Lists, Numbers), String> {
     let mut lists = Lists::scribbled(limits.cells, limits.spans, seed);
     let mut loader = [0; LOADER_LEN];
     library::load_begin(limits.cells as u32, limits.spans as u32, &mut loader);
@@ -113,7 +143,9 @@ fn run(bytes: &[u8], limits: Limits, cuts: &[usize], seed: u64) -> Result<(Lists
         let before = (loader, answer);
         answer = library::load_piece(&bytes[at..at + len], &mut lists, &mut loader);
         if before.1.refusal != 0 && (loader, answer) != before {
-            return Err(format!("a piece after a refusal changes something at byte {at}"));
+            return Err(format!(
+                "a piece after a refusal changes something at byte {at}"
+            ));
         }
         at += len;
     }
@@ -180,20 +212,35 @@ fn short_lists(loader: &mut Numbers, lists: &mut Lists, answer: LoadAnswer) -> R
 }
 
 /// The refusal and its position, or the numbers of the field; and every list.
-fn told(expected: &Loaded, lists: &Lists, loader: &Numbers, limits: Limits, seed: u64) -> Result<(), String> {
+fn told(
+    expected: &Loaded,
+    lists: &Lists,
+    loader: &Numbers,
+    limits: Limits,
+    seed: u64,
+) -> Result<(), String> {
     let (refusal, position, ended) = (loader[14], loader[15], loader[16]);
     let field = &expected.field;
     match &expected.answer {
         Err(stop) => {
             if (refusal, position) != (stop.refusal as u32, stop.position as u32) {
-                return Err(format!("refused {refusal} at {position}, the model {stop:?}"));
+                return Err(format!(
+                    "refused {refusal} at {position}, the model {stop:?}"
+                ));
             }
         }
         Ok(settings) => {
-            let sizes = [settings.border_size, settings.least_area, settings.merge_area];
+            let sizes = [
+                settings.border_size,
+                settings.least_area,
+                settings.merge_area,
+            ];
             let numbers = [field.w, field.h].into_iter().chain(sizes).map(u32::from);
             let spans = field.spans() as u32;
-            if (refusal, ended) != (0, 1) || !loader[6..11].iter().copied().eq(numbers) || loader[12] != spans {
+            if (refusal, ended) != (0, 1)
+                || !loader[6..11].iter().copied().eq(numbers)
+                || loader[12] != spans
+            {
                 return Err(format!("the loader {loader:?}, the model {settings:?}"));
             }
         }

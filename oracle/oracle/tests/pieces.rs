@@ -24,7 +24,11 @@ fn stop(bytes: &[u8]) -> Option<(Refusal, usize)> {
 fn positions_by_hand() {
     assert_eq!(stop(&FILE), None);
     for len in 0..FILE.len() {
-        assert_eq!(stop(&FILE[..len]), Some((Refusal::BadFile, len)), "cut at {len}");
+        assert_eq!(
+            stop(&FILE[..len]),
+            Some((Refusal::BadFile, len)),
+            "cut at {len}"
+        );
     }
     let mut longer = FILE.to_vec();
     longer.extend([4, 4]);

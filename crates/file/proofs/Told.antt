@@ -3,9 +3,8 @@
 use Prim.Native.Nat.{ℕ, _*_, _≤_, _<_}
 use native.Mathlib.Omega.{arith}
 use mathlib.Core.Path.{_≡_, refl, sym, ap, _∙_}
-use mathlib.Core.Bool.{Bool, true, false}
-use mathlib.Core.Logic.{_⊎_, inl, inr, ⊎-elim}
-use mathlib.Core.List.{List, _++_}
+use mathlib.Core.Logic.{_⊎_, ⊎-elim}
+use mathlib.Core.List.{List}
 use lib.ListN.{length, getD, take, drop}
 use lib.Seq.{take-at}
 use lib.Dec.{eqb}
@@ -14,14 +13,14 @@ use Rattle.rules.specs.Base.{if_then_else_}
 use Rattle.rules.specs.Field.{Field}
 use Rattle.rules.specs.Outcomes.{Sizes}
 use Rattle.rules.specs.File.{Level, refused, described, readFile}
-use Rattle.rules.specs.Load.{Placed, refusedAt, describes, readFileAt, readingBy, fieldBy, Loading, loadBegin, loadEnd, feed, with, over, Told, refusedTold, loadedTold, told, capped, toldBy}
+use Rattle.rules.specs.Load.{Placed, refusedAt, describes, readFileAt, readingBy, fieldBy, loadBegin, loadEnd, feed, with, over, Told, refusedTold, loadedTold, told, capped, toldBy}
 use Rattle.laws.proofs.Basics.{if-ind}
 use Rattle.load.specs.declared.Loader.{Loader}
 use Rattle.load.specs.Numbers.{loaderOf, loading}
 use Rattle.load.proofs.Loads.{tell, loader-tells}
 use Rattle.load.proofs.Whole.{place-left-out}
 use Rattle.load.proofs.Fine.{Measured, Fine, file-fine}
-use Rattle.file.specs.Reads.{fileNumber, sizesOf, Lists, first, header, readingOf, Few, held, Reads, readingIn, Short, placeBy, placeIn, begun, finished, Whole}
+use Rattle.file.specs.Reads.{sizesOf, Lists, first, header, held, Reads, readingIn, Short, placeBy, placeIn, begun, finished, Whole}
 use Rattle.file.specs.declared.read.FileRefusal.the-variants.{Malformed, TooLarge}
 use Rattle.file.specs.declared.read.Header.{Header}
 use Rattle.file.specs.declared.read.FileReading.{FileReading}

@@ -1,25 +1,25 @@
 -- The loader tells what reading the whole file comes to, `readFileAt`. The loader's state between two records is `stage` with kind 0: the field so far stands over the
 -- beginnings of the lists, and the place is the number of bytes received. Each record leads from one such stage to the next, byte by byte.
-use Prim.Native.Nat.{ℕ, zero, suc, _+_, _-_, _*_, _%_, _≤_, _<_}
+use Prim.Native.Nat.{ℕ, zero, suc, _+_, _-_, _*_, _≤_, _<_}
 use native.Mathlib.Omega.{arith}
 use native.Mathlib.Decide.{decLt, ℕ-discrete}
 use native.Mathlib.Nat.{mod-eq-of-lt}
 use native.Mathlib.Numerals.{add-one}
 use mathlib.Core.Path.{_≡_, refl, sym, ap, _∙_}
-use mathlib.Core.Bool.{Bool, true, false}
+use mathlib.Core.Bool.{true, false}
 use mathlib.Core.List.{List, [], _∷_, _++_, append-assoc, append-nil}
-use lib.ListN.{length, getD, set, take, drop, length-append, length-drop}
-use lib.Seq.{set-append-seam, drop-cons, drop-append-le}
+use lib.ListN.{length, getD, set, take, drop, length-append}
+use lib.Seq.{set-append-seam, drop-cons}
 use lib.Dec.{leb, ltb, eqb}
 use borrow.Author.Tests.{lt-ltb, le-ltb, le-leb, lt-leb, eq-eqb, ne-eqb}
 use Rattle.rules.specs.Base.{_and_, if_then_else_}
 use Rattle.rules.specs.Field.{Field}
 use Rattle.rules.specs.Outcomes.{Sizes}
-use Rattle.rules.specs.File.{Level, word, withCell, withSpan, emptyField}
+use Rattle.rules.specs.File.{word, withCell, withSpan, emptyField}
 use Rattle.rules.specs.Load.{Placed, refusedAt, describes, readOnAt, readFileAt, Loader, Loading, loadBegin, going, up, refusing, onward, counted, wanted, kindByte}
-use Rattle.rules.specs.Load.{numberWith, sized, headed, headerByte, cellOn, cellByte, spanOn, spanByte, with, taken, byteIn, feed, closed, loadEnd}
-use Rattle.rules.specs.Load.{over, Told, refusedTold, loadedTold, told, capped, toldBy}
-use Rattle.load.proofs.Pieces.{feed-nothing, end-changes-nothing}
+use Rattle.rules.specs.Load.{numberWith, sized, headed, headerByte, cellOn, cellByte, spanOn, spanByte, with, taken, byteIn, feed, closed, loadEnd, roomy, pieceRefusal}
+use Rattle.rules.specs.Load.{over, Told, refusedTold, told, capped, toldBy}
+use Rattle.load.proofs.Pieces.{feed-nothing, end-changes-nothing, loads, inPieces, joined, any-pieces}
 
 -- ---------------------------------------------------------------- places and lists
 
@@ -79,6 +79,10 @@ with-loader x l e = e
 with-again : (x : Loading) (l : Loader) → with (with x l) (with x l .loader) ≡ with x l
 unfolding with
 with-again x l = refl
+
+tell-fed : (bytes : List ℕ) (x : Loading) → tell [] (feed bytes x) ≡ tell bytes x
+unfolding tell feed
+tell-fed bytes x = refl
 
 -- a byte that is no kind in place
 refuses : (x : Loading) (b : ℕ) → (b ≡ wanted (x .loader) → ⊥) → going (x .loader) ≡ true → x .loader .kind ≡ 0 → byteIn x b ≡ with x (refusing 20 (x .loader .received) (x .loader))
@@ -652,3 +656,13 @@ module _ (M N : ℕ) (index₀ count₀ area₀ con₀ : List ℕ) where
           | yes e ↦ rw (eq-eqb kind 1 e, e) (tell-step 1 rest _ _ _ first-kind (header rest (λ i. g (suc i))))
           | no n ↦ rw (ne-eqb kind 1 n) (first-other kind rest n ∙ nothing-first)
         ]
+
+    -- ---------------------------------------------------------------- in pieces
+
+    first-room : pieceRefusal begun ≡ 0
+    unfolding pieceRefusal going roomy loadBegin if_then_else_ _and_
+    first-room = rw (le-leb M (length index₀) li, le-leb M (length count₀) lc, le-leb N (length area₀) la, le-leb (4 * N) (length con₀) ln) refl
+
+    -- "However it is cut, the field, the refusal and the byte position of the refusal are those of the whole file."
+    pub pieces-tell : (ps : List (List ℕ)) → ((i : ℕ) → getD (joined ps) i 0 < 256) → tell [] (inPieces ps begun) ≡ tells₀ (readFileAt M N (joined ps))
+    pieces-tell ps g = ap (tell []) (any-pieces ps begun ∙ loads (joined ps) begun first-room) ∙ tell-fed (joined ps) begun ∙ loader-tells (joined ps) g

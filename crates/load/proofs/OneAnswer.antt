@@ -4,21 +4,21 @@ use Prim.Native.Nat.{ℕ}
 use native.Mathlib.Omega.{arith}
 use native.Mathlib.Decide.{ℕ-discrete}
 use mathlib.Core.Path.{_≡_, refl, sym, ap, _∙_}
-use mathlib.Core.List.{List, [], _∷_, _++_}
+use mathlib.Core.List.{List, _++_}
 use lib.ListN.{length}
-use lib.Dec.{eqb}
 use borrow.Author.Tests.{eq-eqb, ne-eqb}
 use Rattle.rules.specs.Base.{if_then_else_}
 use Rattle.rules.specs.Load as rule
-use Rattle.rules.specs.Load.{Loading, loadPiece, pieceRefusal}
+use mathlib.Core.Bool.{false}
+use Rattle.rules.specs.Load.{Loading, loadPiece, pieceRefusal, going}
 use Rattle.load.specs.Numbers.{loaderOf, loading, pieceRefusedBy, loaderAfter}
-use Rattle.load.specs.Into.{numbersOf, loaderIn, left, refused3, loadingIn, Outcome, PieceOutcome, pieceOutcome, Given, GivenPiece}
+use Rattle.load.specs.Into.{numbersOf, loaderIn, positionOf, left, refused3, loadingIn, Outcome, PieceOutcome, endOutcome, pieceOutcome, Given, GivenPiece}
 use Rattle.load.specs.declared.Loader.{Loader}
 use Rattle.load.specs.declared.PieceAnswer.{PieceAnswer}
 use Rattle.load.specs.declared.PieceAnswer.the-variants.{Taken, TooShort}
 use Rattle.load.specs.declared.into.LoadAnswer.{LoadAnswer}
-use Rattle.load.proofs.Pieces.{cut-in-two, room-stays, loads}
-use Rattle.load.proofs.Stored.{loader-written}
+use Rattle.load.proofs.Pieces.{cut-in-two, room-stays, loads, piece-changes-nothing, end-changes-nothing}
+use Rattle.load.proofs.Stored.{loader-written, numbers-read}
 
 -- ---------------------------------------------------------------- one result
 
@@ -151,3 +151,27 @@ two-calls xs ys ns index count area con =
           ]
       | no n ↦ rw (call-odd ns index count area con xs n, call-odd ns index count area con (xs ++ ys) n) (next-odd ys ns index count area con ∙ call-odd ns index count area con ys n)
     ]
+
+-- ---------------------------------------------------------------- after a refusal or a declared end
+
+module _ (ns : List ℕ) (right : length ns ≡ 17) (over : going (loaderIn ns) ≡ false) where
+  -- the loader's own answer, and its numbers as they were
+  unfoldable pub same-answer : Outcome
+  same-answer = record { refusal = loaderIn ns .refusal; position = positionOf (loaderIn ns); numbers = ns }
+
+  left-same : left (loaderIn ns) ≡ same-answer
+  unfolding left same-answer
+  left-same = rw (numbers-read ns right) refl
+
+  -- "every further call gets the same answer and changes nothing"
+  pub call-changes-nothing : (piece index count area con : List ℕ)
+      → pieceOutcome piece ns index count area con ≡ record { said = same-answer; index = index; count = count; area = area; con = con }
+  unfolding left-by loadingIn
+  call-changes-nothing piece index count area con =
+      let x = loadingIn ns index count area con in
+      let t = piece-changes-nothing piece x over in
+      call-taken ns index count area con piece right (t .0) ∙ ap left-by (t .1) ∙ rw left-same refl
+
+  pub end-call-changes-nothing : endOutcome ns ≡ same-answer
+  unfolding endOutcome if_then_else_
+  end-call-changes-nothing = rw (eq-eqb (length ns) 17 right, end-changes-nothing (loaderIn ns) over) left-same

@@ -6,11 +6,11 @@ use mathlib.Core.Path.{_≡_, refl, sym, ap, _∙_}
 use mathlib.Core.Bool.{Bool, true, false}
 use mathlib.Core.List.{List, [], _∷_, _++_}
 use lib.ListN.{length, length-set}
-use lib.Dec.{leb, ltb, eqb}
-use borrow.Author.Tests.{eq-eqb, ne-eqb}
+use lib.Dec.{ltb, eqb}
+use borrow.Author.Tests.{ne-eqb}
 use native.Mathlib.Decide.{ℕ-discrete}
 use Rattle.rules.specs.Base.{_and_, if_then_else_}
-use Rattle.rules.specs.Load.{Loader, Loading, going, up, refusing, onward, counted, wanted, kindByte, sized, headed, headerByte, cellOn, cellByte, spanOn, spanByte, with}
+use Rattle.rules.specs.Load.{Loader, Loading, going, refusing, onward, counted, wanted, kindByte, sized, headed, headerByte, cellOn, cellByte, spanOn, spanByte, with}
 use Rattle.rules.specs.Load.{taken, byteIn, feed, closed, loadEnd, roomy, pieceRefusal, loadPiece}
 use Rattle.laws.proofs.Basics.{if-ind, both}
 

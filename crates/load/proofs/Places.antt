@@ -1,6 +1,6 @@
 -- The positions in the request's words, on a file of one cell with one span, by computation: each kind of place, at the byte that a reader counts.
 -- Assumes nothing.
-use Prim.Native.Nat.{ℕ, zero, suc}
+use Prim.Native.Nat.{ℕ}
 use mathlib.Core.Path.{_≡_, refl}
 use mathlib.Core.List.{List, [], _∷_, _++_}
 use lib.ListN.{take, set}

@@ -1,7 +1,7 @@
 -- For the program's limits the whole file's reading is document 01's: `readFileAt` is `readFile` with the place beside it.
 -- Record by record both ask the same, only that a kind out of place is told from a body cut short.
 use Prim.Native.Nat.{ℕ, zero, suc, _+_, _*_}
-use mathlib.Core.Path.{_≡_, refl, sym, ap, _∙_}
+use mathlib.Core.Path.{_≡_, refl}
 use mathlib.Core.Bool.{Bool, true, false}
 use mathlib.Core.List.{List, [], _∷_}
 use lib.ListN.{length, getD, take, drop}
@@ -9,8 +9,8 @@ use lib.Dec.{leb, ltb, eqb}
 use Rattle.rules.specs.Base.{_and_, if_then_else_}
 use Rattle.rules.specs.Field.{Field}
 use Rattle.rules.specs.Outcomes.{Sizes}
-use Rattle.rules.specs.File.{Reading, refused, described, word, withCell, withSpan, readOn, readFile, emptyField}
-use Rattle.rules.specs.Load.{Placed, refusedAt, describes, readOnAt, readFileAt, readingBy}
+use Rattle.rules.specs.File.{Reading, refused, word, withCell, withSpan, readOn, readFile, emptyField}
+use Rattle.rules.specs.Load.{Placed, readOnAt, readFileAt, readingBy}
 
 -- two tests one after the other, where both failures read the same
 two-tests : (a b : Bool) (x y z : Placed) (u : Reading) (n : ℕ) → readingBy x ≡ u → readingBy y ≡ refused n → readingBy z ≡ refused n

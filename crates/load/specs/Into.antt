@@ -1,4 +1,4 @@
--- The calls with the loader's numbers in a lent list of 17; "another length is refused 3 with nothing changed".
+-- The calls with the loader's numbers in a lent list of 17; another length is refused 3, and nothing changes.
 use Prim.Native.Nat.{ℕ}
 use mathlib.Core.Path.{_≡_}
 use mathlib.Core.List.{List, [], _∷_}
@@ -39,7 +39,7 @@ loaderIn ns = record {
   ended = getD ns 16 0;
 }
 
--- "position 0 where not refused"
+-- the position that is told: 0 where nothing is refused
 unfoldable pub positionOf : Loader → ℕ
 positionOf l = if eqb (l .refusal) 0 then 0 else l .position
 

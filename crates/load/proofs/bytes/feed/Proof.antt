@@ -1,6 +1,6 @@
 -- `bytes::feed` meets its contract. The loop's invariant: feeding the rest to the loader as it is gives what feeding the piece gave.
 -- A turn feeds one byte: the measure is the bytes left.
-use mathlib.Core.Path.{_≡_, refl}
+use mathlib.Core.Path.{_≡_}
 use Prim.Native.Nat.{_≤_, _-_}
 use lib.ListN.{length, drop}
 use Rattle.load.proofs.Ways.{feed-next, feed-done}

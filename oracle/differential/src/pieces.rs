@@ -14,7 +14,7 @@ use oracle::{
 use std::panic::{AssertUnwindSafe, catch_unwind};
 
 /// A large file every so many seeds.
-const LARGE_EVERY: u64 = 40;
+const LARGE_EVERY: u64 = 100;
 
 /// Compares the files of so many seeds.
 pub fn compare(first: u64, count: u64) -> Tally {

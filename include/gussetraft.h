@@ -33,9 +33,10 @@ extern "C" {
 /* The least number of elements of the workspace, for n spans. */
 #define GUSSETRAFT_WORKSPACE_LEN(n) ((size_t)128 * (size_t)(n) + (size_t)4096)
 
-/* Refusals, looked for in this order; the first that applies is given. 7, 8, 12 and 13 are given by the two region functions alone, 11 and 31 by
- * gussetraft_refresh_distance_field alone, 27 by gussetraft_mend alone, which gives 1 to 4 beside it; gussetraft_build_rooms gives 1 to 7 and
- * 12. A refused call changes nothing that was lent, but 12 and 13 leave a workspace of zeros. */
+/* Refusals, looked for in this order; the first that applies is given. 7, 8, 12 and 13 are given by the two region functions alone, but for
+ * gussetraft_build_rooms, which gives 1 to 7 and 12; 11 and 31 by gussetraft_refresh_distance_field alone, 27 by gussetraft_mend alone, which gives
+ * 1 to 4 beside it; 20 and 21 by the loading of a file alone, which gives 3 beside them. A refused call changes nothing that was lent, but 12 and 13
+ * leave a workspace of zeros, and a refused file leaves the field as far as it was read. */
 enum {
     GUSSETRAFT_TOO_WIDE = 1,     /* w or h above 256 */
     GUSSETRAFT_TOO_MANY = 2,     /* n above 65,000 */
@@ -49,6 +50,8 @@ enum {
     GUSSETRAFT_NO_IDS = 12,      /* a successful flood would make the next id 0x8000, or there are more than 32,767 plain rooms; never with at most
                                   * 32,000 spans */
     GUSSETRAFT_NO_SUM = 13,      /* a source distance in expansion would exceed 65,535; never with at most 32,000 spans */
+    GUSSETRAFT_MALFORMED = 20,   /* a file: unknown kind, a record out of place, cut short, bytes after the end */
+    GUSSETRAFT_TOO_LARGE = 21,   /* a file: more cells (at the header) or spans (at the cell that passes it) than the loader takes */
     GUSSETRAFT_NO_ROOM = 27,     /* there are more changes than places in their list */
     GUSSETRAFT_WRONG_STORED = 31 /* a stored pass 1 or raw value is above 510 */
 };
@@ -68,6 +71,8 @@ static inline const char *gussetraft_refusal_text(uint16_t refusal) {
     case GUSSETRAFT_WRONG_RECT: return "the rectangle is empty or not in the field";
     case GUSSETRAFT_NO_IDS: return "ids run out: the next would be 0x8000";
     case GUSSETRAFT_NO_SUM: return "a source distance in expansion would exceed 65,535";
+    case GUSSETRAFT_MALFORMED: return "the file is malformed: unknown kind, a record out of place, cut short, or bytes after the end";
+    case GUSSETRAFT_TOO_LARGE: return "the file's field has more cells or spans than the loader takes";
     case GUSSETRAFT_WRONG_STORED: return "a stored pass 1 or raw value is above 510";
     case GUSSETRAFT_NO_ROOM: return "there are more changes than places in their list";
     default: return "no such refusal";
@@ -245,6 +250,76 @@ gussetraft_room_answer gussetraft_build_rooms(
     uint16_t border_size,
     uint16_t *workspace, size_t workspace_len,
     uint16_t *ids, size_t ids_len);
+
+/* A field file that comes in pieces. The file holds records of one byte of kind and a body, numbers little-endian: 1 header (w, h, border size, least
+ * area, merge area: 2 bytes each), 2 cell (count: 1 byte), 3 span (area and four connections: 5 bytes), 4 end (none). Order: header, each cell followed
+ * by its spans, end.
+ *
+ * A loader is 17 numbers and owns nothing: it may be copied and stored, and goes from call to call beside the lists of the field. Any numbers in it are
+ * taken. */
+#define GUSSETRAFT_LOADER_LEN 17
+
+typedef struct {
+    uint32_t numbers[GUSSETRAFT_LOADER_LEN];
+} gussetraft_loader;
+
+/* refusal: 0, or the number of the refusal. position: where in the file, counted from 0, for 20 and 21, and 0 otherwise: the kind byte of the record at
+ * fault, the first byte after the end record, or, for a file cut short, the number of bytes received. A place past 4,294,967,295 is given as that. */
+typedef struct {
+    uint32_t refusal;
+    uint32_t position;
+} gussetraft_load_answer;
+
+/* The calls below with the loader's numbers in a list of GUSSETRAFT_LOADER_LEN; a list of another length is refused 3 and nothing changes. Most callers
+ * use the functions after them. */
+gussetraft_load_answer gussetraft_load_begin_into(uint32_t most_cells, uint32_t most_spans, uint32_t *loader, size_t loader_len);
+
+gussetraft_load_answer gussetraft_load_piece_into(
+    const uint8_t *piece, size_t piece_len,
+    uint32_t *index, size_t index_len,
+    uint8_t *count, size_t count_len,
+    uint8_t *area, size_t area_len,
+    uint8_t *con, size_t con_len,
+    uint32_t *loader, size_t loader_len);
+
+gussetraft_load_answer gussetraft_load_end_into(uint32_t *loader, size_t loader_len);
+
+/* A loader before the first byte, for a field of at most so many cells and spans: more is refused 21. */
+static inline gussetraft_loader gussetraft_load_begin(uint32_t most_cells, uint32_t most_spans) {
+    gussetraft_loader loader = {{0}};
+    gussetraft_load_begin_into(most_cells, most_spans, loader.numbers, GUSSETRAFT_LOADER_LEN);
+    return loader;
+}
+
+/* The next piece of the file, of any length, 0 too. index and count have most_cells elements at least, area most_spans and con 4 * most_spans: a shorter
+ * list is refused 3 and nothing changes. The field so far stands at the lists' beginnings; what is past it keeps what it held.
+ *
+ * However the file is cut, the loader, the lists and the answers are those of the whole file. After 20, 21 or a declared end every further call gives the
+ * same answer and changes nothing. */
+static inline gussetraft_load_answer gussetraft_load_piece(
+    gussetraft_loader *loader,
+    const uint8_t *piece, size_t piece_len,
+    uint32_t *index, size_t index_len,
+    uint8_t *count, size_t count_len,
+    uint8_t *area, size_t area_len,
+    uint8_t *con, size_t con_len) {
+    return gussetraft_load_piece_into(
+        piece, piece_len, index, index_len, count, count_len, area, area_len, con, con_len, loader->numbers, GUSSETRAFT_LOADER_LEN);
+}
+
+/* Declares the end of the file: a file is complete only then, and one that is not is refused 20. */
+static inline gussetraft_load_answer gussetraft_load_end(gussetraft_loader *loader) {
+    return gussetraft_load_end_into(loader->numbers, GUSSETRAFT_LOADER_LEN);
+}
+
+/* The file's numbers, once a declared end was not refused: the field is the first w*h elements of index and count, the first n of area and the first 4*n
+ * of con, n being gussetraft_loaded_spans. */
+static inline uint16_t gussetraft_loaded_w(const gussetraft_loader *loader) { return (uint16_t)loader->numbers[6]; }
+static inline uint16_t gussetraft_loaded_h(const gussetraft_loader *loader) { return (uint16_t)loader->numbers[7]; }
+static inline uint16_t gussetraft_loaded_border_size(const gussetraft_loader *loader) { return (uint16_t)loader->numbers[8]; }
+static inline uint16_t gussetraft_loaded_min_region_area(const gussetraft_loader *loader) { return (uint16_t)loader->numbers[9]; }
+static inline uint16_t gussetraft_loaded_merge_region_area(const gussetraft_loader *loader) { return (uint16_t)loader->numbers[10]; }
+static inline uint32_t gussetraft_loaded_spans(const gussetraft_loader *loader) { return loader->numbers[12]; }
 
 #ifdef __cplusplus
 }

@@ -49,7 +49,10 @@
 
 #![no_std]
 
+mod load;
 mod sys;
+
+pub use load::{Lists, LoadRefusal, Loaded, Loader};
 
 use core::fmt;
 
@@ -136,6 +139,10 @@ pub enum Refusal {
     NoIds = 12,
     /// 13: a source distance in expansion would exceed 65,535. Never with at most 32,000 spans.
     NoSum = 13,
+    /// 20: the file is malformed: unknown kind, a record out of place, cut short, or bytes after the end.
+    Malformed = 20,
+    /// 21: the file's field has more cells or spans than the loader takes.
+    TooLarge = 21,
     /// 27: there are more changes than places in their list.
     NoRoom = 27,
     /// 31: a stored pass 1 or raw value is above 510.
@@ -144,7 +151,7 @@ pub enum Refusal {
 
 impl Refusal {
     /// Every refusal, in the order of the numbers.
-    pub const ALL: [Self; 13] = [
+    pub const ALL: [Self; 15] = [
         Self::TooWide,
         Self::TooMany,
         Self::WrongLength,
@@ -156,11 +163,13 @@ impl Refusal {
         Self::WrongRect,
         Self::NoIds,
         Self::NoSum,
+        Self::Malformed,
+        Self::TooLarge,
         Self::NoRoom,
         Self::WrongStored,
     ];
 
-    /// The number, 1 to 8, 11 to 13, 27 or 31.
+    /// The number, 1 to 8, 11 to 13, 20, 21, 27 or 31.
     pub const fn number(self) -> u16 {
         self as u16
     }
@@ -172,6 +181,8 @@ impl Refusal {
             11 => Some(Self::WrongRect),
             12 => Some(Self::NoIds),
             13 => Some(Self::NoSum),
+            20 => Some(Self::Malformed),
+            21 => Some(Self::TooLarge),
             27 => Some(Self::NoRoom),
             31 => Some(Self::WrongStored),
             _ => None,
@@ -196,6 +207,10 @@ impl Refusal {
             Self::WrongRect => "the rectangle is empty or not in the field",
             Self::NoIds => "ids run out: the next would be 0x8000",
             Self::NoSum => "a source distance in expansion would exceed 65,535",
+            Self::Malformed => {
+                "the file is malformed: unknown kind, a record out of place, cut short, or bytes after the end"
+            }
+            Self::TooLarge => "the file's field has more cells or spans than the loader takes",
             Self::WrongStored => "a stored pass 1 or raw value is above 510",
             Self::NoRoom => "there are more changes than places in their list",
         }

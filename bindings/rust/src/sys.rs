@@ -28,6 +28,15 @@ pub struct RoomAnswer {
     pub max_region: u16,
 }
 
+#[repr(C)]
+pub struct LoadAnswer {
+    pub refusal: u32,
+    pub position: u32,
+}
+
+/// How many numbers a loader has.
+pub const LOADER_LEN: usize = 17;
+
 extern "C" {
     fn gussetraft_build_rooms(
         w: u16,
@@ -46,6 +55,30 @@ extern "C" {
         ids: *mut u16,
         ids_len: usize,
     ) -> RoomAnswer;
+
+    fn gussetraft_load_begin_into(
+        most_cells: u32,
+        most_spans: u32,
+        loader: *mut u32,
+        loader_len: usize,
+    ) -> LoadAnswer;
+
+    fn gussetraft_load_piece_into(
+        piece: *const u8,
+        piece_len: usize,
+        index: *mut u32,
+        index_len: usize,
+        count: *mut u8,
+        count_len: usize,
+        area: *mut u8,
+        area_len: usize,
+        con: *mut u8,
+        con_len: usize,
+        loader: *mut u32,
+        loader_len: usize,
+    ) -> LoadAnswer;
+
+    fn gussetraft_load_end_into(loader: *mut u32, loader_len: usize) -> LoadAnswer;
 
     fn gussetraft_build_distance_field(
         w: u16,
@@ -383,4 +416,41 @@ pub fn rooms(
             ids.len(),
         )
     }
+}
+
+pub fn load_begin(most_cells: u32, most_spans: u32, loader: &mut [u32; LOADER_LEN]) -> LoadAnswer {
+    // SAFETY: as above.
+    unsafe { gussetraft_load_begin_into(most_cells, most_spans, loader.as_mut_ptr(), loader.len()) }
+}
+
+pub fn load_piece(
+    piece: &[u8],
+    index: &mut [u32],
+    count: &mut [u8],
+    area: &mut [u8],
+    con: &mut [u8],
+    loader: &mut [u32; LOADER_LEN],
+) -> LoadAnswer {
+    // SAFETY: as above.
+    unsafe {
+        gussetraft_load_piece_into(
+            piece.as_ptr(),
+            piece.len(),
+            index.as_mut_ptr(),
+            index.len(),
+            count.as_mut_ptr(),
+            count.len(),
+            area.as_mut_ptr(),
+            area.len(),
+            con.as_mut_ptr(),
+            con.len(),
+            loader.as_mut_ptr(),
+            loader.len(),
+        )
+    }
+}
+
+pub fn load_end(loader: &mut [u32; LOADER_LEN]) -> LoadAnswer {
+    // SAFETY: as above.
+    unsafe { gussetraft_load_end_into(loader.as_mut_ptr(), loader.len()) }
 }

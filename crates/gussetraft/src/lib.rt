@@ -1,4 +1,5 @@
 // The functions that C and Rust call (include/gussetraft.h). They take any input, as the entries do.
+mod pieces;
 pub mod roomids;
 
 use checker::refusal_number;

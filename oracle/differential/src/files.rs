@@ -5,6 +5,7 @@ use oracle::{
     field::{Case, Field},
     file::{self, Limits},
     mending::{self, Mended},
+    pieces,
     refusals::Refusal,
 };
 use std::{
@@ -77,14 +78,18 @@ fn expected(bytes: &[u8]) -> (String, Printed) {
             let out = file::write(&Case { field, ..case });
             (sort.to_owned(), Printed { out, told })
         }
-        Err(refusal) => (refusal.to_string(), refused(refusal)),
+        Err(refusal) => (refusal.to_string(), refused(refusal, bytes)),
     }
 }
 
-fn refused(refusal: Refusal) -> Printed {
+/// The line, and where in the file, for 20 and 21.
+fn refused(refusal: Refusal, bytes: &[u8]) -> Printed {
+    let stop = pieces::load(bytes, Limits::PROGRAM).answer.err();
     Printed {
         out: format!("{refusal}\n").into_bytes(),
-        told: String::new(),
+        told: stop.map_or(String::new(), |stop| {
+            format!("position {}\n", stop.position)
+        }),
     }
 }
 

@@ -41,6 +41,41 @@ pub struct RoomAnswer {
     pub max_region: u16,
 }
 
+/// What a call of the loading answers.
+#[repr(C)]
+#[derive(Debug, Clone, Copy, Default, PartialEq, Eq)]
+pub struct LoadAnswer {
+    pub refusal: u32,
+    pub position: u32,
+}
+
+/// How many numbers a loader has.
+pub const LOADER_LEN: usize = 17;
+
+/// The lists that a loader is lent.
+#[derive(Debug, Clone, PartialEq, Eq)]
+pub struct Lists {
+    pub index: Vec<u32>,
+    pub count: Vec<u8>,
+    pub area: Vec<u8>,
+    pub con: Vec<u8>,
+}
+
+impl Lists {
+    /// Lists for so many cells and spans, with any numbers in them.
+    pub fn scribbled(cells: usize, spans: usize, seed: u64) -> Self {
+        let number = |place: usize| (place as u64 ^ seed).wrapping_mul(0x9e37_79b9_7f4a_7c15) >> 32;
+        Self {
+            index: (0..cells).map(|place| number(place) as u32).collect(),
+            count: (0..cells).map(|place| number(place + 1) as u8).collect(),
+            area: (0..spans).map(|place| number(place + 2) as u8).collect(),
+            con: (0..4 * spans)
+                .map(|place| number(place + 3) as u8)
+                .collect(),
+        }
+    }
+}
+
 #[rustfmt::skip]
 unsafe extern "C" {
     fn gussetraft_build_rooms(
@@ -53,6 +88,19 @@ unsafe extern "C" {
         workspace: *mut u16, workspace_len: usize,
         ids: *mut u16, ids_len: usize,
     ) -> RoomAnswer;
+
+    fn gussetraft_load_begin_into(most_cells: u32, most_spans: u32, loader: *mut u32, loader_len: usize) -> LoadAnswer;
+
+    fn gussetraft_load_piece_into(
+        piece: *const u8, piece_len: usize,
+        index: *mut u32, index_len: usize,
+        count: *mut u8, count_len: usize,
+        area: *mut u8, area_len: usize,
+        con: *mut u8, con_len: usize,
+        loader: *mut u32, loader_len: usize,
+    ) -> LoadAnswer;
+
+    fn gussetraft_load_end_into(loader: *mut u32, loader_len: usize) -> LoadAnswer;
 
     fn gussetraft_build_distance_field(
         w: u16, h: u16,
@@ -265,4 +313,32 @@ pub fn rooms(field: &Field, border_size: u16, workspace: &mut [u16], ids: &mut [
             ids.as_mut_ptr(), ids.len(),
         )
     }
+}
+
+/// A loader before the first byte.
+pub fn load_begin(most_cells: u32, most_spans: u32, loader: &mut [u32]) -> LoadAnswer {
+    // SAFETY: as above.
+    unsafe { gussetraft_load_begin_into(most_cells, most_spans, loader.as_mut_ptr(), loader.len()) }
+}
+
+/// A piece of a file.
+#[rustfmt::skip]
+pub fn load_piece(piece: &[u8], lists: &mut Lists, loader: &mut [u32]) -> LoadAnswer {
+    // SAFETY: as above.
+    unsafe {
+        gussetraft_load_piece_into(
+            piece.as_ptr(), piece.len(),
+            lists.index.as_mut_ptr(), lists.index.len(),
+            lists.count.as_mut_ptr(), lists.count.len(),
+            lists.area.as_mut_ptr(), lists.area.len(),
+            lists.con.as_mut_ptr(), lists.con.len(),
+            loader.as_mut_ptr(), loader.len(),
+        )
+    }
+}
+
+/// The end of a file.
+pub fn load_end(loader: &mut [u32]) -> LoadAnswer {
+    // SAFETY: as above.
+    unsafe { gussetraft_load_end_into(loader.as_mut_ptr(), loader.len()) }
 }

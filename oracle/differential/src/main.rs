@@ -8,6 +8,7 @@ mod files;
 mod large;
 mod lent;
 mod library;
+mod pieces;
 mod plain;
 mod small;
 mod stops;
@@ -28,6 +29,7 @@ struct Order {
     edges: u64,
     doors: u64,
     rooms: u64,
+    pieces: u64,
     seed: u64,
 }
 
@@ -83,8 +85,12 @@ fn run() -> Result<bool, String> {
     if rooms.fields > 0 {
         print!("plain rooms by kind, and their answers:\n{rooms}");
     }
+    let pieces = pieces::compare(seed, order.pieces);
+    if pieces.fields > 0 {
+        print!("files in pieces by kind, and their answers:\n{pieces}");
+    }
     if [
-        &small, &large, &winding, &stops, &edited, &files, &doors, &rooms,
+        &small, &large, &winding, &stops, &edited, &files, &doors, &rooms, &pieces,
     ]
     .iter()
     .any(|tally| tally.is_enough())
@@ -98,15 +104,17 @@ fn run() -> Result<bool, String> {
         + edited.differences
         + files.differences
         + doors.differences
-        + rooms.differences;
+        + rooms.differences
+        + pieces.differences;
     println!(
-        "compared {} small, {} large, {} edited fields, {} files mended, {} fields with doors, {} with plain rooms: {differences} differences",
+        "compared {} small, {} large, {} edited fields, {} files mended, {} fields with doors, {} with plain rooms, {} files in pieces: {differences} differences",
         small.fields,
         large.fields + winding.fields + stops.fields,
         edited.fields,
         files.fields,
         doors.fields,
-        rooms.fields
+        rooms.fields,
+        pieces.fields
     );
     Ok(differences == 0)
 }
@@ -123,6 +131,7 @@ fn order() -> Result<Order, String> {
         edges: 2,
         doors: 3_000,
         rooms: 2_000,
+        pieces: 4_000,
         seed: 0,
     };
     while let Some(option) = arguments.next() {
@@ -139,6 +148,7 @@ fn order() -> Result<Order, String> {
             "--edges" => order.edges = number,
             "--doors" => order.doors = number,
             "--rooms" => order.rooms = number,
+            "--pieces" => order.pieces = number,
             "--seed" => order.seed = number,
             _ => {
                 return Err(format!(

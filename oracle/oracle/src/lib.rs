@@ -8,6 +8,7 @@ pub mod levels;
 pub mod listing;
 pub mod mending;
 pub mod model;
+pub mod pieces;
 pub mod plain;
 pub mod refusals;
 pub mod rng;

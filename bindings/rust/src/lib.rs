@@ -49,6 +49,7 @@
 
 #![no_std]
 
+pub mod results;
 mod sys;
 
 use core::fmt;

@@ -1,4 +1,6 @@
 // The functions that C and Rust call (include/gussetraft.h). They take any input, as the entries do.
+mod results;
+
 use checker::refusal_number;
 use mend::MendAnswer;
 use mend::mend;

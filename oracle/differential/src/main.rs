@@ -8,6 +8,7 @@ mod files;
 mod large;
 mod lent;
 mod library;
+mod results;
 mod small;
 mod stops;
 mod tally;
@@ -26,6 +27,7 @@ struct Order {
     edited: u64,
     edges: u64,
     doors: u64,
+    results: u64,
     seed: u64,
 }
 
@@ -77,26 +79,25 @@ fn run() -> Result<bool, String> {
     if doors.fields > 0 {
         print!("refreshes by kind, and their answers:\n{doors}");
     }
-    if [&small, &large, &winding, &stops, &edited, &files, &doors]
-        .iter()
-        .any(|tally| tally.is_enough())
-    {
+    let results = results::compare(seed, order.results);
+    if results.fields > 0 {
+        print!("conversions of stored results by kind, and their answers:\n{results}");
+    }
+    let parts = [
+        &small, &large, &winding, &stops, &edited, &files, &doors, &results,
+    ];
+    if parts.iter().any(|tally| tally.is_enough()) {
         println!("{ended}");
     }
-    let differences = small.differences
-        + large.differences
-        + winding.differences
-        + stops.differences
-        + edited.differences
-        + files.differences
-        + doors.differences;
+    let differences: usize = parts.iter().map(|tally| tally.differences).sum();
     println!(
-        "compared {} small, {} large, {} edited fields, {} files mended, {} fields with doors: {differences} differences",
+        "compared {} small, {} large, {} edited fields, {} files mended, {} fields with doors, {} stored results: {differences} differences",
         small.fields,
         large.fields + winding.fields + stops.fields,
         edited.fields,
         files.fields,
-        doors.fields
+        doors.fields,
+        results.fields
     );
     Ok(differences == 0)
 }
@@ -112,6 +113,7 @@ fn order() -> Result<Order, String> {
         edited: 7_000,
         edges: 2,
         doors: 3_000,
+        results: 3_500,
         seed: 0,
     };
     while let Some(option) = arguments.next() {
@@ -127,6 +129,7 @@ fn order() -> Result<Order, String> {
             "--edited" => order.edited = number,
             "--edges" => order.edges = number,
             "--doors" => order.doors = number,
+            "--results" => order.results = number,
             "--seed" => order.seed = number,
             _ => {
                 return Err(format!(

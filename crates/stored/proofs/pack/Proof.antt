@@ -1,3 +1,5 @@
+-- Each end is the outcome (Ends): malformed, no room, written.
+-- Assumes nothing.
 use Rattle.stored.proofs.Ends.{test-true, fits-room, pack-malformed, pack-full, pack-done}
 use borrow.Author.Needs.{needs}
 use Rattle.stored.proofs.pack.Statement.{statement}

@@ -1,3 +1,5 @@
+-- Each end is the outcome (Ends): malformed, not the longest runs, no room, written.
+-- Assumes nothing.
 use Rattle.stored.proofs.Ends.{test-true, fits-room, unpack-malformed, unpack-shorter, unpack-full, unpack-done}
 use borrow.Author.Needs.{needs}
 use Rattle.stored.proofs.unpack.Statement.{statement}

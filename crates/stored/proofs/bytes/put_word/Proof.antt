@@ -1,3 +1,5 @@
+-- Two bytes written after each other are the number.
+-- Assumes nothing.
 use Rattle.stored.proofs.Calls.{word-room, word-then, word-done}
 use borrow.Author.Needs.{needs}
 use Rattle.stored.proofs.bytes.put_word.Statement.{statement}

@@ -1,3 +1,5 @@
+-- Two bytes, each below 256, make a number of 16 bits.
+-- Assumes nothing.
 use Rattle.rules.specs.File.{word}
 use borrow.Author.Needs.{needs}
 use Rattle.stored.proofs.bytes.word.Statement.{statement}

@@ -1,3 +1,5 @@
+-- The loop's invariant: the file is fine exactly if the rest from record i on is. Each turn takes a span's record from the rest.
+-- At the end one byte is left, the end record. Assumes nothing.
 use Prim.Native.Nat.{_≤_, _-_, _+_, _*_, _/_, _%_}
 use mathlib.Core.Path.{_≡_}
 use lib.ListN.{length, drop}

@@ -1,3 +1,5 @@
+-- Nothing is written for a run that goes on, otherwise its record.
+-- Assumes nothing.
 use Rattle.stored.proofs.Calls.{ended-here, ended-room, ended-wrote}
 use borrow.Author.Needs.{needs}
 use Rattle.stored.proofs.old.put_ended.Statement.{statement}

@@ -1,3 +1,5 @@
+-- A byte and two numbers written after each other are the record.
+-- Assumes nothing.
 use Rattle.stored.proofs.Calls.{run-room, run-then, run-then₂, run-done}
 use borrow.Author.Needs.{needs}
 use Rattle.stored.proofs.old.put_run.Statement.{statement}

@@ -1,3 +1,5 @@
+-- A run that goes on takes no bytes, one that ends five.
+-- Assumes nothing.
 use Rattle.stored.proofs.Calls.{none-bytes, run-bytes-is}
 use borrow.Author.Needs.{needs}
 use Rattle.stored.proofs.old.run_bytes.Statement.{statement}

@@ -1,3 +1,5 @@
+-- A run that is joined is below the greatest length, so one more fits 16 bits.
+-- Assumes nothing.
 use Prim.Native.Nat.{_<_}
 use Rattle.stored.proofs.Calls.{grown-small, grown-more, grown-one}
 use borrow.Author.Needs.{needs}

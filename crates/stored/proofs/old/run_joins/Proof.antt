@@ -1,3 +1,5 @@
+-- By cases on the code's two tests.
+-- Assumes nothing.
 use Rattle.stored.proofs.Calls.{joins-same, joins-other}
 use borrow.Author.Needs.{needs}
 use Rattle.stored.proofs.old.run_joins.Statement.{statement}

@@ -1,3 +1,5 @@
+-- The loop's invariant: whether all fits the room is whether what is still to be written fits what is left. Each turn takes a record's bytes from both.
+-- At the end the last run and the end record are left. Assumes nothing.
 use Prim.Native.Nat.{_≤_, _-_, _/_}
 use lib.ListN.{length}
 use Rattle.rules.specs.Stored.{packed}

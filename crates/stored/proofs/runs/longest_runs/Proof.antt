@@ -1,3 +1,5 @@
+-- The loop's invariant: the runs are the longest exactly if those from run j on are, after the run before.
+-- Any run may follow one of the greatest length, as the loop begins. Assumes nothing.
 use Prim.Native.Nat.{_≤_, _-_, _+_, _*_, _/_, _%_}
 use mathlib.Core.Path.{_≡_}
 use lib.ListN.{length, drop}

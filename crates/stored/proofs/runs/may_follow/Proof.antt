@@ -1,3 +1,5 @@
+-- By cases on whether the ids are the same.
+-- Assumes nothing.
 use Rattle.stored.proofs.NewCalls.{follow-same, follow-other}
 use borrow.Author.Needs.{needs}
 use Rattle.stored.proofs.runs.may_follow.Statement.{statement}

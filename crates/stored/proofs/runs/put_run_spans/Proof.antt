@@ -1,3 +1,5 @@
+-- The run's id and length are the two numbers of its record.
+-- Assumes nothing.
 use Rattle.stored.proofs.NewCalls.{run-spans-room, run-spans-wrote}
 use borrow.Author.Needs.{needs}
 use Rattle.stored.proofs.runs.put_run_spans.Statement.{statement}

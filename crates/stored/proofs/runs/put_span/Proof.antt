@@ -1,3 +1,5 @@
+-- A byte and a number written after each other are the record.
+-- Assumes nothing.
 use Rattle.stored.proofs.Calls.{span-room, span-then, span-done}
 use borrow.Author.Needs.{needs}
 use Rattle.stored.proofs.runs.put_span.Statement.{statement}

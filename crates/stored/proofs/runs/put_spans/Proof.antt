@@ -1,3 +1,5 @@
+-- The loop's invariant: the records of the spans left, written from here on, give what those of all give.
+-- Each turn writes one. Assumes nothing.
 use Rattle.stored.proofs.NewCalls.{Spans, spans-start, one-room, one-next, one-last}
 use borrow.Author.Needs.{needs}
 use Rattle.stored.proofs.runs.put_spans.Statement.{statement}

@@ -1,3 +1,5 @@
+-- By cases on the record's kind.
+-- Assumes nothing.
 use Rattle.stored.proofs.NewCalls.{run-kind, run-other}
 use borrow.Author.Needs.{needs}
 use Rattle.stored.proofs.runs.run_fine.Statement.{statement}

@@ -1,3 +1,5 @@
+-- The loop's invariant: whether all fits the room is whether what is still to be written fits what is left. Each turn takes a run's spans from both.
+-- At the end the end record is left. Assumes nothing.
 use Prim.Native.Nat.{_≤_, _-_, _/_, _%_}
 use mathlib.Core.Path.{_≡_}
 use lib.ListN.{length}

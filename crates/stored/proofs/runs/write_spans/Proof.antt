@@ -1,3 +1,5 @@
+-- The loop's invariant: what is still to be written, written from here on, gives what the whole gives.
+-- Each turn writes the spans of a run. Assumes nothing.
 use Prim.Native.Nat.{_≤_, _-_, _/_, _%_}
 use mathlib.Core.Path.{_≡_}
 use lib.ListN.{length}

@@ -56,6 +56,13 @@ enum {
     GUSSETRAFT_WRONG_STORED = 31 /* a stored pass 1 or raw value is above 510 */
 };
 
+/* Refusals of a stored result, looked for in this order over the whole file. Nothing is written then. */
+enum {
+    GUSSETRAFT_RESULT_MALFORMED = 22,   /* an unknown kind, cut short, no end, bytes after the end, a run of length 0, or the other form */
+    GUSSETRAFT_RESULT_NOT_LONGEST = 23, /* a run goes on with the id of the one before it, which is shorter than 65,535 spans */
+    GUSSETRAFT_RESULT_NO_ROOM = 24      /* the output would exceed the list lent */
+};
+
 /* What the number of a refusal means; of 0, "not refused". The text is constant. */
 static inline const char *gussetraft_refusal_text(uint16_t refusal) {
     switch (refusal) {
@@ -75,6 +82,9 @@ static inline const char *gussetraft_refusal_text(uint16_t refusal) {
     case GUSSETRAFT_TOO_LARGE: return "the file's field has more cells or spans than the loader takes";
     case GUSSETRAFT_WRONG_STORED: return "a stored pass 1 or raw value is above 510";
     case GUSSETRAFT_NO_ROOM: return "there are more changes than places in their list";
+    case GUSSETRAFT_RESULT_MALFORMED: return "the stored result is malformed";
+    case GUSSETRAFT_RESULT_NOT_LONGEST: return "the runs of the stored result are not the longest";
+    case GUSSETRAFT_RESULT_NO_ROOM: return "the output would exceed its list";
     default: return "no such refusal";
     }
 }
@@ -320,6 +330,44 @@ static inline uint16_t gussetraft_loaded_border_size(const gussetraft_loader *lo
 static inline uint16_t gussetraft_loaded_min_region_area(const gussetraft_loader *loader) { return (uint16_t)loader->numbers[9]; }
 static inline uint16_t gussetraft_loaded_merge_region_area(const gussetraft_loader *loader) { return (uint16_t)loader->numbers[10]; }
 static inline uint32_t gussetraft_loaded_spans(const gussetraft_loader *loader) { return loader->numbers[12]; }
+
+/* Stored results: the ids of a field's spans, in span order, as a file. Numbers are little-endian.
+ *
+ * The old form is a record of three bytes a span, 5 and the id, and the end record, the byte 4. The new form has runs of equal ids: a record of
+ * five bytes each, 6, the id and the length, 1 to 65,535, every run as long as equal ids and that limit allow, and the end record. A result has one
+ * file of each form, and each way back returns the very bytes.
+ *
+ * refusal: 0, or 22, 23 (gussetraft_unpack alone) or 24; length, how many bytes were written: 0 where refused. */
+typedef struct {
+    uint32_t refusal;
+    uint64_t length;
+} gussetraft_stored_answer;
+
+/* The two functions below with the answer's two numbers, in their order, written to a list of two; they give the refusal. A list of another length
+ * is refused 3, and every list then holds what it held. Most callers use the functions below. */
+uint32_t gussetraft_pack_into(const uint8_t *in, size_t in_len, uint8_t *out, size_t out_len, uint64_t *answer, size_t answer_len);
+uint32_t gussetraft_unpack_into(const uint8_t *in, size_t in_len, uint8_t *out, size_t out_len, uint64_t *answer, size_t answer_len);
+
+/* A file of the old form into the new one. 24 exactly when the output would exceed out_len bytes; what is past the output keeps what it held.
+ * The output is never more than 5 bytes a span and 1. */
+static inline gussetraft_stored_answer gussetraft_pack(const uint8_t *in, size_t in_len, uint8_t *out, size_t out_len) {
+    uint64_t a[2] = {0, 0};
+    gussetraft_stored_answer answer;
+    gussetraft_pack_into(in, in_len, out, out_len, a, 2);
+    answer.refusal = (uint32_t)a[0];
+    answer.length = a[1];
+    return answer;
+}
+
+/* A file of the new form into the old one, likewise. The output has 3 bytes a span and 1. */
+static inline gussetraft_stored_answer gussetraft_unpack(const uint8_t *in, size_t in_len, uint8_t *out, size_t out_len) {
+    uint64_t a[2] = {0, 0};
+    gussetraft_stored_answer answer;
+    gussetraft_unpack_into(in, in_len, out, out_len, a, 2);
+    answer.refusal = (uint32_t)a[0];
+    answer.length = a[1];
+    return answer;
+}
 
 #ifdef __cplusplus
 }

@@ -50,6 +50,7 @@
 #![no_std]
 
 mod load;
+pub mod results;
 mod sys;
 
 pub use load::{Lists, LoadRefusal, Loaded, Loader};

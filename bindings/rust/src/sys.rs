@@ -454,3 +454,55 @@ pub fn load_end(loader: &mut [u32; LOADER_LEN]) -> LoadAnswer {
     // SAFETY: as above.
     unsafe { gussetraft_load_end_into(loader.as_mut_ptr(), loader.len()) }
 }
+
+extern "C" {
+    fn gussetraft_pack_into(
+        file: *const u8,
+        file_len: usize,
+        out: *mut u8,
+        out_len: usize,
+        answer: *mut u64,
+        answer_len: usize,
+    ) -> u32;
+
+    fn gussetraft_unpack_into(
+        file: *const u8,
+        file_len: usize,
+        out: *mut u8,
+        out_len: usize,
+        answer: *mut u64,
+        answer_len: usize,
+    ) -> u32;
+}
+
+pub fn pack(file: &[u8], out: &mut [u8]) -> [u64; 2] {
+    let mut answer = [0; 2];
+    // SAFETY: as above.
+    unsafe {
+        gussetraft_pack_into(
+            file.as_ptr(),
+            file.len(),
+            out.as_mut_ptr(),
+            out.len(),
+            answer.as_mut_ptr(),
+            answer.len(),
+        );
+    }
+    answer
+}
+
+pub fn unpack(file: &[u8], out: &mut [u8]) -> [u64; 2] {
+    let mut answer = [0; 2];
+    // SAFETY: as above.
+    unsafe {
+        gussetraft_unpack_into(
+            file.as_ptr(),
+            file.len(),
+            out.as_mut_ptr(),
+            out.len(),
+            answer.as_mut_ptr(),
+            answer.len(),
+        );
+    }
+    answer
+}

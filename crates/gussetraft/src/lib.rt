@@ -1,5 +1,6 @@
 // The functions that C and Rust call (include/gussetraft.h). They take any input, as the entries do.
 mod pieces;
+mod results;
 pub mod roomids;
 
 use checker::refusal_number;

@@ -20,3 +20,4 @@ pub mod Mend
 pub mod Refresh
 pub mod Plain
 pub mod Load
+pub mod Stored

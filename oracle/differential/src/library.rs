@@ -342,3 +342,40 @@ pub fn load_end(loader: &mut [u32]) -> LoadAnswer {
     // SAFETY: as above.
     unsafe { gussetraft_load_end_into(loader.as_mut_ptr(), loader.len()) }
 }
+
+#[rustfmt::skip]
+unsafe extern "C" {
+    fn gussetraft_pack_into(
+        file: *const u8, file_len: usize, out: *mut u8, out_len: usize, answer: *mut u64, answer_len: usize,
+    ) -> u32;
+
+    fn gussetraft_unpack_into(
+        file: *const u8, file_len: usize, out: *mut u8, out_len: usize, answer: *mut u64, answer_len: usize,
+    ) -> u32;
+}
+
+/// Old to new: what is given, and the answer's numbers.
+pub fn pack(file: &[u8], out: &mut [u8]) -> (u32, [u64; 2]) {
+    let mut answer = [u64::MAX; 2];
+    (pack_with(file, out, &mut answer), answer)
+}
+
+/// The same with a list of any length for the numbers.
+#[rustfmt::skip]
+pub fn pack_with(file: &[u8], out: &mut [u8], answer: &mut [u64]) -> u32 {
+    // SAFETY: as above.
+    unsafe {
+        gussetraft_pack_into(file.as_ptr(), file.len(), out.as_mut_ptr(), out.len(), answer.as_mut_ptr(), answer.len())
+    }
+}
+
+/// New to old.
+#[rustfmt::skip]
+pub fn unpack(file: &[u8], out: &mut [u8]) -> (u32, [u64; 2]) {
+    let mut answer = [u64::MAX; 2];
+    // SAFETY: as above.
+    let given = unsafe {
+        gussetraft_unpack_into(file.as_ptr(), file.len(), out.as_mut_ptr(), out.len(), answer.as_mut_ptr(), answer.len())
+    };
+    (given, answer)
+}

@@ -10,6 +10,7 @@ mod lent;
 mod library;
 mod pieces;
 mod plain;
+mod results;
 mod small;
 mod stops;
 mod tally;
@@ -30,6 +31,7 @@ struct Order {
     doors: u64,
     rooms: u64,
     pieces: u64,
+    results: u64,
     seed: u64,
 }
 
@@ -89,32 +91,27 @@ fn run() -> Result<bool, String> {
     if pieces.fields > 0 {
         print!("files in pieces by kind, and their answers:\n{pieces}");
     }
-    if [
-        &small, &large, &winding, &stops, &edited, &files, &doors, &rooms, &pieces,
-    ]
-    .iter()
-    .any(|tally| tally.is_enough())
-    {
+    let results = results::compare(seed, order.results);
+    if results.fields > 0 {
+        print!("conversions of stored results by kind, and their answers:\n{results}");
+    }
+    let parts = [
+        &small, &large, &winding, &stops, &edited, &files, &doors, &rooms, &pieces, &results,
+    ];
+    if parts.iter().any(|tally| tally.is_enough()) {
         println!("{ended}");
     }
-    let differences = small.differences
-        + large.differences
-        + winding.differences
-        + stops.differences
-        + edited.differences
-        + files.differences
-        + doors.differences
-        + rooms.differences
-        + pieces.differences;
+    let differences: usize = parts.iter().map(|tally| tally.differences).sum();
     println!(
-        "compared {} small, {} large, {} edited fields, {} files mended, {} fields with doors, {} with plain rooms, {} files in pieces: {differences} differences",
+        "compared {} small, {} large, {} edited fields, {} files mended, {} fields with doors, {} with plain rooms, {} files in pieces, {} stored results: {differences} differences",
         small.fields,
         large.fields + winding.fields + stops.fields,
         edited.fields,
         files.fields,
         doors.fields,
         rooms.fields,
-        pieces.fields
+        pieces.fields,
+        results.fields
     );
     Ok(differences == 0)
 }
@@ -132,6 +129,7 @@ fn order() -> Result<Order, String> {
         doors: 3_000,
         rooms: 2_000,
         pieces: 4_000,
+        results: 3_500,
         seed: 0,
     };
     while let Some(option) = arguments.next() {
@@ -149,6 +147,7 @@ fn order() -> Result<Order, String> {
             "--doors" => order.doors = number,
             "--rooms" => order.rooms = number,
             "--pieces" => order.pieces = number,
+            "--results" => order.results = number,
             "--seed" => order.seed = number,
             _ => {
                 return Err(format!(

@@ -15,4 +15,5 @@ pub mod rng;
 pub mod run;
 pub mod samples;
 pub mod sketch;
+pub mod stored;
 pub mod vectors;

@@ -1,0 +1,110 @@
+//! Stored results: the ids of a field's spans, in span order, as a file. Numbers are little-endian.
+//!
+//! The old form is a record of three bytes a span, 5 and the id, and the end record, the byte 4. The new form has runs of equal ids: a record of five
+//! bytes each, 6, the id and the length, 1 to 65,535, every run as long as equal ids and that limit allow, and the end record. A result has one file of
+//! each form, and each way back returns the very bytes (that is proved).
+//!
+//! ```
+//! use gussetraft::results::{pack, unpack, Refusal};
+//!
+//! // spans of ids 7, 7, 7 and 258
+//! let old = [5, 7, 0, 5, 7, 0, 5, 7, 0, 5, 2, 1, 4];
+//! let mut new = [0; 32];
+//! let length = pack(&old, &mut new)?;
+//! assert_eq!(new[..length], [6, 7, 0, 3, 0, 6, 2, 1, 1, 0, 4]);
+//!
+//! let mut back = [0; 13];
+//! assert_eq!(unpack(&new[..length], &mut back)?, 13);
+//! assert_eq!(back, old);
+//! assert_eq!(unpack(&new[..length], &mut back[..12]), Err(Refusal::NoRoom));
+//! # Ok::<(), Refusal>(())
+//! ```
+
+use crate::sys;
+use core::fmt;
+
+/// Why a stored result was refused, by document 02's numbers; nothing was written then.
+///
+/// They are looked for in this order over the whole file, and the first that applies is given.
+#[derive(Debug, Clone, Copy, PartialEq, Eq, PartialOrd, Ord, Hash)]
+#[repr(u16)]
+pub enum Refusal {
+    /// 22: an unknown kind, cut short, no end, bytes after the end, a run of length 0, or the other form.
+    Malformed = 22,
+    /// 23: a run goes on with the id of the one before it, which is shorter than 65,535 spans.
+    NotLongest = 23,
+    /// 24: the output would exceed its list.
+    NoRoom = 24,
+}
+
+impl Refusal {
+    /// Every refusal, in the order of the numbers.
+    pub const ALL: [Self; 3] = [Self::Malformed, Self::NotLongest, Self::NoRoom];
+
+    /// Document 02's number.
+    pub const fn number(self) -> u16 {
+        self as u16
+    }
+
+    /// The refusal of a number.
+    pub const fn from_number(number: u16) -> Option<Self> {
+        match number {
+            22 => Some(Self::Malformed),
+            23 => Some(Self::NotLongest),
+            24 => Some(Self::NoRoom),
+            _ => None,
+        }
+    }
+
+    /// What the number means.
+    pub const fn meaning(self) -> &'static str {
+        match self {
+            Self::Malformed => "the stored result is malformed",
+            Self::NotLongest => "the runs of the stored result are not the longest",
+            Self::NoRoom => "the output would exceed its list",
+        }
+    }
+}
+
+impl fmt::Display for Refusal {
+    fn fmt(&self, f: &mut fmt::Formatter<'_>) -> fmt::Result {
+        write!(f, "refused {}: {}", self.number(), self.meaning())
+    }
+}
+
+impl core::error::Error for Refusal {}
+
+/// No answer of libgussetraft.a but 0 and the numbers of [`Refusal`] is possible (that is proved).
+fn accepted(number: u64) -> Result<(), Refusal> {
+    match u16::try_from(number).ok().and_then(Refusal::from_number) {
+        Some(refusal) => Err(refusal),
+        None => {
+            assert!(number == 0, "libgussetraft.a is not that of this crate");
+            Ok(())
+        }
+    }
+}
+
+/// A file of the old form into the new one; gives how many bytes were written. What is past them keeps what it held.
+///
+/// The output is never more than 5 bytes a span and 1.
+///
+/// # Errors
+///
+/// 22, and 24 exactly if the output would exceed `out`. Nothing is written then.
+pub fn pack(old: &[u8], out: &mut [u8]) -> Result<usize, Refusal> {
+    let [refusal, length] = sys::pack(old, out);
+    accepted(refusal)?;
+    Ok(length as usize)
+}
+
+/// A file of the new form into the old one, likewise. The output has 3 bytes a span and 1.
+///
+/// # Errors
+///
+/// 22, 23, and 24 exactly if the output would exceed `out`. Nothing is written then.
+pub fn unpack(new: &[u8], out: &mut [u8]) -> Result<usize, Refusal> {
+    let [refusal, length] = sys::unpack(new, out);
+    accepted(refusal)?;
+    Ok(length as usize)
+}

@@ -1,0 +1,4 @@
+-- Definitions that the code's promises are stated by.
+pub mod Parts
+pub mod Answer
+pub mod Into

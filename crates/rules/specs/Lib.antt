@@ -19,3 +19,4 @@ pub mod Open
 pub mod Mend
 pub mod Refresh
 pub mod Plain
+pub mod Sizes

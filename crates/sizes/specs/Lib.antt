@@ -1,0 +1,3 @@
+-- What the promises of floor sizes cite.
+pub mod Walk
+pub mod Answer

@@ -3,3 +3,4 @@ pub mod Exact
 pub mod Tests
 pub mod WalkLaws
 pub mod Outcome
+pub mod Numbers

@@ -1,4 +1,5 @@
 // Floor sizes in metres: the record of one id of a finished result.
+pub mod into;
 pub mod metres;
 pub mod walk;
 

@@ -1,5 +1,6 @@
 // The functions that C and Rust call (include/gussetraft.h). They take any input, as the entries do.
 pub mod roomids;
+pub mod roomsizes;
 
 use checker::refusal_number;
 use mend::MendAnswer;

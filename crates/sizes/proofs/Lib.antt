@@ -4,3 +4,4 @@ pub mod Tests
 pub mod WalkLaws
 pub mod Outcome
 pub mod Numbers
+pub mod Meaning

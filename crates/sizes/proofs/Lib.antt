@@ -5,3 +5,4 @@ pub mod WalkLaws
 pub mod Outcome
 pub mod Numbers
 pub mod Meaning
+pub mod Counts

@@ -9,6 +9,7 @@ mod large;
 mod lent;
 mod library;
 mod plain;
+mod sizes;
 mod small;
 mod stops;
 mod tally;
@@ -28,6 +29,7 @@ struct Order {
     edges: u64,
     doors: u64,
     rooms: u64,
+    sizes: u64,
     seed: u64,
 }
 
@@ -83,8 +85,12 @@ fn run() -> Result<bool, String> {
     if rooms.fields > 0 {
         print!("plain rooms by kind, and their answers:\n{rooms}");
     }
+    let sizes = sizes::compare(seed, order.sizes);
+    if sizes.fields > 0 {
+        print!("floor sizes by kind, and their answers:\n{sizes}");
+    }
     if [
-        &small, &large, &winding, &stops, &edited, &files, &doors, &rooms,
+        &small, &large, &winding, &stops, &edited, &files, &doors, &rooms, &sizes,
     ]
     .iter()
     .any(|tally| tally.is_enough())
@@ -98,15 +104,17 @@ fn run() -> Result<bool, String> {
         + edited.differences
         + files.differences
         + doors.differences
-        + rooms.differences;
+        + rooms.differences
+        + sizes.differences;
     println!(
-        "compared {} small, {} large, {} edited fields, {} files mended, {} fields with doors, {} with plain rooms: {differences} differences",
+        "compared {} small, {} large, {} edited fields, {} files mended, {} fields with doors, {} with plain rooms, {} with sizes: {differences} differences",
         small.fields,
         large.fields + winding.fields + stops.fields,
         edited.fields,
         files.fields,
         doors.fields,
-        rooms.fields
+        rooms.fields,
+        sizes.fields
     );
     Ok(differences == 0)
 }
@@ -123,6 +131,7 @@ fn order() -> Result<Order, String> {
         edges: 2,
         doors: 3_000,
         rooms: 2_000,
+        sizes: 2_000,
         seed: 0,
     };
     while let Some(option) = arguments.next() {
@@ -139,6 +148,7 @@ fn order() -> Result<Order, String> {
             "--edges" => order.edges = number,
             "--doors" => order.doors = number,
             "--rooms" => order.rooms = number,
+            "--sizes" => order.sizes = number,
             "--seed" => order.seed = number,
             _ => {
                 return Err(format!(

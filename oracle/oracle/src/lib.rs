@@ -13,5 +13,6 @@ pub mod refusals;
 pub mod rng;
 pub mod run;
 pub mod samples;
+pub mod sizes;
 pub mod sketch;
 pub mod vectors;

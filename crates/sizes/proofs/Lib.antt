@@ -6,3 +6,4 @@ pub mod Outcome
 pub mod Numbers
 pub mod Meaning
 pub mod Counts
+pub mod Edges

@@ -34,9 +34,10 @@ extern "C" {
 #define GUSSETRAFT_WORKSPACE_LEN(n) ((size_t)128 * (size_t)(n) + (size_t)4096)
 
 /* Refusals, looked for in this order; the first that applies is given. 7, 8, 12 and 13 are given by the two region functions alone, but for
- * gussetraft_build_rooms, which gives 1 to 7 and 12; 11 and 31 by gussetraft_refresh_distance_field alone, 27 by gussetraft_mend alone, which gives
- * 1 to 4 beside it; 20 and 21 by the loading of a file alone, which gives 3 beside them. A refused call changes nothing that was lent, but 12 and 13
- * leave a workspace of zeros, and a refused file leaves the field as far as it was read. */
+ * gussetraft_build_rooms, which gives 1 to 7 and 12; 9 and 10 by gussetraft_measure_room alone, which gives 1 to 6 beside them; 11 and 31 by
+ * gussetraft_refresh_distance_field alone, 27 by gussetraft_mend alone, which gives 1 to 4 beside it; 20 and 21 by the loading of a file alone, which
+ * gives 3 beside them. A refused call changes nothing that was lent, but 12 and 13 leave a workspace of zeros, and a refused file leaves the field as
+ * far as it was read. */
 enum {
     GUSSETRAFT_TOO_WIDE = 1,     /* w or h above 256 */
     GUSSETRAFT_TOO_MANY = 2,     /* n above 65,000 */
@@ -46,6 +47,8 @@ enum {
     GUSSETRAFT_WRONG_BACK = 6,   /* a connection is not answered from the other side */
     GUSSETRAFT_TOO_SHORT = 7,    /* workspace_len is below GUSSETRAFT_WORKSPACE_LEN(n) */
     GUSSETRAFT_TOO_FAR = 8,      /* max_distance is above 510, or a distance is above max_distance */
+    GUSSETRAFT_WRONG_SCALE = 9,  /* k is 0 or above 256 */
+    GUSSETRAFT_WRONG_IDS = 10,   /* ids are not one a span, or one is above max_region and not flagged */
     GUSSETRAFT_WRONG_RECT = 11,  /* the rectangle is empty or not in the field */
     GUSSETRAFT_NO_IDS = 12,      /* a successful flood would make the next id 0x8000, or there are more than 32,767 plain rooms; never with at most
                                   * 32,000 spans */
@@ -75,6 +78,8 @@ static inline const char *gussetraft_refusal_text(uint16_t refusal) {
     case GUSSETRAFT_WRONG_BACK: return "a connection is not answered from the other side";
     case GUSSETRAFT_TOO_SHORT: return "the workspace is shorter than 128 numbers a span and 4,096";
     case GUSSETRAFT_TOO_FAR: return "the greatest distance is above 510, or a distance is above the greatest";
+    case GUSSETRAFT_WRONG_SCALE: return "the scale is 0 or above 256";
+    case GUSSETRAFT_WRONG_IDS: return "the ids are not one a span, or one is above the greatest and not flagged";
     case GUSSETRAFT_WRONG_RECT: return "the rectangle is empty or not in the field";
     case GUSSETRAFT_NO_IDS: return "ids run out: the next would be 0x8000";
     case GUSSETRAFT_NO_SUM: return "a source distance in expansion would exceed 65,535";
@@ -367,6 +372,60 @@ static inline gussetraft_stored_answer gussetraft_unpack(const uint8_t *in, size
     answer.refusal = (uint32_t)a[0];
     answer.length = a[1];
     return answer;
+}
+
+/* The size record of one id: floor size in square metres, edges in metres, each exact; beside them the refusal, the area code of the id's
+ * first span, and how many spans have the id. All are 0 where refused, and for an id that is flagged, has no spans or is not from 1 to
+ * max_region. */
+typedef struct {
+    double floor;
+    double x_least, x_past;
+    double z_least, z_past;
+    uint16_t refusal;
+    uint16_t area;
+    uint16_t count;
+} gussetraft_room;
+
+/* The same with the five sizes, in their order, written to a list of five, and refusal, area and count to a list of three; gives the refusal. A list
+ * of another length is refused 3 (after 1 and 2), and both then hold what they held. Most callers use the function below. */
+uint16_t gussetraft_measure_room_into(
+    uint16_t w, uint16_t h,
+    const uint32_t *index, size_t index_len,
+    const uint8_t *count, size_t count_len,
+    const uint8_t *area, size_t area_len,
+    const uint8_t *con, size_t con_len,
+    const uint16_t *ids, size_t ids_len,
+    uint16_t max_region, uint16_t k, uint16_t id,
+    double *sizes, size_t sizes_len,
+    uint16_t *numbers, size_t numbers_len);
+
+/* The size of a room of a finished result (ids and max_region as gussetraft_build_regions or gussetraft_build_rooms gives them), with cells of
+ * side k/64 metre: the floor is count * k * k / 4096, an edge a cell number times k/64; x_least is the least column of the id's spans, x_past the
+ * greatest and 1, z likewise.
+ *
+ * Refusals: 1 to 6; 9 for k 0 or above 256; 10 for ids that are not one a span, or hold one above max_region that is not flagged. */
+static inline gussetraft_room gussetraft_measure_room(
+    uint16_t w, uint16_t h,
+    const uint32_t *index, size_t index_len,
+    const uint8_t *count, size_t count_len,
+    const uint8_t *area, size_t area_len,
+    const uint8_t *con, size_t con_len,
+    const uint16_t *ids, size_t ids_len,
+    uint16_t max_region, uint16_t k, uint16_t id) {
+    double s[5] = {0, 0, 0, 0, 0};
+    uint16_t n[3] = {0, 0, 0};
+    gussetraft_room room;
+    gussetraft_measure_room_into(
+        w, h, index, index_len, count, count_len, area, area_len, con, con_len, ids, ids_len, max_region, k, id, s, 5, n, 3);
+    room.floor = s[0];
+    room.x_least = s[1];
+    room.x_past = s[2];
+    room.z_least = s[3];
+    room.z_past = s[4];
+    room.refusal = n[0];
+    room.area = n[1];
+    room.count = n[2];
+    return room;
 }
 
 #ifdef __cplusplus

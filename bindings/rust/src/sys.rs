@@ -38,6 +38,28 @@ pub struct LoadAnswer {
 pub const LOADER_LEN: usize = 17;
 
 extern "C" {
+    fn gussetraft_measure_room_into(
+        w: u16,
+        h: u16,
+        index: *const u32,
+        index_len: usize,
+        count: *const u8,
+        count_len: usize,
+        area: *const u8,
+        area_len: usize,
+        con: *const u8,
+        con_len: usize,
+        ids: *const u16,
+        ids_len: usize,
+        max_region: u16,
+        k: u16,
+        id: u16,
+        sizes: *mut f64,
+        sizes_len: usize,
+        numbers: *mut u16,
+        numbers_len: usize,
+    ) -> u16;
+
     fn gussetraft_build_rooms(
         w: u16,
         h: u16,
@@ -505,4 +527,37 @@ pub fn unpack(file: &[u8], out: &mut [u8]) -> [u64; 2] {
         );
     }
     answer
+}
+
+pub fn measure(
+    field: &Field<'_>,
+    ids: &[u16],
+    [max_region, k, id]: [u16; 3],
+) -> ([f64; 5], [u16; 3]) {
+    let (mut sizes, mut numbers) = ([0.0; 5], [0; 3]);
+    // SAFETY: as above.
+    unsafe {
+        gussetraft_measure_room_into(
+            field.w,
+            field.h,
+            field.index.as_ptr(),
+            field.index.len(),
+            field.count.as_ptr(),
+            field.count.len(),
+            field.area.as_ptr(),
+            field.area.len(),
+            field.con.as_ptr(),
+            field.con.len(),
+            ids.as_ptr(),
+            ids.len(),
+            max_region,
+            k,
+            id,
+            sizes.as_mut_ptr(),
+            sizes.len(),
+            numbers.as_mut_ptr(),
+            numbers.len(),
+        );
+    }
+    (sizes, numbers)
 }

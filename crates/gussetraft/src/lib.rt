@@ -2,6 +2,7 @@
 mod pieces;
 mod results;
 pub mod roomids;
+pub mod roomsizes;
 
 use checker::refusal_number;
 use mend::MendAnswer;

@@ -21,3 +21,4 @@ pub mod Refresh
 pub mod Plain
 pub mod Load
 pub mod Stored
+pub mod Sizes

@@ -78,6 +78,18 @@ impl Lists {
 
 #[rustfmt::skip]
 unsafe extern "C" {
+    fn gussetraft_measure_room_into(
+        w: u16, h: u16,
+        index: *const u32, index_len: usize,
+        count: *const u8, count_len: usize,
+        area: *const u8, area_len: usize,
+        con: *const u8, con_len: usize,
+        ids: *const u16, ids_len: usize,
+        max_region: u16, k: u16, id: u16,
+        sizes: *mut f64, sizes_len: usize,
+        numbers: *mut u16, numbers_len: usize,
+    ) -> u16;
+
     fn gussetraft_build_rooms(
         w: u16, h: u16,
         index: *const u32, index_len: usize,
@@ -378,4 +390,24 @@ pub fn unpack(file: &[u8], out: &mut [u8]) -> (u32, [u64; 2]) {
         gussetraft_unpack_into(file.as_ptr(), file.len(), out.as_mut_ptr(), out.len(), answer.as_mut_ptr(), answer.len())
     };
     (given, answer)
+}
+
+/// The record of an id, with max_region, k and the id asked for.
+#[rustfmt::skip]
+pub fn measure(field: &Field, ids: &[u16], asked: [u16; 3], sizes: &mut [f64], numbers: &mut [u16]) -> u16 {
+    let [max_region, k, id] = asked;
+    // SAFETY: as above.
+    unsafe {
+        gussetraft_measure_room_into(
+            field.w, field.h,
+            field.index.as_ptr(), field.index.len(),
+            field.count.as_ptr(), field.count.len(),
+            field.area.as_ptr(), field.area.len(),
+            field.con.as_ptr(), field.con.len(),
+            ids.as_ptr(), ids.len(),
+            max_region, k, id,
+            sizes.as_mut_ptr(), sizes.len(),
+            numbers.as_mut_ptr(), numbers.len(),
+        )
+    }
 }

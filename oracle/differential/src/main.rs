@@ -11,6 +11,7 @@ mod library;
 mod pieces;
 mod plain;
 mod results;
+mod sizes;
 mod small;
 mod stops;
 mod tally;
@@ -30,6 +31,7 @@ struct Order {
     edges: u64,
     doors: u64,
     rooms: u64,
+    sizes: u64,
     pieces: u64,
     results: u64,
     seed: u64,
@@ -87,6 +89,10 @@ fn run() -> Result<bool, String> {
     if rooms.fields > 0 {
         print!("plain rooms by kind, and their answers:\n{rooms}");
     }
+    let sizes = sizes::compare(seed, order.sizes);
+    if sizes.fields > 0 {
+        print!("floor sizes by kind, and their answers:\n{sizes}");
+    }
     let pieces = pieces::compare(seed, order.pieces);
     if pieces.fields > 0 {
         print!("files in pieces by kind, and their answers:\n{pieces}");
@@ -96,20 +102,22 @@ fn run() -> Result<bool, String> {
         print!("conversions of stored results by kind, and their answers:\n{results}");
     }
     let parts = [
-        &small, &large, &winding, &stops, &edited, &files, &doors, &rooms, &pieces, &results,
+        &small, &large, &winding, &stops, &edited, &files, &doors, &rooms, &sizes, &pieces,
+        &results,
     ];
     if parts.iter().any(|tally| tally.is_enough()) {
         println!("{ended}");
     }
     let differences: usize = parts.iter().map(|tally| tally.differences).sum();
     println!(
-        "compared {} small, {} large, {} edited fields, {} files mended, {} fields with doors, {} with plain rooms, {} files in pieces, {} stored results: {differences} differences",
+        "compared {} small, {} large, {} edited fields, {} files mended, {} fields with doors, {} with plain rooms, {} with sizes, {} files in pieces, {} stored results: {differences} differences",
         small.fields,
         large.fields + winding.fields + stops.fields,
         edited.fields,
         files.fields,
         doors.fields,
         rooms.fields,
+        sizes.fields,
         pieces.fields,
         results.fields
     );
@@ -128,6 +136,7 @@ fn order() -> Result<Order, String> {
         edges: 2,
         doors: 3_000,
         rooms: 2_000,
+        sizes: 2_000,
         pieces: 4_000,
         results: 3_500,
         seed: 0,
@@ -146,6 +155,7 @@ fn order() -> Result<Order, String> {
             "--edges" => order.edges = number,
             "--doors" => order.doors = number,
             "--rooms" => order.rooms = number,
+            "--sizes" => order.sizes = number,
             "--pieces" => order.pieces = number,
             "--results" => order.results = number,
             "--seed" => order.seed = number,

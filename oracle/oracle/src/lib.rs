@@ -14,6 +14,7 @@ pub mod refusals;
 pub mod rng;
 pub mod run;
 pub mod samples;
+pub mod sizes;
 pub mod sketch;
 pub mod stored;
 pub mod vectors;

@@ -21,6 +21,7 @@ fn stored_number(r: StoredRefusal) -> u32
         StoredRefusal::Malformed => 22,
         StoredRefusal::NotLongest => 23,
         StoredRefusal::NoRoom => 24,
+        StoredRefusal::WrongNumber => 25,
     }
 }
 

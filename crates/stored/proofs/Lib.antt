@@ -6,3 +6,7 @@ pub mod Calls
 pub mod NewCalls
 pub mod Ends
 pub mod Numbers
+pub mod Seeking
+pub mod Halving
+pub mod IdCalls
+pub mod Same

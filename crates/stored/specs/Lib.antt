@@ -2,4 +2,5 @@
 pub mod Parts
 pub mod Records
 pub mod Answer
+pub mod Ids
 pub mod Into

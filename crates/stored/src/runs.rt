@@ -88,7 +88,7 @@ pub(crate) fn new_fine(new: &[u8]) -> bool
 // The number of four bytes at place i.
 pub(crate) fn long_word(bytes: &[u8], i: usize) -> usize
     requires { ⌜ i + 3 < length (now bytes) ⌝ }
-    ensures { λ r. ⌜ r ≡ longWord (now (bytes .entry)) i ⌝ }
+    ensures { λ r. ⌜ (r ≡ longWord (now (bytes .entry)) i) × (r ≤ 4294967295) ⌝ }
 {
     let low = word(bytes, i) as usize;
     let high = word(bytes, i + 2) as usize;

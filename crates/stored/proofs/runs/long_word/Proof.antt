@@ -27,7 +27,7 @@ add-result : tie.Need-add-result
 add-result c = search needs
 
 returns : tie.Need-returns
-returns c = search (needs, long-is)
+returns c = (search (needs, long-is), search needs)
 
 pub long-word-spec : {M : Type 1} → statement M
 long-word-spec =

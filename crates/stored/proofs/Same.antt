@@ -16,6 +16,7 @@ use Rattle.laws.proofs.Basics.{both, if-ind}
 use Rattle.forms.proofs.Runs.{run}
 use Rattle.forms.proofs.Back.{Read, read-fine}
 use Rattle.stored.proofs.Seeking.{found, seekFrom}
+use Rattle.stored.proofs.NewPlaces.{new-length}
 
 -- a stretch that is full, c of its runs being left: the number after it, and what comes next
 pub record Walked (c t s : ℕ) (l : List ℕ) (s′ : ℕ) : Type 0 where
@@ -173,3 +174,137 @@ last zero (k ∷ a ∷ b ∷ x ∷ d ∷ rest) t s p span e f h = absurd (no-res
 last (suc c) (k ∷ a ∷ b ∷ x ∷ d ∷ rest) t s p span e f h =
     let n : t < 64 = omega arith in
     agree c t s k a b x d rest n f p span (λ z. last c rest (suc t) (s + (x + 256 * d)) p span (omega arith) (rest-fine c t s k a b x d rest n f) (omega arith))
+
+-- ---------------------------------------------------------------- all stretches of an accepted file
+
+drop-more : (l : List ℕ) (p : ℕ) → drop (5 * 64 + 5) (drop (325 * p) l) ≡ drop (325 * suc p) l
+drop-more l p = let e : 325 * p + (5 * 64 + 5) ≡ 325 * suc p = omega arith in drop-drop (5 * 64 + 5) (325 * p) l ∙ ap (λ z. drop z l) e
+
+number-at : (l : List ℕ) (p i k : ℕ) → 325 * p + i ≡ k → getD (drop (325 * p) l) i 0 ≡ getD l k 0
+number-at l p i k e = getD-drop (325 * p) l i 0 ∙ ap (λ z. getD l z 0) e
+
+mark-of : (l : List ℕ) (p : ℕ)
+    → fourOf (getD (drop (325 * p) l) (5 * 64 + 1) 0) (getD (drop (325 * p) l) (5 * 64 + 2) 0) (getD (drop (325 * p) l) (5 * 64 + 3) 0) (getD (drop (325 * p) l) (5 * 64 + 4) 0) ≡ markAt l p
+unfolding markAt
+mark-of l p =
+    rw (
+      number-at l p (5 * 64 + 1) (325 * p + 321) (omega arith),
+      number-at l p (5 * 64 + 2) (325 * p + 322) (omega arith),
+      number-at l p (5 * 64 + 3) (325 * p + 323) (omega arith),
+      number-at l p (5 * 64 + 4) (325 * p + 324) (omega arith),
+    )
+
+seek-plain : (p s : ℕ) (rs : List Run) (span : ℕ) → seekFrom p 0 s rs span ≡ seek p 0 s rs span
+unfolding seekFrom if_then_else_
+seek-plain p s rs span = refl
+
+module _ (l : List ℕ) (a : newFine l ≡ true) (b : rightNumbers l ≡ true) (o : length l % 5 ≡ 1) where
+  -- where stretch p begins
+  pub record Stands (p : ℕ) : Type 0 where
+    pub fine : newFineFrom 0 (spansBefore l p) (drop (325 * p) l) ≡ true
+    pub right : rightFrom 0 (spansBefore l p) (drop (325 * p) l) ≡ true
+    pub counts : p ≤ spansBefore l p
+    pub few : spansBefore l p ≤ 4294967295
+    pub seeks : (span : ℕ) → spansBefore l p ≤ span → seek 0 0 0 (newRuns l) span ≡ seek p 0 (spansBefore l p) (newRunsFrom 0 (drop (325 * p) l)) span
+
+  fine-here : newFineFrom 0 0 l ≡ true
+  unfolding newFine
+  fine-here = a
+
+  right-here : rightFrom 0 0 l ≡ true
+  unfolding rightNumbers
+  right-here = b
+
+  stands-first : Stands 0
+  unfolding spansBefore newRuns
+  stands-first = record { fine = fine-here; right = right-here; counts = omega arith; few = omega arith; seeks = λ span h. refl }
+
+  stretch : (p : ℕ) → p < length l / 325 → Stands p → Full 64 0 (spansBefore l p) (drop (325 * p) l)
+  stretch p h w = walk 64 (drop (325 * p) l) 0 (spansBefore l p) refl (w .fine) (w .right) (omega (arith, length-drop (325 * p) l))
+
+  stands-next : (p : ℕ) (h : p < length l / 325) (w : Stands p) (s : ℕ) → Walked 64 0 (spansBefore l p) (drop (325 * p) l) s → markAt l p ≡ s → Stands (suc p)
+  unfolding spansBefore
+  stands-next p h w s k e = record {
+    fine = rw (e, ← drop-more l p) (k .fine);
+    right = rw (e, ← drop-more l p) (k .right);
+    counts = omega (arith, w .counts, k .more);
+    few = omega (arith, k .few);
+    seeks = λ span g. w .seeks span (omega (arith, k .more)) ∙ sym (seek-plain p (spansBefore l p) (newRunsFrom 0 (drop (325 * p) l)) span)
+        ∙ k .past p span (omega arith)
+        ∙ ap (λ z. seek (suc p) 0 s (newRunsFrom 0 z) span) (drop-more l p) ∙ ap (λ z. seek (suc p) 0 z (newRunsFrom 0 (drop (325 * suc p) l)) span) (sym e);
+  }
+
+  mark-is : (p s : ℕ) → Walked 64 0 (spansBefore l p) (drop (325 * p) l) s → markAt l p ≡ s
+  mark-is p s k = sym (mark-of l p) ∙ k .number
+
+  pub stands : (p : ℕ) → p ≤ length l / 325 → Stands p
+  stands zero h = stands-first
+  stands (suc p) h =
+      let w = stands p (omega arith) in
+      let f = stretch p (omega arith) w in
+      stands-next p (omega arith) w (f .spans) (f .walked) (mark-is p (f .spans) (f .walked))
+
+  -- the stretch that holds the span, and the last for a span beyond the end
+  pub reads-same : (p span : ℕ) → p ≤ length l / 325 → spansBefore l p ≤ span → (p < length l / 325 → span < markAt l p)
+      → within p 64 (drop (325 * p) l) (spansBefore l p) span ≡ seek 0 0 0 (newRuns l) span
+  reads-same p span h g k =
+      let w = stands p h in
+      elim (decLt p (length l / 325)) [
+        | yes n ↦ (let f = stretch p n w in
+            f .walked .here p span g (omega (arith, k n, mark-is p (f .spans) (f .walked))) ∙ seek-plain p (spansBefore l p) (newRunsFrom 0 (drop (325 * p) l)) span ∙ sym (w .seeks span g))
+        | no n ↦ (last 64 (drop (325 * p) l) 0 (spansBefore l p) p span refl (w .fine) (omega (arith, length-drop (325 * p) l))
+            ∙ seek-plain p (spansBefore l p) (newRunsFrom 0 (drop (325 * p) l)) span ∙ sym (w .seeks span g))
+      ]
+
+-- ---------------------------------------------------------------- the halving
+
+-- the stretch that the halving leaves: its spans begin at or before the span, and its own number is above it
+pub record Leaves (l : List ℕ) (span most r : ℕ) : Type 0 where
+  pub within : r ≤ most
+  pub starts : spansBefore l r ≤ span
+  pub ends : r < most → span < markAt l r
+
+next-starts : (l : List ℕ) (span mid : ℕ) → leb (markAt l mid) span ≡ true → spansBefore l (suc mid) ≤ span
+unfolding spansBefore
+next-starts l span mid e = leb-true (markAt l mid) span e
+
+halving-leaves : (k : ℕ) (l : List ℕ) (span most lo hi : ℕ) → hi ≤ lo + k → lo ≤ hi → hi ≤ most → spansBefore l lo ≤ span → (hi < most → span < markAt l hi)
+    → Leaves l span most (halving k l span lo hi)
+unfolding halving
+halving-leaves zero l span most lo hi e f g h m =
+    let z : hi ≡ lo = omega arith in
+    record { within = omega arith; starts = h; ends = subst (λ v. v < most → span < markAt l v) z m }
+halving-leaves (suc k) l span most lo hi e f g h m =
+    if-ind (Leaves l span most) (ltb lo hi)
+    (λ y. let d = ltb-true lo hi y in
+    if-ind (Leaves l span most) (leb (markAt l ((lo + hi) / 2)) span)
+    (λ q. halving-leaves k l span most (suc ((lo + hi) / 2)) hi (omega arith) (omega arith) g (next-starts l span ((lo + hi) / 2) q) m)
+    (λ q. halving-leaves k l span most lo ((lo + hi) / 2) (omega arith) (omega arith) (omega arith) h (λ u. leb-false (markAt l ((lo + hi) / 2)) span q)))
+    (λ y. let d = ltb-false lo hi y in
+    let z : hi ≡ lo = omega arith in
+    record { within = omega arith; starts = h; ends = subst (λ v. v < most → span < markAt l v) z m })
+
+none-before : (l : List ℕ) (span : ℕ) → spansBefore l 0 ≤ span
+unfolding spansBefore
+none-before l span = omega arith
+
+all-marks : (l : List ℕ) → length l / 325 ≤ 4294967295 → marksIn l ≡ length l / 325
+unfolding marksIn if_then_else_
+all-marks l h = rw (le-ltb 4294967295 (length l / 325) h)
+
+chosen-leaves : (l : List ℕ) (span : ℕ) → Leaves l span (marksIn l) (chosen l span)
+unfolding chosen
+chosen-leaves l span = halving-leaves (marksIn l) l span (marksIn l) 0 (marksIn l) (omega arith) (omega arith) (omega arith) (none-before l span) (λ u. absurd (omega arith))
+
+-- ---------------------------------------------------------------- the theorem
+
+pub same-answer : (l : List ℕ) (span : ℕ) → readRefusal l ≡ 0 → idAt l span ≡ idWhole l span
+unfolding idAt idWhole if_then_else_
+same-answer l span e =
+    let r = read-fine l e in
+    let o = new-length l (r .fine) in
+    let w = stands l (r .fine) (r .right) o (length l / 325) (omega arith) in
+    let m : marksIn l ≡ length l / 325 = all-marks l (omega (arith, w .counts, w .few)) in
+    let c = chosen-leaves l span in
+    rw (eq-eqb (length l % 5) 1 o, eq-eqb (readRefusal l) 0 e)
+    (reads-same l (r .fine) (r .right) o (chosen l span) span (omega (arith, c .within)) (c .starts) (λ h. c .ends (omega arith)))

@@ -1,19 +1,13 @@
+-- The loop's invariant: where the reading stands (At), and that the search from record j on gives what the whole search gives (Seeks).
+-- Every stretch passed has a span at least, so its number fits 32 bits. Assumes nothing.
 use Prim.Native.Nat.{_≤_, _-_, _/_, _%_}
 use mathlib.Core.Path.{_≡_}
 use lib.ListN.{length}
 use Rattle.stored.proofs.NewPlaces.{new-length, At, at-first, at-on}
 use Rattle.stored.proofs.Seeking.{Seeks, seeks-first, stretch-fits, seeks-found, seeks-next, seeks-end}
 use borrow.Author.Needs.{needs}
-use native.Mathlib.Omega.{arith}
 use Rattle.stored.proofs.id.find_whole.Statement.{statement}
 use Rattle.stored.proofs.id.find_whole.Tie as tie
-use Rattle.stored.proofs.id.find_whole.Reads as reads
-use Rattle.stored.proofs.id.find_whole.Lts as lts
-use Rattle.stored.proofs.bytes.word.Reads as word-reads
-use Rattle.stored.proofs.id.run_holds.Reads as run-holds-reads
-use Rattle.stored.proofs.id.stretch_after.Reads as stretch-after-reads
-use Rattle.stored.proofs.runs.runs_after.Reads as runs-after-reads
-use Rattle.stored.proofs.runs.spans_after.Reads as spans-after-reads
 
 abbrev Inv-loop : tie.InvT-loop
 Inv-loop file span m t₀ p₀ spans₀ j₀ t p spans j = (length file % 5 ≡ 1) × (j ≤ length file / 5) × At file j t spans × Seeks file span j t p spans
@@ -21,63 +15,48 @@ Inv-loop file span m t₀ p₀ spans₀ j₀ t p spans j = (length file % 5 ≡ 
 abbrev μ-loop : tie.MeasureT-loop
 μ-loop file span m t₀ p₀ spans₀ j₀ t p spans j = length file / 5 - j
 
--- src/id.rt:67:5
 loop-holds : tie.Need-loop-holds Inv-loop μ-loop
 loop-holds c = (search (needs, new-length), search needs, search (needs, at-first), search (needs, seeks-first))
 
--- src/id.rt:68:28
 mul-run-holds : tie.Need-mul-run-holds Inv-loop μ-loop
 mul-run-holds c = search needs
 
--- src/id.rt:68:12
 run-holds-requires : tie.Need-run-holds-requires Inv-loop μ-loop
 run-holds-requires c κs = search needs
 
--- src/id.rt:69:47
 mul-word : tie.Need-mul-word Inv-loop μ-loop
 mul-word c = search needs
 
--- src/id.rt:69:47
 add-word : tie.Need-add-word Inv-loop μ-loop
 add-word c = search needs
 
--- src/id.rt:69:36
 word-requires : tie.Need-word-requires Inv-loop μ-loop
 word-requires c κs = search needs
 
--- src/id.rt:69:13
 returns : tie.Need-returns Inv-loop μ-loop
 returns c = search (needs, seeks-found)
 
--- src/id.rt:71:9
 stretch-after-requires : tie.Need-stretch-after-requires Inv-loop μ-loop
 stretch-after-requires c κs = search (needs, stretch-fits)
 
--- src/id.rt:72:35
 mul-spans-after : tie.Need-mul-spans-after Inv-loop μ-loop
 mul-spans-after c = search needs
 
--- src/id.rt:72:9
 spans-after-requires : tie.Need-spans-after-requires Inv-loop μ-loop
 spans-after-requires c κs = search needs
 
--- src/id.rt:73:9
 runs-after-requires : tie.Need-runs-after-requires Inv-loop μ-loop
 runs-after-requires c κs = search needs
 
--- src/id.rt:74:9
 add-j : tie.Need-add-j Inv-loop μ-loop
 add-j c = search needs
 
--- src/id.rt:67:5
 loop-less : tie.Need-loop-less Inv-loop μ-loop
 loop-less c = search needs
 
--- src/id.rt:67:5
 loop-again : tie.Need-loop-again Inv-loop μ-loop
 loop-again c = (search needs, search needs, search (needs, at-on), search (needs, seeks-next))
 
--- src/id.rt:58:1
 returns-2 : tie.Need-returns-2 Inv-loop μ-loop
 returns-2 c = search (needs, seeks-end)
 

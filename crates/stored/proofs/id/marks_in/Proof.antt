@@ -1,16 +1,13 @@
+-- By cases on the greatest number.
+-- Assumes nothing.
 use Rattle.stored.proofs.Halving.{marks-most, marks-all}
 use borrow.Author.Needs.{needs}
-use native.Mathlib.Omega.{arith}
 use Rattle.stored.proofs.id.marks_in.Statement.{statement}
 use Rattle.stored.proofs.id.marks_in.Tie as tie
-use Rattle.stored.proofs.id.marks_in.Reads as reads
-use Rattle.stored.proofs.id.marks_in.Lts as lts
 
--- src/id.rt:103:9
 returns : tie.Need-returns
 returns c = (search (needs, marks-most), search needs, search needs)
 
--- src/id.rt:98:1
 returns-2 : tie.Need-returns-2
 returns-2 c = (search (needs, marks-all), search needs, search needs)
 

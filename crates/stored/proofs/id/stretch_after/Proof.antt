@@ -1,21 +1,17 @@
+-- By cases on what is due.
+-- Assumes nothing.
 use Prim.Native.Nat.{_<_}
 use Rattle.stored.proofs.IdCalls.{stretch-more, stretch-same}
 use borrow.Author.Needs.{needs}
-use native.Mathlib.Omega.{arith}
 use Rattle.stored.proofs.id.stretch_after.Statement.{statement}
 use Rattle.stored.proofs.id.stretch_after.Tie as tie
-use Rattle.stored.proofs.id.stretch_after.Reads as reads
-use Rattle.stored.proofs.id.stretch_after.Lts as lts
 
--- src/id.rt:52:16
 add-result : tie.Need-add-result
 add-result c = let h : c .before .args .p < 4294967295 = c .before .pre (search needs) in search needs
 
--- src/id.rt:52:9
 returns : tie.Need-returns
 returns c = search (needs, stretch-more)
 
--- src/id.rt:47:1
 returns-2 : tie.Need-returns-2
 returns-2 c = search (needs, stretch-same)
 

@@ -1,66 +1,49 @@
+-- Each arm writes the numbers of its answer.
+-- Assumes nothing.
 use Rattle.stored.proofs.IdCalls.{put-refused, list-refused, put-beyond, list-beyond, put-found, list-found}
-use native.Mathlib.Omega.{arith}
 use borrow.Author.Needs.{needs}
 use Rattle.stored.proofs.into.put_id.Statement.{statement}
 use Rattle.stored.proofs.into.put_id.Tie as tie
-use Rattle.stored.proofs.into.put_id.Reads as reads
-use Rattle.stored.proofs.into.put_id.Lts as lts
-use Rattle.stored.proofs.into.stored_number.Reads as stored-number-reads
-use Rattle.stored.proofs.into.write_id.Reads as write-id-reads
 
--- src/into.rt:100:27
 enum-known-r : tie.Need-enum-known-r
 enum-known-r c = search needs
 
--- src/into.rt:101:17
 stored-number-requires : tie.Need-stored-number-requires
 stored-number-requires c κs = search needs
 
--- src/into.rt:102:13
 write-id-requires : tie.Need-write-id-requires
 write-id-requires c κs = search needs
 
--- src/into.rt:105:26
 enum-known-r-2 : tie.Need-enum-known-r-2
 enum-known-r-2 c = search needs
 
--- src/into.rt:106:13
 write-id-requires-2 : tie.Need-write-id-requires-2
 write-id-requires-2 c κs = search needs
 
--- src/into.rt:109:25
 enum-known-r-3 : tie.Need-enum-known-r-3
 enum-known-r-3 c = search needs
 
--- src/into.rt:110:29
 cast-write-id : tie.Need-cast-write-id
 cast-write-id c = search needs
 
--- src/into.rt:110:13
 write-id-requires-3 : tie.Need-write-id-requires-3
 write-id-requires-3 c κs = search needs
 
--- src/into.rt:95:1
 same-length : tie.Need-same-length
 same-length c = search needs
 
--- src/into.rt:95:1
 returns : tie.Need-returns
 returns c = (search (needs, put-refused), search (needs, list-refused))
 
--- src/into.rt:95:1
 same-length-2 : tie.Need-same-length-2
 same-length-2 c = search needs
 
--- src/into.rt:95:1
 returns-2 : tie.Need-returns-2
 returns-2 c = (search (needs, put-beyond), search (needs, list-beyond))
 
--- src/into.rt:95:1
 same-length-3 : tie.Need-same-length-3
 same-length-3 c = search needs
 
--- src/into.rt:95:1
 returns-3 : tie.Need-returns-3
 returns-3 c = (search (needs, put-found), search (needs, list-found))
 

@@ -407,7 +407,13 @@ pub fn id_at(file: &[u8], span: u32) -> [u32; 3] {
     let mut answer = [0; 3];
     // SAFETY: as above.
     unsafe {
-        gussetraft_id_at_into(file.as_ptr(), file.len(), span, answer.as_mut_ptr(), answer.len());
+        gussetraft_id_at_into(
+            file.as_ptr(),
+            file.len(),
+            span,
+            answer.as_mut_ptr(),
+            answer.len(),
+        );
     }
     answer
 }
@@ -416,7 +422,13 @@ pub fn id_at_whole(file: &[u8], span: u32) -> [u32; 3] {
     let mut answer = [0; 3];
     // SAFETY: as above.
     unsafe {
-        gussetraft_id_at_whole_into(file.as_ptr(), file.len(), span, answer.as_mut_ptr(), answer.len());
+        gussetraft_id_at_whole_into(
+            file.as_ptr(),
+            file.len(),
+            span,
+            answer.as_mut_ptr(),
+            answer.len(),
+        );
     }
     answer
 }

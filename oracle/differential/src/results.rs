@@ -55,7 +55,15 @@ fn compare_result(seed: u64, tally: &mut Tally) {
         Err(what) => differs(seed, &format!("{kind}, {name}: {what}"), tally),
     };
     let spans = (old.len() / 3) as u32;
-    for span in [0, 1, spans / 2, spans.saturating_sub(1), spans, u32::MAX, rng.number() as u32] {
+    for span in [
+        0,
+        1,
+        spans / 2,
+        spans.saturating_sub(1),
+        spans,
+        u32::MAX,
+        rng.number() as u32,
+    ] {
         for file in [&old, &new] {
             compared(&format!("span {span}"), compare_ids(file, span));
         }
@@ -156,7 +164,9 @@ fn damage(file: &mut Vec<u8>, rng: &mut Rng) {
 
 /// One call with a list of so many bytes. Gives the answer's sort, or what differs.
 fn compare_call(file: &[u8], pack: bool, room: usize) -> Result<String, String> {
-    let held: Vec<u8> = (0..room + 2 * SIDE).map(|place| (place * 37 + 11) as u8).collect();
+    let held: Vec<u8> = (0..room + 2 * SIDE)
+        .map(|place| (place * 37 + 11) as u8)
+        .collect();
     let mut out = held.clone();
     let lent = file.to_vec();
     let (found, expected) = {
@@ -186,7 +196,10 @@ fn compare_call(file: &[u8], pack: bool, room: usize) -> Result<String, String> 
         None => Ok(sort),
         Some(place) => {
             let (found, wanted) = (out[place], wanted[place]);
-            Err(format!("out has {found} at {}, not {wanted}", place as i64 - SIDE as i64))
+            Err(format!(
+                "out has {found} at {}, not {wanted}",
+                place as i64 - SIDE as i64
+            ))
         }
     }
 }

@@ -197,9 +197,7 @@ impl<'a> Records<'a> {
 
 #[cfg(test)]
 mod tests {
-    use super::{
-        MOST, Refusal, Run, id_at_whole, new_form, old_form, pack, read, runs_of, unpack,
-    };
+    use super::{MOST, Refusal, Run, id_at_whole, new_form, old_form, pack, read, runs_of, unpack};
 
     const ALL: usize = usize::MAX;
 

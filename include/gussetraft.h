@@ -63,7 +63,9 @@ enum {
 enum {
     GUSSETRAFT_RESULT_MALFORMED = 22,   /* an unknown kind, cut short, no end, bytes after the end, a run of length 0, or the other form */
     GUSSETRAFT_RESULT_NOT_LONGEST = 23, /* a run goes on with the id of the one before it, which is shorter than 65,535 spans */
-    GUSSETRAFT_RESULT_NO_ROOM = 24      /* the output would exceed the list lent */
+    GUSSETRAFT_RESULT_NO_ROOM = 24,     /* the output would exceed the list lent */
+    GUSSETRAFT_RESULT_WRONG_NUMBER = 25, /* a kind 7 record has a wrong number of spans; looked for between 23 and 24 */
+    GUSSETRAFT_RESULT_BEYOND = 26       /* the span is beyond the end; looked for last */
 };
 
 /* What the number of a refusal means; of 0, "not refused". The text is constant. */
@@ -90,6 +92,8 @@ static inline const char *gussetraft_refusal_text(uint16_t refusal) {
     case GUSSETRAFT_RESULT_MALFORMED: return "the stored result is malformed";
     case GUSSETRAFT_RESULT_NOT_LONGEST: return "the runs of the stored result are not the longest";
     case GUSSETRAFT_RESULT_NO_ROOM: return "the output would exceed its list";
+    case GUSSETRAFT_RESULT_WRONG_NUMBER: return "a number of spans in the stored result is wrong";
+    case GUSSETRAFT_RESULT_BEYOND: return "the span is beyond the end";
     default: return "no such refusal";
     }
 }
@@ -339,10 +343,11 @@ static inline uint32_t gussetraft_loaded_spans(const gussetraft_loader *loader) 
 /* Stored results: the ids of a field's spans, in span order, as a file. Numbers are little-endian.
  *
  * The old form is a record of three bytes a span, 5 and the id, and the end record, the byte 4. The new form has runs of equal ids: a record of
- * five bytes each, 6, the id and the length, 1 to 65,535, every run as long as equal ids and that limit allow, and the end record. A result has one
- * file of each form, and each way back returns the very bytes.
+ * five bytes each, 6, the id and the length, 1 to 65,535, every run as long as equal ids and that limit allow, and the end record. After
+ * every 64 runs, also where the file then ends, it has a record of five bytes more, 7 and the number of spans so far. A result has one file of each
+ * form, and each way back returns the very bytes.
  *
- * refusal: 0, or 22, 23 (gussetraft_unpack alone) or 24; length, how many bytes were written: 0 where refused. */
+ * refusal: 0, or 22, 23 and 25 (gussetraft_unpack alone) or 24; length, how many bytes were written: 0 where refused. */
 typedef struct {
     uint32_t refusal;
     uint64_t length;
@@ -354,7 +359,7 @@ uint32_t gussetraft_pack_into(const uint8_t *in, size_t in_len, uint8_t *out, si
 uint32_t gussetraft_unpack_into(const uint8_t *in, size_t in_len, uint8_t *out, size_t out_len, uint64_t *answer, size_t answer_len);
 
 /* A file of the old form into the new one. 24 exactly when the output would exceed out_len bytes; what is past the output keeps what it held.
- * The output is never more than 5 bytes a span and 1. */
+ * The output is never more than 6 bytes a span and 1. An old file whose new form would need a number of spans above 4,294,967,295 is 22. */
 static inline gussetraft_stored_answer gussetraft_pack(const uint8_t *in, size_t in_len, uint8_t *out, size_t out_len) {
     uint64_t a[2] = {0, 0};
     gussetraft_stored_answer answer;
@@ -426,6 +431,42 @@ static inline gussetraft_room gussetraft_measure_room(
     room.area = n[1];
     room.count = n[2];
     return room;
+}
+
+/* refusal: 0, or the number of the refusal; id, of the span: 0 where refused; stretch, the one that was read, 64 runs each, counted from 0: 0 where
+ * refused before one was chosen. */
+typedef struct {
+    uint32_t refusal;
+    uint32_t id;
+    uint32_t stretch;
+} gussetraft_id_answer;
+
+/* The two functions below with the answer's three numbers, in their order, written to a list of three; they give the refusal. A list of another
+ * length is refused 3 and holds what it held. Most callers use the functions below. */
+uint32_t gussetraft_id_at_into(const uint8_t *file, size_t file_len, uint32_t span, uint32_t *answer, size_t answer_len);
+uint32_t gussetraft_id_at_whole_into(const uint8_t *file, size_t file_len, uint32_t span, uint32_t *answer, size_t answer_len);
+
+/* The id of one span from a stored result of the new form. Reads the kind 7 records by halving and one stretch, no more. On every file that
+ * gussetraft_id_at_whole accepts the two answers are equal, 26 included. On other files the answer may differ, and says which stretch was read. */
+static inline gussetraft_id_answer gussetraft_id_at(const uint8_t *file, size_t file_len, uint32_t span) {
+    uint32_t a[3] = {0, 0, 0};
+    gussetraft_id_answer answer;
+    gussetraft_id_at_into(file, file_len, span, a, 3);
+    answer.refusal = a[0];
+    answer.id = a[1];
+    answer.stretch = a[2];
+    return answer;
+}
+
+/* The full reader: the whole file is checked, 22, 23, 25, and then 26 is looked for. At 26 the stretch is the last. */
+static inline gussetraft_id_answer gussetraft_id_at_whole(const uint8_t *file, size_t file_len, uint32_t span) {
+    uint32_t a[3] = {0, 0, 0};
+    gussetraft_id_answer answer;
+    gussetraft_id_at_whole_into(file, file_len, span, a, 3);
+    answer.refusal = a[0];
+    answer.id = a[1];
+    answer.stretch = a[2];
+    return answer;
 }
 
 #ifdef __cplusplus

@@ -1,8 +1,8 @@
 //! Stored results: the ids of a field's spans, in span order, as a file. Numbers are little-endian.
 //!
 //! The old form is a record of three bytes a span, 5 and the id, and the end record, the byte 4. The new form has runs of equal ids: a record of five
-//! bytes each, 6, the id and the length, 1 to 65,535, every run as long as equal ids and that limit allow, and the end record. A result has one file of
-//! each form, and each way back returns the very bytes (that is proved).
+//! bytes each, 6, the id and the length, 1 to 65,535, every run as long as equal ids and that limit allow, and the end record. After every 64 runs
+//! it has a record of five bytes more, 7 and the number of spans so far. A result has one file of each form, and each way back returns the very bytes (that is proved).
 //!
 //! ```
 //! use gussetraft::results::{pack, unpack, Refusal};
@@ -35,11 +35,21 @@ pub enum Refusal {
     NotLongest = 23,
     /// 24: the output would exceed its list.
     NoRoom = 24,
+    /// 25: a kind 7 record has a wrong number of spans; looked for between 23 and 24.
+    WrongNumber = 25,
+    /// 26: the span is beyond the end; looked for last.
+    Beyond = 26,
 }
 
 impl Refusal {
     /// Every refusal, in the order of the numbers.
-    pub const ALL: [Self; 3] = [Self::Malformed, Self::NotLongest, Self::NoRoom];
+    pub const ALL: [Self; 5] = [
+        Self::Malformed,
+        Self::NotLongest,
+        Self::NoRoom,
+        Self::WrongNumber,
+        Self::Beyond,
+    ];
 
     /// Document 02's number.
     pub const fn number(self) -> u16 {
@@ -52,6 +62,8 @@ impl Refusal {
             22 => Some(Self::Malformed),
             23 => Some(Self::NotLongest),
             24 => Some(Self::NoRoom),
+            25 => Some(Self::WrongNumber),
+            26 => Some(Self::Beyond),
             _ => None,
         }
     }
@@ -62,6 +74,8 @@ impl Refusal {
             Self::Malformed => "the stored result is malformed",
             Self::NotLongest => "the runs of the stored result are not the longest",
             Self::NoRoom => "the output would exceed its list",
+            Self::WrongNumber => "a number of spans in the stored result is wrong",
+            Self::Beyond => "the span is beyond the end",
         }
     }
 }
@@ -87,7 +101,7 @@ fn accepted(number: u64) -> Result<(), Refusal> {
 
 /// A file of the old form into the new one; gives how many bytes were written. What is past them keeps what it held.
 ///
-/// The output is never more than 5 bytes a span and 1.
+/// The output is never more than 6 bytes a span and 1. An old file whose new form would need a number of spans above 4,294,967,295 is 22.
 ///
 /// # Errors
 ///
@@ -102,9 +116,46 @@ pub fn pack(old: &[u8], out: &mut [u8]) -> Result<usize, Refusal> {
 ///
 /// # Errors
 ///
-/// 22, 23, and 24 exactly if the output would exceed `out`. Nothing is written then.
+/// 22, 23, 25, and 24 exactly if the output would exceed `out`. Nothing is written then.
 pub fn unpack(new: &[u8], out: &mut [u8]) -> Result<usize, Refusal> {
     let [refusal, length] = sys::unpack(new, out);
     accepted(refusal)?;
     Ok(length as usize)
+}
+
+/// What a reader of one span's id gives.
+#[derive(Debug, Clone, Copy, PartialEq, Eq)]
+pub struct Found {
+    /// The span's id, or why there is none.
+    pub id: Result<u16, Refusal>,
+    /// The stretch that was read, 64 runs each, counted from 0; 0 where refused before one was chosen.
+    pub stretch: u32,
+}
+
+fn found([refusal, id, stretch]: [u32; 3]) -> Found {
+    Found {
+        id: accepted(refusal.into()).map(|()| id as u16),
+        stretch,
+    }
+}
+
+/// The id of one span from a stored result of the new form, by way of its kind 7 records and one stretch, read no more.
+///
+/// On every file that [`id_at_whole`] accepts the two are equal, 26 included (that is proved). On other files the answer may differ.
+///
+/// ```
+/// use gussetraft::results::{id_at, id_at_whole, Refusal};
+///
+/// let file = [6, 7, 0, 3, 0, 6, 2, 1, 1, 0, 4];
+/// assert_eq!(id_at(&file, 3).id, Ok(258));
+/// assert_eq!(id_at(&file, 4).id, Err(Refusal::Beyond));
+/// assert_eq!(id_at(&file, 2), id_at_whole(&file, 2));
+/// ```
+pub fn id_at(file: &[u8], span: u32) -> Found {
+    found(sys::id_at(file, span))
+}
+
+/// The full reader: the whole file is checked, 22, 23, 25, and then 26 is looked for.
+pub fn id_at_whole(file: &[u8], span: u32) -> Found {
+    found(sys::id_at_whole(file, span))
 }

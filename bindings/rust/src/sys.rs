@@ -561,3 +561,51 @@ pub fn measure(
     }
     (sizes, numbers)
 }
+
+extern "C" {
+    fn gussetraft_id_at_into(
+        file: *const u8,
+        file_len: usize,
+        span: u32,
+        answer: *mut u32,
+        answer_len: usize,
+    ) -> u32;
+
+    fn gussetraft_id_at_whole_into(
+        file: *const u8,
+        file_len: usize,
+        span: u32,
+        answer: *mut u32,
+        answer_len: usize,
+    ) -> u32;
+}
+
+pub fn id_at(file: &[u8], span: u32) -> [u32; 3] {
+    let mut answer = [0; 3];
+    // SAFETY: as above.
+    unsafe {
+        gussetraft_id_at_into(
+            file.as_ptr(),
+            file.len(),
+            span,
+            answer.as_mut_ptr(),
+            answer.len(),
+        );
+    }
+    answer
+}
+
+pub fn id_at_whole(file: &[u8], span: u32) -> [u32; 3] {
+    let mut answer = [0; 3];
+    // SAFETY: as above.
+    unsafe {
+        gussetraft_id_at_whole_into(
+            file.as_ptr(),
+            file.len(),
+            span,
+            answer.as_mut_ptr(),
+            answer.len(),
+        );
+    }
+    answer
+}

@@ -5,19 +5,19 @@ use native.Mathlib.Omega.{arith}
 use mathlib.Core.Path.{_≡_, refl, sym, ap, subst, _∙_}
 use mathlib.Core.Bool.{Bool, true, false}
 use mathlib.Core.List.{List, [], _∷_, _++_}
-use lib.ListN.{length}
+use lib.ListN.{length, length-append}
 use lib.Dec.{eqb, ltb, leb}
 use borrow.Author.Tests.{eq-eqb, ne-eqb, ltb-true, lt-ltb, le-leb, leb-true, leb-false}
 use Rattle.rules.specs.Base.{_and_, if_then_else_}
 use Rattle.rules.specs.File.{word}
-use Rattle.rules.specs.Stored.{two, spanRecord, runRecord, joins, oldFine, packed}
+use Rattle.rules.specs.Stored.{two, four, spanRecord, runRecord, markRecord, joins, oldFine, oldIds, runsOf, marksFit, packed}
 use Rattle.laws.proofs.Basics.{same-test}
 use Rattle.forms.proofs.Runs.{joined}
 use Rattle.file.specs.Written.{written, Room, Wrote}
 use Rattle.file.proofs.Writing.{written-none, room-first, room-then, wrote-then}
-use Rattle.stored.specs.Parts.{grown, ended}
-use Rattle.stored.proofs.Places.{old-length, runsLeft, left-first, left-next, left-end, packed-none}
-use Rattle.stored.proofs.Fits.{Fits, fits-first, fits-next, fits-not, Writes, writes-first, writes-room, writes-next, writes-done}
+use Rattle.stored.specs.Parts.{grown, five, nextRun, turned, runThen, runBytes, ended, endedBytes, markFits, endFits}
+use Rattle.stored.proofs.Places.{old-length, runsLeft, fitsLeft, left-first, fits-first, left-next, fits-next, left-end, fits-end, packed-none, grown-le, turned-below}
+use Rattle.stored.proofs.Fits.{Fits, fits-whole, fits-part, fits-not, Writes, writes-first, writes-room, writes-next, writes-done}
 
 -- ---------------------------------------------------------------- records
 
@@ -47,26 +47,51 @@ module _ (out : List ℕ) (at x : ℕ) (h : Room out at (spanRecord x)) where
   unfolding spanRecord
   span-done r out′ g s out″ k = wrote-then out at (5 ∷ []) (two x) h r out′ g s out″ k
 
-module _ (out : List ℕ) (at x k : ℕ) (h : Room out at (runRecord x k)) where
-  pub run-room : Room out at (6 ∷ [])
-  unfolding runRecord
-  run-room = room-first out at (6 ∷ []) (two x ++ two k) h
+module _ (out : List ℕ) (at q x k : ℕ) (h : Room out at (five q x k)) where
+  pub five-room : Room out at (q ∷ [])
+  unfolding five
+  five-room = room-first out at (q ∷ []) (two x ++ two k) h
 
-  module _ (r : ℕ) (out′ : List ℕ) (g : Wrote out at (6 ∷ []) r out′) where
+  module _ (r : ℕ) (out′ : List ℕ) (g : Wrote out at (q ∷ []) r out′) where
     both-room : Room out′ r (two x ++ two k)
-    unfolding runRecord
-    both-room = room-then out at (6 ∷ []) (two x ++ two k) h r out′ g
+    unfolding five
+    both-room = room-then out at (q ∷ []) (two x ++ two k) h r out′ g
 
-    pub run-then : Room out′ r (two x)
-    run-then = room-first out′ r (two x) (two k) both-room
+    pub five-then : Room out′ r (two x)
+    five-then = room-first out′ r (two x) (two k) both-room
 
-    pub run-then₂ : (s : ℕ) (out″ : List ℕ) → Wrote out′ r (two x) s out″ → Room out″ s (two k)
-    run-then₂ s out″ p = room-then out′ r (two x) (two k) both-room s out″ p
+    pub five-then₂ : (s : ℕ) (out″ : List ℕ) → Wrote out′ r (two x) s out″ → Room out″ s (two k)
+    five-then₂ s out″ p = room-then out′ r (two x) (two k) both-room s out″ p
 
-    pub run-done : (s : ℕ) (out″ : List ℕ) → Wrote out′ r (two x) s out″ → (t : ℕ) (out‴ : List ℕ) → Wrote out″ s (two k) t out‴ → Wrote out at (runRecord x k) t out‴
-    unfolding runRecord
-    run-done s out″ p t out‴ q =
-        wrote-then out at (6 ∷ []) (two x ++ two k) h r out′ g t out‴ (wrote-then out′ r (two x) (two k) both-room s out″ p t out‴ q)
+    pub five-done : (s : ℕ) (out″ : List ℕ) → Wrote out′ r (two x) s out″ → (t : ℕ) (out‴ : List ℕ) → Wrote out″ s (two k) t out‴ → Wrote out at (five q x k) t out‴
+    unfolding five
+    five-done s out″ p t out‴ w =
+        wrote-then out at (q ∷ []) (two x ++ two k) h r out′ g t out‴ (wrote-then out′ r (two x) (two k) both-room s out″ p t out‴ w)
+
+low-low : (v : ℕ) → v % 65536 % 256 ≡ v % 256
+low-low v = omega arith
+
+high-low : (v : ℕ) → v % 65536 / 256 ≡ v / 256 % 256
+high-low v = omega arith
+
+div-div : (s : ℕ) → s / 65536 / 256 ≡ s / 16777216
+div-div s = omega arith
+
+-- a number of four bytes is two of two
+mark-five : (s : ℕ) → markRecord s ≡ five 7 (s % 65536) (s / 65536 % 65536)
+unfolding markRecord four five two
+mark-five s =
+    let a : s % 65536 % 256 ≡ s % 256 = low-low s in
+    let b : s % 65536 / 256 ≡ s / 256 % 256 = high-low s in
+    let c : s / 65536 % 65536 % 256 ≡ s / 65536 % 256 = low-low (s / 65536) in
+    let d : s / 65536 % 65536 / 256 ≡ s / 16777216 % 256 = high-low (s / 65536) ∙ ap (λ z. z % 256) (div-div s) in
+    rw (a, b, c, d)
+
+pub mark-room : (out : List ℕ) (at s : ℕ) → Room out at (markRecord s) → Room out at (five 7 (s % 65536) (s / 65536 % 65536))
+mark-room out at s h = subst (Room out at) (mark-five s) h
+
+pub mark-done : (out : List ℕ) (at s r : ℕ) (out′ : List ℕ) → Wrote out at (five 7 (s % 65536) (s / 65536 % 65536)) r out′ → Wrote out at (markRecord s) r out′
+mark-done out at s r out′ w = subst (λ t. Wrote out at t r out′) (sym (mark-five s)) w
 
 -- ---------------------------------------------------------------- a span joins a run, or ends it
 
@@ -90,62 +115,171 @@ module _ (x k y : ℕ) (b : Bool) (e : b ≡ joins x k y) where
   unfolding grown if_then_else_
   grown-one t = let p : joins x k y ≡ false = sym e ∙ t in rw p
 
-  ended-none : b ≡ true → ended x k y ≡ []
+  pub turned-same : (t : ℕ) → b ≡ true → t ≡ turned x k y t
+  unfolding turned if_then_else_
+  turned-same t f = let p : joins x k y ≡ true = sym e ∙ f in rw p
+
+  pub turned-next : (t r : ℕ) → b ≡ false → r ≡ nextRun t → r ≡ turned x k y t
+  unfolding turned if_then_else_
+  turned-next t r f g = let p : joins x k y ≡ false = sym e ∙ f in rw p g
+
+  pub bytes-none : (t : ℕ) → b ≡ true → 0 ≡ endedBytes x k y t
+  unfolding endedBytes if_then_else_
+  bytes-none t f = let p : joins x k y ≡ true = sym e ∙ f in rw p
+
+  pub bytes-run : (t r : ℕ) → b ≡ false → r ≡ runBytes t → r ≡ endedBytes x k y t
+  unfolding endedBytes if_then_else_
+  bytes-run t r f g = let p : joins x k y ≡ false = sym e ∙ f in rw p g
+
+  pub end-goes : (t s : ℕ) → b ≡ true → true ≡ endFits x k y t s
+  unfolding endFits if_then_else_
+  end-goes t s f = let p : joins x k y ≡ true = sym e ∙ f in rw p
+
+  pub end-tests : (t s : ℕ) (r : Bool) → b ≡ false → r ≡ markFits t s → r ≡ endFits x k y t s
+  unfolding endFits if_then_else_
+  end-tests t s r f g = let p : joins x k y ≡ false = sym e ∙ f in rw p g
+
+  ended-none : (t s : ℕ) → b ≡ true → ended x k y t s ≡ []
   unfolding ended if_then_else_
-  ended-none t = let p : joins x k y ≡ true = sym e ∙ t in rw p
+  ended-none t s f = let p : joins x k y ≡ true = sym e ∙ f in rw p
 
-  ended-run : b ≡ false → ended x k y ≡ runRecord x k
+  ended-run : (t s : ℕ) → b ≡ false → ended x k y t s ≡ runThen x k t s
   unfolding ended if_then_else_
-  ended-run t = let p : joins x k y ≡ false = sym e ∙ t in rw p
+  ended-run t s f = let p : joins x k y ≡ false = sym e ∙ f in rw p
 
-  pub none-bytes : b ≡ true → 0 ≡ length (ended x k y)
-  none-bytes t = sym (ap length (ended-none t))
+  pub ended-here : (out : List ℕ) (at t s : ℕ) → b ≡ true → Wrote out at (ended x k y t s) at out
+  ended-here out at t s f = subst (λ z. Wrote out at z at out) (sym (ended-none t s f)) (record { ends = omega arith; bytes = sym (written-none out at) })
 
-  run-five : length (runRecord x k) ≡ 5
-  unfolding runRecord two
-  run-five = refl
+  pub ended-room : (out : List ℕ) (at t s : ℕ) → b ≡ false → Room out at (ended x k y t s) → Room out at (runThen x k t s)
+  ended-room out at t s f h = subst (Room out at) (ended-run t s f) h
 
-  pub run-bytes-is : b ≡ false → 5 ≡ length (ended x k y)
-  run-bytes-is t = sym (ap length (ended-run t) ∙ run-five)
+  pub ended-wrote : (out : List ℕ) (at t s r : ℕ) (out′ : List ℕ) → b ≡ false → Wrote out at (runThen x k t s) r out′ → Wrote out at (ended x k y t s) r out′
+  ended-wrote out at t s r out′ f g = subst (λ z. Wrote out at z r out′) (sym (ended-run t s f)) g
 
-  pub ended-here : (out : List ℕ) (at : ℕ) → b ≡ true → Wrote out at (ended x k y) at out
-  ended-here out at t = subst (λ z. Wrote out at z at out) (sym (ended-none t)) (record { ends = omega arith; bytes = sym (written-none out at) })
+-- ---------------------------------------------------------------- the last run of a stretch, or another
 
-  pub ended-room : (out : List ℕ) (at : ℕ) → b ≡ false → Room out at (ended x k y) → Room out at (runRecord x k)
-  ended-room out at t h = subst (Room out at) (ended-run t) h
+pub next-zero : (t : ℕ) → t + 1 ≡ 64 → 0 ≡ nextRun t
+unfolding nextRun if_then_else_
+next-zero t e = rw (eq-eqb (suc t) 64 (omega arith))
 
-  pub ended-wrote : (out : List ℕ) (at r : ℕ) (out′ : List ℕ) → b ≡ false → Wrote out at (runRecord x k) r out′ → Wrote out at (ended x k y) r out′
-  ended-wrote out at r out′ t g = subst (λ z. Wrote out at z r out′) (sym (ended-run t)) g
+pub next-more : (t : ℕ) → (t + 1 ≡ 64 → ⊥) → t + 1 ≡ nextRun t
+unfolding nextRun if_then_else_
+next-more t n = rw (ne-eqb (suc t) 64 (λ e. n (omega arith))) (omega arith)
+
+pub ten-bytes : (t : ℕ) → t + 1 ≡ 64 → 10 ≡ runBytes t
+unfolding runBytes if_then_else_
+ten-bytes t e = rw (eq-eqb (suc t) 64 (omega arith))
+
+pub five-bytes : (t : ℕ) → (t + 1 ≡ 64 → ⊥) → 5 ≡ runBytes t
+unfolding runBytes if_then_else_
+five-bytes t n = rw (ne-eqb (suc t) 64 (λ e. n (omega arith)))
+
+pub mark-tests : (t s : ℕ) → t + 1 ≡ 64 → leb s 4294967295 ≡ markFits t s
+unfolding markFits if_then_else_
+mark-tests t s e = rw (eq-eqb (suc t) 64 (omega arith))
+
+pub mark-none : (t s : ℕ) → (t + 1 ≡ 64 → ⊥) → true ≡ markFits t s
+unfolding markFits if_then_else_
+mark-none t s n = rw (ne-eqb (suc t) 64 (λ e. n (omega arith)))
+
+then-mark : (x k t s : ℕ) → t + 1 ≡ 64 → runThen x k t s ≡ five 6 x k ++ markRecord s
+unfolding runThen runRecord five if_then_else_
+then-mark x k t s e = rw (eq-eqb (suc t) 64 (omega arith))
+
+then-none : (x k t s : ℕ) → (t + 1 ≡ 64 → ⊥) → runThen x k t s ≡ five 6 x k
+unfolding runThen runRecord five two if_then_else_
+then-none x k t s n = rw (ne-eqb (suc t) 64 (λ e. n (omega arith)))
+
+begins : (x k t s : ℕ) → runThen x k t s ≡ five 6 x k ++ (if eqb (suc t) 64 then markRecord s else [])
+unfolding runThen runRecord five
+begins x k t s = refl
+
+module _ (out : List ℕ) (at x k t s : ℕ) (h : Room out at (runThen x k t s)) where
+  pub first-room : Room out at (five 6 x k)
+  first-room = room-first out at (five 6 x k) (if eqb (suc t) 64 then markRecord s else []) (subst (Room out at) (begins x k t s) h)
+
+  module _ (r : ℕ) (out′ : List ℕ) (g : Wrote out at (five 6 x k) r out′) where
+    pub after-room : t + 1 ≡ 64 → Room out′ r (markRecord s)
+    after-room e = room-then out at (five 6 x k) (markRecord s) (subst (Room out at) (then-mark x k t s e) h) r out′ g
+
+    pub after-done : (u : ℕ) (out″ : List ℕ) → t + 1 ≡ 64 → Wrote out′ r (markRecord s) u out″ → Wrote out at (runThen x k t s) u out″
+    after-done u out″ e w =
+        subst (λ z. Wrote out at z u out″) (sym (then-mark x k t s e)) (wrote-then out at (five 6 x k) (markRecord s) (subst (Room out at) (then-mark x k t s e) h) r out′ g u out″ w)
+
+    pub alone-done : (t + 1 ≡ 64 → ⊥) → Wrote out at (runThen x k t s) r out′
+    alone-done n = subst (λ z. Wrote out at z r out′) (sym (then-none x k t s n)) g
+
+-- ---------------------------------------------------------------- the numbers of spans fit
+
+module _ (l : List ℕ) (i x k t : ℕ) (o : length l % 3 ≡ 1) (f : marksFit 0 0 (runsOf (oldIds l)) ≡ fitsLeft l i x k t) (le : k ≤ i) where
+  pub marks-next : (y g u : ℕ) (b : Bool) → i < length l / 3 → y ≡ word l (3 * i + 1) → b ≡ endFits x k y t i → b ≡ true → u ≡ turned x k y t → g ≡ grown x k y
+      → marksFit 0 0 (runsOf (oldIds l)) ≡ fitsLeft l (i + 1) y g u
+  unfolding _and_
+  marks-next y g u b h e p q v w =
+      f ∙ fits-next l i x k t o h le ∙ ap (λ z. endFits x k z t i and fitsLeft l (i + 1) z (grown x k z) (turned x k z t)) (sym e)
+      ∙ ap (λ z. z and fitsLeft l (i + 1) y (grown x k y) (turned x k y t)) (sym p ∙ q)
+      ∙ ap (λ z. fitsLeft l (i + 1) y z (turned x k y t)) (sym w) ∙ ap (fitsLeft l (i + 1) y g) (sym v)
+
+  pub marks-not : (y : ℕ) (b : Bool) → i < length l / 3 → y ≡ word l (3 * i + 1) → b ≡ endFits x k y t i → b ≡ false → false ≡ marksFit 0 0 (runsOf (oldIds l))
+  unfolding _and_
+  marks-not y b h e p q =
+      sym (f ∙ fits-next l i x k t o h le ∙ ap (λ z. endFits x k z t i and fitsLeft l (i + 1) z (grown x k z) (turned x k z t)) (sym e)
+      ∙ ap (λ z. z and fitsLeft l (i + 1) y (grown x k y) (turned x k y t)) (sym p ∙ q))
+
+  pub marks-end : (b : Bool) → i ≤ length l / 3 → length l / 3 ≤ i → b ≡ markFits t i → b ≡ marksFit 0 0 (runsOf (oldIds l))
+  marks-end b h g e = e ∙ fits-end l i x k t o h g le ∙ sym f
+
+pub marks-first : (l : List ℕ) (x : ℕ) → length l % 3 ≡ 1 → 3 < length l → x ≡ word l 1 → marksFit 0 0 (runsOf (oldIds l)) ≡ fitsLeft l 1 x 1 0
+marks-first l x o h e = fits-first l o h ∙ ap (λ z. fitsLeft l 1 z 1 0) (sym e)
 
 -- ---------------------------------------------------------------- room for the runs
 
-pub fit-first : (l : List ℕ) (room x : ℕ) → length l % 3 ≡ 1 → 3 < length l → x ≡ word l 1 → Fits (packed l) room (runsLeft l 1 x 1) room
-fit-first l room x o h e = fits-first (packed l) room (runsLeft l 1 x 1) (left-first l o h ∙ ap (λ z. runsLeft l 1 z 1) (sym e))
+pub fit-first : (l : List ℕ) (room x : ℕ) → length l % 3 ≡ 1 → 3 < length l → x ≡ word l 1 → Fits (packed l) room (runsLeft l 1 x 1 0) room
+fit-first l room x o h e = fits-whole (packed l) room (runsLeft l 1 x 1 0) (left-first l o h ∙ ap (λ z. runsLeft l 1 z 1 0) (sym e))
 
 -- what is left, by the next id
-left-by : (l : List ℕ) (i x k y g : ℕ) → length l % 3 ≡ 1 → i < length l / 3 → y ≡ word l (3 * i + 1) → g ≡ grown x k y → runsLeft l i x k ≡ ended x k y ++ runsLeft l (i + 1) y g
-left-by l i x k y g o h e f =
-    left-next l i x k o h ∙ ap (λ z. ended x k z ++ runsLeft l (i + 1) z (grown x k z)) (sym e) ∙ ap (λ z. ended x k y ++ runsLeft l (i + 1) y z) (sym f)
+left-by : (l : List ℕ) (i x k t y g u : ℕ) → length l % 3 ≡ 1 → i < length l / 3 → k ≤ i → y ≡ word l (3 * i + 1) → g ≡ grown x k y → u ≡ turned x k y t
+    → runsLeft l i x k t ≡ ended x k y t i ++ runsLeft l (i + 1) y g u
+left-by l i x k t y g u o h le e f v =
+    left-next l i x k t o h le ∙ ap (λ z. ended x k z t i ++ runsLeft l (i + 1) z (grown x k z) (turned x k z t)) (sym e)
+    ∙ ap (λ z. ended x k y t i ++ runsLeft l (i + 1) y z (turned x k y t)) (sym f) ∙ ap (λ z. ended x k y t i ++ runsLeft l (i + 1) y g z) (sym v)
 
-module _ (l : List ℕ) (room i x k left : ℕ) (f : Fits (packed l) room (runsLeft l i x k) left) (o : length l % 3 ≡ 1) where
-  pub fit-next : (y g t : ℕ) → i < length l / 3 → y ≡ word l (3 * i + 1) → t ≡ length (ended x k y) → t ≤ left → g ≡ grown x k y
-      → Fits (packed l) room (runsLeft l (i + 1) y g) (left - t)
-  fit-next y g t h e u le v =
-      subst (λ z. Fits (packed l) room (runsLeft l (i + 1) y g) (left - z)) (sym u)
-      (fits-next (packed l) room (runsLeft l i x k) left f (ended x k y) (runsLeft l (i + 1) y g) (left-by l i x k y g o h e v) (omega arith))
+run-long-cases : (s : ℕ) (b : Bool) → suc (suc (suc (suc (suc (length (if b then markRecord s else [])))))) ≡ (if b then 10 else 5)
+unfolding markRecord four if_then_else_
+run-long-cases s true = refl
+run-long-cases s false = refl
 
-  pub fit-not : (y t : ℕ) → i < length l / 3 → y ≡ word l (3 * i + 1) → t ≡ length (ended x k y) → left < t → false ≡ leb (length (packed l)) room
-  fit-not y t h e u lt =
-      fits-not (packed l) room (runsLeft l i x k) left f (ended x k y) (runsLeft l (i + 1) y (grown x k y)) (left-by l i x k y (grown x k y) o h e refl) (omega arith)
+run-long : (x k t s : ℕ) → length (runThen x k t s) ≡ runBytes t
+unfolding runThen runBytes runRecord two
+run-long x k t s = run-long-cases s (eqb (suc t) 64)
 
-  six : length (runRecord x k ++ (4 ∷ [])) ≡ 6
-  unfolding runRecord two
-  six = refl
+ended-long-cases : (x k t s : ℕ) (b : Bool) → length (if b then [] else runThen x k t s) ≡ (if b then 0 else runBytes t)
+unfolding if_then_else_
+ended-long-cases x k t s true = refl
+ended-long-cases x k t s false = run-long x k t s
 
-  pub fit-end : i ≤ length l / 3 → length l / 3 ≤ i → ltb 5 left ≡ leb (length (packed l)) room
-  fit-end h g =
-      let e : length (runsLeft l i x k) ≡ 6 = ap length (left-end l i x k o h g) ∙ six in
-      same-test (ltb 5 left) (leb 6 left) (λ p. le-leb 6 left (omega (arith, ltb-true 5 left p))) (λ p. lt-ltb 5 left (omega (arith, leb-true 6 left p)))
+ended-long : (x k y t s : ℕ) → length (ended x k y t s) ≡ endedBytes x k y t
+unfolding ended endedBytes
+ended-long x k y t s = ended-long-cases x k t s (joins x k y)
+
+module _ (l : List ℕ) (room i x k t left : ℕ) (f : Fits (packed l) room (runsLeft l i x k t) left) (o : length l % 3 ≡ 1) (le : k ≤ i) where
+  pub fit-next : (y g u n : ℕ) → i < length l / 3 → y ≡ word l (3 * i + 1) → n ≡ endedBytes x k y t → n ≤ left → u ≡ turned x k y t → g ≡ grown x k y
+      → Fits (packed l) room (runsLeft l (i + 1) y g u) (left - n)
+  fit-next y g u n h e p q v w =
+      let m : length (ended x k y t i) ≡ n = ended-long x k y t i ∙ sym p in
+      subst (λ z. Fits (packed l) room (runsLeft l (i + 1) y g u) (left - z)) m
+      (fits-part (packed l) room (runsLeft l i x k t) left f (ended x k y t i) (runsLeft l (i + 1) y g u) (left-by l i x k t y g u o h le e w v) (omega arith))
+
+  pub fit-not : (y n : ℕ) → i < length l / 3 → y ≡ word l (3 * i + 1) → n ≡ endedBytes x k y t → left < n → false ≡ leb (length (packed l)) room
+  fit-not y n h e p lt =
+      let m : length (ended x k y t i) ≡ n = ended-long x k y t i ∙ sym p in
+      fits-not (packed l) room (runsLeft l i x k t) left f (ended x k y t i) (runsLeft l (i + 1) y (grown x k y) (turned x k y t)) (left-by l i x k t y (grown x k y) (turned x k y t) o h le e refl refl) (omega arith)
+
+  pub fit-end : (n : ℕ) → i ≤ length l / 3 → length l / 3 ≤ i → n ≡ runBytes t → ltb n left ≡ leb (length (packed l)) room
+  fit-end n h g p =
+      let e : length (runsLeft l i x k t) ≡ n + 1 =
+      ap length (left-end l i x k t o h g le) ∙ length-append (runThen x k t i) (4 ∷ []) ∙ ap (λ z. z + 1) (run-long x k t i ∙ sym p) in
+      same-test (ltb n left) (leb (n + 1) left) (λ q. le-leb (n + 1) left (omega (arith, ltb-true n left q))) (λ q. lt-ltb n left (omega (arith, leb-true (n + 1) left q)))
       ∙ ap (λ z. leb z left) (sym e) ∙ sym (f .same)
 
 pub fit-none : (l : List ℕ) (room : ℕ) → length l ≡ 1 → ltb 0 room ≡ leb (length (packed l)) room
@@ -159,26 +293,27 @@ old-some l e n = let o = old-length l e in omega arith
 
 -- ---------------------------------------------------------------- writing the runs
 
-pub some-first : (l out : List ℕ) (x : ℕ) → length l % 3 ≡ 1 → 3 < length l → Room out 0 (packed l) → x ≡ word l 1 → Writes out (packed l) 0 (runsLeft l 1 x 1) out
-some-first l out x o h m e = writes-first out (packed l) (runsLeft l 1 x 1) (omega (arith, m .fits)) (left-first l o h ∙ ap (λ z. runsLeft l 1 z 1) (sym e))
+pub some-first : (l out : List ℕ) (x : ℕ) → length l % 3 ≡ 1 → 3 < length l → Room out 0 (packed l) → x ≡ word l 1 → Writes out (packed l) 0 (runsLeft l 1 x 1 0) out
+some-first l out x o h m e = writes-first out (packed l) (runsLeft l 1 x 1 0) (omega (arith, m .fits)) (left-first l o h ∙ ap (λ z. runsLeft l 1 z 1 0) (sym e))
 
-module _ (l out₀ : List ℕ) (at i x k : ℕ) (out : List ℕ) (w : Writes out₀ (packed l) at (runsLeft l i x k) out) (o : length l % 3 ≡ 1) where
-  pub some-room : (y : ℕ) → i < length l / 3 → y ≡ word l (3 * i + 1) → Room out at (ended x k y)
+module _ (l out₀ : List ℕ) (at i x k t : ℕ) (out : List ℕ) (w : Writes out₀ (packed l) at (runsLeft l i x k t) out) (o : length l % 3 ≡ 1) (le : k ≤ i) where
+  pub some-room : (y : ℕ) → i < length l / 3 → y ≡ word l (3 * i + 1) → Room out at (ended x k y t i)
   some-room y h e =
-      writes-room out₀ (packed l) at (runsLeft l i x k) out w (ended x k y) (runsLeft l (i + 1) y (grown x k y)) (left-by l i x k y (grown x k y) o h e refl)
+      writes-room out₀ (packed l) at (runsLeft l i x k t) out w (ended x k y t i) (runsLeft l (i + 1) y (grown x k y) (turned x k y t))
+      (left-by l i x k t y (grown x k y) (turned x k y t) o h le e refl refl)
 
-  pub some-next : (y g r : ℕ) (out′ : List ℕ) → i < length l / 3 → y ≡ word l (3 * i + 1) → Wrote out at (ended x k y) r out′ → g ≡ grown x k y
-      → Writes out₀ (packed l) r (runsLeft l (i + 1) y g) out′
-  some-next y g r out′ h e p v =
-      writes-next out₀ (packed l) at (runsLeft l i x k) out w (ended x k y) (runsLeft l (i + 1) y g) (left-by l i x k y g o h e v) r out′ p
+  pub some-next : (y g u r : ℕ) (out′ : List ℕ) → i < length l / 3 → y ≡ word l (3 * i + 1) → Wrote out at (ended x k y t i) r out′ → u ≡ turned x k y t → g ≡ grown x k y
+      → Writes out₀ (packed l) r (runsLeft l (i + 1) y g u) out′
+  some-next y g u r out′ h e p q v =
+      writes-next out₀ (packed l) at (runsLeft l i x k t) out w (ended x k y t i) (runsLeft l (i + 1) y g u) (left-by l i x k t y g u o h le e v q) r out′ p
 
   module _ (h : i ≤ length l / 3) (g : length l / 3 ≤ i) where
-    pub last-room : Room out at (runRecord x k)
-    last-room = writes-room out₀ (packed l) at (runsLeft l i x k) out w (runRecord x k) (4 ∷ []) (left-end l i x k o h g)
+    pub last-room : Room out at (runThen x k t i)
+    last-room = writes-room out₀ (packed l) at (runsLeft l i x k t) out w (runThen x k t i) (4 ∷ []) (left-end l i x k t o h g le)
 
-    module _ (r : ℕ) (out′ : List ℕ) (p : Wrote out at (runRecord x k) r out′) where
+    module _ (r : ℕ) (out′ : List ℕ) (p : Wrote out at (runThen x k t i) r out′) where
       end-left : Writes out₀ (packed l) r (4 ∷ []) out′
-      end-left = writes-next out₀ (packed l) at (runsLeft l i x k) out w (runRecord x k) (4 ∷ []) (left-end l i x k o h g) r out′ p
+      end-left = writes-next out₀ (packed l) at (runsLeft l i x k t) out w (runThen x k t i) (4 ∷ []) (left-end l i x k t o h g le) r out′ p
 
       pub end-room : Room out′ r (4 ∷ [])
       end-room = writes-room out₀ (packed l) r (4 ∷ []) out′ end-left (4 ∷ []) [] refl
@@ -194,3 +329,14 @@ none-wrote l out r out′ e w = subst (λ t. Wrote out 0 t r out′) (sym (packe
 
 pub whole-room : (l out : List ℕ) → length (packed l) ≤ length out → Room out 0 (packed l)
 whole-room l out h = record { fits = omega arith }
+
+-- ---------------------------------------------------------------- bounds, as the loops need them
+
+pub grown-bound : (x k y i g : ℕ) → k ≤ i → g ≡ grown x k y → g ≤ i + 1
+grown-bound x k y i g h e = omega (arith, grown-le x k y i h)
+
+pub turned-bound : (x k y t u : ℕ) → t < 64 → u ≡ turned x k y t → u < 64
+turned-bound x k y t u h e = omega (arith, turned-below x k y t h)
+
+pub many-some : (l : List ℕ) → 4294967295 < length l / 3 → 3 < length l
+many-some l h = omega arith

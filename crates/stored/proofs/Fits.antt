@@ -18,15 +18,15 @@ use Rattle.file.proofs.Writing.{written-more, written-length, written-none}
 pub record Fits (whole : List ℕ) (room : ℕ) (rest : List ℕ) (left : ℕ) : Type 0 where
   pub same : leb (length whole) room ≡ leb (length rest) left
 
-pub fits-first : (whole : List ℕ) (room : ℕ) (rest : List ℕ) → whole ≡ rest → Fits whole room rest room
-fits-first whole room rest e = record { same = ap (λ t. leb (length t) room) e }
+pub fits-whole : (whole : List ℕ) (room : ℕ) (rest : List ℕ) → whole ≡ rest → Fits whole room rest room
+fits-whole whole room rest e = record { same = ap (λ t. leb (length t) room) e }
 
 module _ (whole : List ℕ) (room : ℕ) (rest : List ℕ) (left : ℕ) (f : Fits whole room rest left) (t rest′ : List ℕ) (e : rest ≡ t ++ rest′) where
   total : length rest ≡ length t + length rest′
   total = ap length e ∙ length-append t rest′
 
-  pub fits-next : length t ≤ left → Fits whole room rest′ (left - length t)
-  fits-next h = record {
+  pub fits-part : length t ≤ left → Fits whole room rest′ (left - length t)
+  fits-part h = record {
     same = f .same ∙ same-test (leb (length rest) left) (leb (length rest′) (left - length t))
         (λ p. le-leb (length rest′) (left - length t) (omega (arith, total, leb-true (length rest) left p)))
         (λ p. le-leb (length rest) left (omega (arith, total, leb-true (length rest′) (left - length t) p)));

@@ -10,8 +10,9 @@ use Rattle.rules.specs.Base.{if_then_else_}
 use Rattle.rules.specs.Stored.{StoredOutcome}
 use Rattle.stored.specs.Answer.{storedNumber, storedRefusedBy, bytesIn, outcome}
 use Rattle.stored.specs.Into.{IntoOutcome, leaves, storedInto}
+use Rattle.stored.proofs.Ends.{number-some}
 use Rattle.stored.specs.declared.StoredRefusal.{StoredRefusal}
-use Rattle.stored.specs.declared.StoredRefusal.the-variants.{Malformed, NotLongest, NoRoom}
+use Rattle.stored.specs.declared.StoredRefusal.the-variants.{Malformed, NotLongest, NoRoom, WrongNumber}
 use Rattle.stored.specs.declared.StoredAnswer.{StoredAnswer}
 use Rattle.stored.specs.declared.StoredAnswer.the-variants.{Refused, Done}
 
@@ -52,17 +53,19 @@ number-same : (r s : StoredRefusal) → storedNumber r ≡ storedNumber s → r 
 number-same Malformed Malformed e = refl
 number-same Malformed NotLongest e = absurd (omega arith)
 number-same Malformed NoRoom e = absurd (omega arith)
+number-same Malformed WrongNumber e = absurd (omega arith)
 number-same NotLongest Malformed e = absurd (omega arith)
 number-same NotLongest NotLongest e = refl
 number-same NotLongest NoRoom e = absurd (omega arith)
+number-same NotLongest WrongNumber e = absurd (omega arith)
 number-same NoRoom Malformed e = absurd (omega arith)
 number-same NoRoom NotLongest e = absurd (omega arith)
 number-same NoRoom NoRoom e = refl
-
-number-some : (r : StoredRefusal) → storedNumber r ≡ 0 → ⊥
-number-some Malformed e = omega arith
-number-some NotLongest e = omega arith
-number-some NoRoom e = omega arith
+number-same NoRoom WrongNumber e = absurd (omega arith)
+number-same WrongNumber Malformed e = absurd (omega arith)
+number-same WrongNumber NotLongest e = absurd (omega arith)
+number-same WrongNumber NoRoom e = absurd (omega arith)
+number-same WrongNumber WrongNumber e = refl
 
 answer-same : (a b : StoredAnswer) → storedRefusedBy a ≡ storedRefusedBy b → bytesIn a ≡ bytesIn b → a ≡ b
 answer-same (Refused r) (Refused s) e f = ap Refused (number-same r s e)

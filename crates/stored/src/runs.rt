@@ -1,10 +1,13 @@
 // The new form, runs, and the spans that are made of it.
 use crate::bytes::END;
+use crate::bytes::MARK;
 use crate::bytes::MOST_LONG;
+use crate::bytes::MOST_MARKED;
 use crate::bytes::RUN;
 use crate::bytes::RUN_BYTES;
 use crate::bytes::SPAN;
 use crate::bytes::SPAN_BYTES;
+use crate::bytes::STRETCH;
 use crate::bytes::put_word;
 use crate::bytes::word;
 use file::put::put;
@@ -13,22 +16,51 @@ ghost use mathlib.Core.Bool.{true};
 ghost use Prim.Native.Nat.{_+_, _*_, _<_, _≤_, _%_};
 ghost use lib.ListN.{length, replicate};
 ghost use lib.Dec.{leb};
-ghost use Rattle.rules.specs.Stored.{spanRecord, newFine, newRuns, longest, unpacked};
+ghost use Rattle.rules.specs.Stored.{spanRecord, newFine, newRuns, rightNumbers, longest, unpacked};
 ghost use Rattle.file.specs.Written.{Room, Wrote};
-ghost use Rattle.stored.specs.Parts.{runFine, mayFollow, spanRecords, runSpans};
+ghost use Rattle.stored.specs.Parts.{mayFollow, spanRecords, runSpans};
+ghost use Rattle.stored.specs.Records.{recordFine, runsAfter, spansAfter, longWord, numberRight, recordFollows, numberAfter, spansBytes, recordSpans};
 
-// The record at place i is that of a run.
-fn run_fine(new: &[u8], i: usize) -> bool
+// The record at place i is the one that is due after t runs of a stretch: after 64 the number of spans, which then fits, otherwise a run.
+fn record_fine(new: &[u8], i: usize, t: usize, spans: usize) -> bool
     requires { ⌜ i + 4 < length (now new) ⌝ }
-    ensures { λ r. ⌜ r ≡ runFine (now (new .entry)) i ⌝ }
+    ensures { λ r. ⌜ r ≡ recordFine (now (new .entry)) i t spans ⌝ }
 {
+    if t == STRETCH {
+        if new[i] == MARK {
+            return spans <= MOST_MARKED;
+        }
+        return false;
+    }
     if new[i] == RUN {
         return 0 < word(new, i + 3);
     }
     false
 }
 
-// The file is one of the new form, whatever its runs.
+// The runs of the stretch after the record that is due.
+pub(crate) fn runs_after(t: usize) -> usize
+    requires { ⌜ t ≤ 64 ⌝ }
+    ensures { λ r. ⌜ r ≡ runsAfter t ⌝ }
+{
+    if t == STRETCH {
+        return 0;
+    }
+    t + 1
+}
+
+// The spans after the record at place i.
+pub(crate) fn spans_after(new: &[u8], i: usize, t: usize, spans: usize) -> usize
+    requires { ⌜ (i + 4 < length (now new)) × (spans < 4299161600) ⌝ }
+    ensures { λ r. ⌜ (r ≡ spansAfter (now (new .entry)) i t spans) × (r ≤ spans + 65535) ⌝ }
+{
+    if t == STRETCH {
+        return spans;
+    }
+    spans + word(new, i + 3) as usize
+}
+
+// The file is one of the new form, whatever its runs and its numbers of spans.
 pub(crate) fn new_fine(new: &[u8]) -> bool
     ensures { λ r. ⌜ r ≡ newFine (now (new .entry)) ⌝ }
 {
@@ -36,14 +68,62 @@ pub(crate) fn new_fine(new: &[u8]) -> bool
         return false;
     }
     let m = new.len() / RUN_BYTES;
+    let mut t: usize = 0;
+    let mut spans: usize = 0;
     let mut j = 0;
     while j < m {
-        if run_fine(new, RUN_BYTES * j) {} else {
+        if record_fine(new, RUN_BYTES * j, t, spans) {} else {
             return false;
         }
+        spans = spans_after(new, RUN_BYTES * j, t, spans);
+        t = runs_after(t);
         j += 1;
     }
+    if t == STRETCH {
+        return false;
+    }
     new[RUN_BYTES * j] == END
+}
+
+// The number of four bytes at place i.
+pub(crate) fn long_word(bytes: &[u8], i: usize) -> usize
+    requires { ⌜ i + 3 < length (now bytes) ⌝ }
+    ensures { λ r. ⌜ (r ≡ longWord (now (bytes .entry)) i) × (r ≤ 4294967295) ⌝ }
+{
+    let low = word(bytes, i) as usize;
+    let high = word(bytes, i + 2) as usize;
+    low + 65536 * high
+}
+
+// The number of spans in the record at place i is right, if one is due.
+fn number_right(new: &[u8], i: usize, t: usize, spans: usize) -> bool
+    requires { ⌜ i + 4 < length (now new) ⌝ }
+    ensures { λ r. ⌜ r ≡ numberRight (now (new .entry)) i t spans ⌝ }
+{
+    if t == STRETCH {
+        return long_word(new, i + 1) == spans;
+    }
+    true
+}
+
+// Every number of spans is right.
+pub(crate) fn numbers_right(new: &[u8]) -> bool
+    requires { ⌜ newFine (now new) ≡ true ⌝ }
+    ensures { λ r. ⌜ r ≡ rightNumbers (now (new .entry)) ⌝ }
+{
+    let m = new.len() / RUN_BYTES;
+    let mut t: usize = 0;
+    let mut spans: usize = 0;
+    let mut j = 0;
+    while j < m {
+        if number_right(new, RUN_BYTES * j, t, spans) {} else {
+            return false;
+        }
+        spans = spans_after(new, RUN_BYTES * j, t, spans);
+        t = runs_after(t);
+        j += 1;
+    }
+    true
 }
 
 // A run of id y may follow one of id x and length k.
@@ -56,6 +136,28 @@ fn may_follow(x: u16, k: u16, y: u16) -> bool
     true
 }
 
+// The record at place i may follow a run of id x and length k: a number of spans always.
+fn record_follows(new: &[u8], i: usize, t: usize, x: u16, k: u16) -> bool
+    requires { ⌜ i + 4 < length (now new) ⌝ }
+    ensures { λ r. ⌜ r ≡ recordFollows (now (new .entry)) i t x k ⌝ }
+{
+    if t == STRETCH {
+        return true;
+    }
+    may_follow(x, k, word(new, i + 1))
+}
+
+// A number of the run at place i, or that of the run before it where the number of spans is due.
+fn number_after(new: &[u8], i: usize, t: usize, before: u16) -> u16
+    requires { ⌜ i + 1 < length (now new) ⌝ }
+    ensures { λ r. ⌜ r ≡ numberAfter (now (new .entry)) i t before ⌝ }
+{
+    if t == STRETCH {
+        return before;
+    }
+    word(new, i)
+}
+
 // The runs are the longest. Any run may follow one of the greatest length, so the first does too.
 pub(crate) fn longest_runs(new: &[u8]) -> bool
     requires { ⌜ newFine (now new) ≡ true ⌝ }
@@ -64,17 +166,29 @@ pub(crate) fn longest_runs(new: &[u8]) -> bool
     let m = new.len() / RUN_BYTES;
     let mut id: u16 = 0;
     let mut long = MOST_LONG;
+    let mut t: usize = 0;
     let mut j = 0;
     while j < m {
-        let next = word(new, RUN_BYTES * j + 1);
-        if may_follow(id, long, next) {} else {
+        if record_follows(new, RUN_BYTES * j, t, id, long) {} else {
             return false;
         }
-        id = next;
-        long = word(new, RUN_BYTES * j + 3);
+        id = number_after(new, RUN_BYTES * j + 1, t, id);
+        long = number_after(new, RUN_BYTES * j + 3, t, long);
+        t = runs_after(t);
         j += 1;
     }
     true
+}
+
+// The bytes of the spans of the record at place i.
+fn spans_bytes(new: &[u8], i: usize, t: usize) -> usize
+    requires { ⌜ i + 4 < length (now new) ⌝ }
+    ensures { λ r. ⌜ r ≡ spansBytes (now (new .entry)) i t ⌝ }
+{
+    if t == STRETCH {
+        return 0;
+    }
+    SPAN_BYTES * word(new, i + 3) as usize
 }
 
 // The old form takes at most so many bytes.
@@ -84,13 +198,15 @@ pub(crate) fn unpack_fits(new: &[u8], room: usize) -> bool
 {
     let m = new.len() / RUN_BYTES;
     let mut left = room;
+    let mut t: usize = 0;
     let mut j = 0;
     while j < m {
-        let taken = SPAN_BYTES * word(new, RUN_BYTES * j + 3) as usize;
+        let taken = spans_bytes(new, RUN_BYTES * j, t);
         if left < taken {
             return false;
         }
         left -= taken;
+        t = runs_after(t);
         j += 1;
     }
     0 < left
@@ -129,6 +245,17 @@ fn put_run_spans(new: &[u8], i: usize, out: &mut [u8], at: usize) -> usize
     put_spans(out, at, id, long)
 }
 
+// Those of the record at place i: none where the number of spans is due.
+fn put_record_spans(new: &[u8], i: usize, t: usize, out: &mut [u8], at: usize) -> usize
+    requires { ⌜ (i + 4 < length (now new)) × Room (now out) at (recordSpans (now new) i t) ⌝ }
+    ensures { λ r. ⌜ Wrote (now (out .entry)) at (recordSpans (now (new .entry)) i t) r (now (out .exit)) ⌝ }
+{
+    if t == STRETCH {
+        return at;
+    }
+    put_run_spans(new, i, out, at)
+}
+
 // The old form.
 pub(crate) fn write_spans(new: &[u8], out: &mut [u8]) -> usize
     requires { ⌜ (newFine (now new) ≡ true) × (length (unpacked (now new)) ≤ length (now out)) ⌝ }
@@ -136,9 +263,11 @@ pub(crate) fn write_spans(new: &[u8], out: &mut [u8]) -> usize
 {
     let m = new.len() / RUN_BYTES;
     let mut at = 0;
+    let mut t: usize = 0;
     let mut j = 0;
     while j < m {
-        at = put_run_spans(new, RUN_BYTES * j, out, at);
+        at = put_record_spans(new, RUN_BYTES * j, t, out, at);
+        t = runs_after(t);
         j += 1;
     }
     put(out, at, END)

@@ -411,3 +411,28 @@ pub fn measure(field: &Field, ids: &[u16], asked: [u16; 3], sizes: &mut [f64], n
         )
     }
 }
+
+#[rustfmt::skip]
+unsafe extern "C" {
+    fn gussetraft_id_at_into(file: *const u8, file_len: usize, span: u32, answer: *mut u32, answer_len: usize) -> u32;
+
+    fn gussetraft_id_at_whole_into(file: *const u8, file_len: usize, span: u32, answer: *mut u32, answer_len: usize) -> u32;
+}
+
+/// One span's id by way of the kind 7 records: what is given, and the answer's numbers.
+#[rustfmt::skip]
+pub fn id_at(file: &[u8], span: u32) -> (u32, [u32; 3]) {
+    let mut answer = [u32::MAX; 3];
+    // SAFETY: as above.
+    let given = unsafe { gussetraft_id_at_into(file.as_ptr(), file.len(), span, answer.as_mut_ptr(), answer.len()) };
+    (given, answer)
+}
+
+/// The full reader.
+#[rustfmt::skip]
+pub fn id_at_whole(file: &[u8], span: u32) -> (u32, [u32; 3]) {
+    let mut answer = [u32::MAX; 3];
+    // SAFETY: as above.
+    let given = unsafe { gussetraft_id_at_whole_into(file.as_ptr(), file.len(), span, answer.as_mut_ptr(), answer.len()) };
+    (given, answer)
+}

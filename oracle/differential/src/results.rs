@@ -11,8 +11,10 @@ use std::panic::{AssertUnwindSafe, catch_unwind};
 const SIDE: usize = 16;
 
 /// What a result or a file is.
-const KINDS: [&str; 7] = [
+const KINDS: [&str; 9] = [
     "rooms",
+    "stretches",
+    "wrong-number",
     "noise-ids",
     "long-runs",
     "split-runs",
@@ -52,6 +54,20 @@ fn compare_result(seed: u64, tally: &mut Tally) {
         Ok(answer) => tally.count(kind, &answer),
         Err(what) => differs(seed, &format!("{kind}, {name}: {what}"), tally),
     };
+    let spans = (old.len() / 3) as u32;
+    for span in [
+        0,
+        1,
+        spans / 2,
+        spans.saturating_sub(1),
+        spans,
+        u32::MAX,
+        rng.number() as u32,
+    ] {
+        for file in [&old, &new] {
+            compared(&format!("span {span}"), compare_ids(file, span));
+        }
+    }
     for file in [&old, &new] {
         let more = rng.within(1..=40);
         for pack in [true, false] {
@@ -81,6 +97,10 @@ fn make(kind: &str, rng: &mut Rng) -> (Vec<u8>, Vec<u8>) {
         split(&mut runs, rng);
     }
     let (mut old, mut new) = (stored::old_form(&ids), stored::new_form(&runs));
+    if kind == "wrong-number" && new.len() > 325 {
+        let place = rng.pick(&[320, 321, 322, 323, 324]);
+        new[place] ^= 1 << rng.within(0..=7);
+    }
     if kind == "damaged-old" || kind == "damaged-new" {
         damage(&mut old, rng);
         damage(&mut new, rng);
@@ -91,10 +111,14 @@ fn make(kind: &str, rng: &mut Rng) -> (Vec<u8>, Vec<u8>) {
 /// Ids of a result.
 fn ids(kind: &str, rng: &mut Rng) -> Vec<u16> {
     let mut ids = Vec::new();
-    let spans = if kind == "long-runs" { 3 } else { rng.within(0..=60) };
+    let spans = match kind {
+        "long-runs" => 3,
+        "stretches" | "wrong-number" => rng.pick(&[63, 64, 65, 127, 128, 129, 200, 640]),
+        _ => rng.within(0..=60),
+    };
     for _ in 0..spans {
         let id = match kind {
-            "noise-ids" => rng.within(0..=65_535) as u16,
+            "noise-ids" | "stretches" | "wrong-number" => rng.within(0..=65_535) as u16,
             _ => rng.pick(&[0, 1, 2, 255, 256, 0x8001, 65_535]),
         };
         let length = match kind {
@@ -140,7 +164,9 @@ fn damage(file: &mut Vec<u8>, rng: &mut Rng) {
 
 /// One call with a list of so many bytes. Gives the answer's sort, or what differs.
 fn compare_call(file: &[u8], pack: bool, room: usize) -> Result<String, String> {
-    let held: Vec<u8> = (0..room + 2 * SIDE).map(|place| (place * 37 + 11) as u8).collect();
+    let held: Vec<u8> = (0..room + 2 * SIDE)
+        .map(|place| (place * 37 + 11) as u8)
+        .collect();
     let mut out = held.clone();
     let lent = file.to_vec();
     let (found, expected) = {
@@ -170,7 +196,10 @@ fn compare_call(file: &[u8], pack: bool, room: usize) -> Result<String, String> 
         None => Ok(sort),
         Some(place) => {
             let (found, wanted) = (out[place], wanted[place]);
-            Err(format!("out has {found} at {}, not {wanted}", place as i64 - SIDE as i64))
+            Err(format!(
+                "out has {found} at {}, not {wanted}",
+                place as i64 - SIDE as i64
+            ))
         }
     }
 }
@@ -191,4 +220,22 @@ fn back(file: &[u8], pack: bool, output: &[u8]) -> Result<(), String> {
         return Err("a list of three for the numbers is not refused 3".to_owned());
     }
     Ok(())
+}
+
+/// Both readers of one span's id: the full one beside the model, and the other equal to it where the file is accepted.
+fn compare_ids(file: &[u8], span: u32) -> Result<String, String> {
+    let whole = library::id_at_whole(file, span);
+    let (id, stretch) = stored::id_at_whole(file, span);
+    let (numbers, sort) = match id {
+        Ok(id) => ([0, u32::from(id), stretch], "id".to_owned()),
+        Err(refusal) => ([refusal as u32, 0, stretch], refusal.to_string()),
+    };
+    if whole != (numbers[0], numbers) {
+        return Err(format!("the full reader {whole:?}, not {numbers:?}"));
+    }
+    let quick = library::id_at(file, span);
+    if matches!(numbers[0], 0 | 26) && quick != whole {
+        return Err(format!("by kind 7 records {quick:?}, not {whole:?}"));
+    }
+    Ok(sort)
 }

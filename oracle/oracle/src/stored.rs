@@ -1,4 +1,4 @@
-//! Stored results, request A9, written from document 02's words alone.
+//! Stored results, requests A9 and A10, written from document 02's words alone.
 
 use std::fmt;
 
@@ -11,6 +11,10 @@ pub enum Refusal {
     NotLongest = 23,
     /// "24 no room".
     NoRoom = 24,
+    /// "25 wrong number".
+    WrongNumber = 25,
+    /// "26 span beyond the end".
+    Beyond = 26,
 }
 
 impl fmt::Display for Refusal {
@@ -21,6 +25,9 @@ impl fmt::Display for Refusal {
 
 /// The greatest length of a run.
 pub const MOST: u16 = 65_535;
+
+/// The runs of a stretch.
+pub const STRETCH: usize = 64;
 
 /// Equal ids one after the other.
 #[derive(Debug, Clone, Copy, PartialEq, Eq)]
@@ -45,10 +52,17 @@ pub fn old_form(ids: &[u16]) -> Vec<u8> {
 /// "runs in span order: kind 6, id and length, 2 bytes each".
 pub fn new_form(runs: &[Run]) -> Vec<u8> {
     let mut bytes = Vec::new();
-    for run in runs {
+    let mut spans: u32 = 0;
+    for (number, run) in runs.iter().enumerate() {
         bytes.push(6);
         bytes.extend(run.id.to_le_bytes());
         bytes.extend(run.length.to_le_bytes());
+        spans += u32::from(run.length);
+        // "After every 64 runs the new form carries a kind 7 record with the number of spans so far (4 bytes)"
+        if number % STRETCH == STRETCH - 1 {
+            bytes.push(7);
+            bytes.extend(spans.to_le_bytes());
+        }
     }
     bytes.push(4);
     bytes
@@ -78,15 +92,30 @@ pub fn pack(file: &[u8], room: usize) -> Result<Vec<u8>, Refusal> {
     fitting(new_form(&runs_of(&ids)), room)
 }
 
-/// New to old, for a list of so many bytes.
-pub fn unpack(file: &[u8], room: usize) -> Result<Vec<u8>, Refusal> {
-    let mut runs = Vec::new();
+/// A full read: the runs of a file of the new form.
+pub fn read(file: &[u8]) -> Result<Vec<Run>, Refusal> {
+    let mut runs: Vec<Run> = Vec::new();
     let mut records = Records { file };
-    while let Some(body) = records.next(6, 4)? {
+    let (mut spans, mut wrong) = (0u64, false);
+    let mut since = 0;
+    loop {
+        if since == STRETCH {
+            // "a missing or misplaced one, or a span count that doesn't fit 4 bytes, is malformed"
+            let body = records.next(7, 4)?.ok_or(Refusal::Malformed)?;
+            let counted = u32::try_from(spans).map_err(|_| Refusal::Malformed)?;
+            wrong |= body != counted.to_le_bytes();
+            since = 0;
+            continue;
+        }
+        let Some(body) = records.next(6, 4)? else {
+            break;
+        };
         let (id, length) = body.split_at(2);
         if number(length) == 0 {
             return Err(Refusal::Malformed);
         }
+        spans += u64::from(number(length));
+        since += 1;
         runs.push(Run {
             id: number(id),
             length: number(length),
@@ -97,6 +126,32 @@ pub fn unpack(file: &[u8], room: usize) -> Result<Vec<u8>, Refusal> {
             return Err(Refusal::NotLongest);
         }
     }
+    // "25 wrong number, between 23 and 24"
+    if wrong {
+        return Err(Refusal::WrongNumber);
+    }
+    Ok(runs)
+}
+
+/// The full reader: a span's id and stretch, or the refusal and the stretch.
+pub fn id_at_whole(file: &[u8], span: u32) -> (Result<u16, Refusal>, u32) {
+    let runs = match read(file) {
+        Ok(runs) => runs,
+        Err(refusal) => return (Err(refusal), 0),
+    };
+    let mut before = 0u64;
+    for (number, run) in runs.iter().enumerate() {
+        before += u64::from(run.length);
+        if u64::from(span) < before {
+            return (Ok(run.id), (number / STRETCH) as u32);
+        }
+    }
+    (Err(Refusal::Beyond), (runs.len() / STRETCH) as u32)
+}
+
+/// New to old, for a list of so many bytes.
+pub fn unpack(file: &[u8], room: usize) -> Result<Vec<u8>, Refusal> {
+    let runs = read(file)?;
     let spans: usize = runs.iter().map(|run| usize::from(run.length)).sum();
     if 3 * spans + 1 > room {
         return Err(Refusal::NoRoom);
@@ -142,7 +197,7 @@ impl<'a> Records<'a> {
 
 #[cfg(test)]
 mod tests {
-    use super::{MOST, Refusal, Run, new_form, old_form, pack, runs_of, unpack};
+    use super::{MOST, Refusal, Run, id_at_whole, new_form, old_form, pack, read, runs_of, unpack};
 
     const ALL: usize = usize::MAX;
 
@@ -201,5 +256,25 @@ mod tests {
         assert_eq!(unpack(&full, 0), Err(Refusal::NoRoom));
         let unended = &split[..split.len() - 1];
         assert_eq!(unpack(unended, ALL), Err(Refusal::Malformed));
+    }
+
+    #[test]
+    fn stretches() {
+        let run = |id| Run { id, length: 2 };
+        let runs: Vec<Run> = (0..130).map(run).collect();
+        let file = new_form(&runs);
+        assert_eq!(file.len(), 5 * 132 + 1);
+        assert_eq!(file[320..325], [7, 128, 0, 0, 0]);
+        assert_eq!(id_at_whole(&file, 128), (Ok(64), 1));
+        assert_eq!(id_at_whole(&file, 259), (Ok(129), 2));
+        assert_eq!(id_at_whole(&file, 260), (Err(Refusal::Beyond), 2));
+        let mut wrong = file.clone();
+        wrong[321] ^= 1;
+        assert_eq!(read(&wrong), Err(Refusal::WrongNumber));
+        wrong[320] = 6;
+        assert_eq!(read(&wrong), Err(Refusal::Malformed));
+        let ends = new_form(&runs[..64]);
+        assert_eq!(ends.len(), 326);
+        assert_eq!(read(&ends), Ok(runs[..64].to_vec()));
     }
 }

@@ -1,47 +1,47 @@
--- Each end is the outcome (Ends): malformed, not the longest runs, no room, written.
+-- Each end is the outcome (Ends): the refusal of a full read, no room, written.
 -- Assumes nothing.
-use Rattle.stored.proofs.Ends.{test-true, fits-room, unpack-malformed, unpack-shorter, unpack-full, unpack-done}
+use Rattle.stored.proofs.Ends.{fits-room, unpack-refused, unpack-fine, unpack-full, unpack-done}
 use borrow.Author.Needs.{needs}
 use Rattle.stored.proofs.unpack.Statement.{statement}
 use Rattle.stored.proofs.unpack.Tie as tie
 
-new-fine-requires : tie.Need-new-fine-requires
-new-fine-requires c κs = search needs
+check-requires : tie.Need-check-requires
+check-requires c κs = search needs
 
-returns : tie.Need-returns
-returns c = search (needs, unpack-malformed)
+enum-known-r : tie.Need-enum-known-r
+enum-known-r c = search needs
 
-longest-runs-requires : tie.Need-longest-runs-requires
-longest-runs-requires c κs = search (needs, test-true)
-
-returns-2 : tie.Need-returns-2
-returns-2 c = search (needs, unpack-shorter)
+enum-told : tie.Need-enum-told
+enum-told c = search needs
 
 unpack-fits-requires : tie.Need-unpack-fits-requires
-unpack-fits-requires c κs = search (needs, test-true)
+unpack-fits-requires c κs = search (needs, unpack-fine)
 
-returns-3 : tie.Need-returns-3
-returns-3 c = search (needs, unpack-full)
+returns : tie.Need-returns
+returns c = search (needs, unpack-refused, unpack-full, unpack-done)
 
 write-spans-requires : tie.Need-write-spans-requires
-write-spans-requires c κs = (search (needs, test-true), search (needs, fits-room))
+write-spans-requires c κs = (search (needs, unpack-fine), search (needs, fits-room))
+
+returns-2 : tie.Need-returns-2
+returns-2 c = search (needs, unpack-refused, unpack-full, unpack-done)
 
 same-length : tie.Need-same-length
 same-length c = search needs
 
-returns-4 : tie.Need-returns-4
-returns-4 c = search (needs, unpack-done)
+returns-3 : tie.Need-returns-3
+returns-3 c = search (needs, unpack-refused, unpack-full, unpack-done)
 
 pub unpack-spec : {M : Type 1} → statement M
 unpack-spec =
     tie.close
     (tie.spec
-    new-fine-requires
-    returns
-    longest-runs-requires
-    returns-2
+    check-requires
+    enum-known-r
+    enum-told
     unpack-fits-requires
-    returns-3
+    returns
     write-spans-requires
+    returns-2
     same-length
-    returns-4)
+    returns-3)

@@ -1,4 +1,4 @@
--- Nothing is written for a run that goes on, otherwise its record.
+-- Nothing is written for a run that goes on, otherwise its records.
 -- Assumes nothing.
 use Rattle.stored.proofs.Calls.{ended-here, ended-room, ended-wrote}
 use borrow.Author.Needs.{needs}
@@ -12,7 +12,7 @@ returns : tie.Need-returns
 returns c = search (needs, ended-here)
 
 put-run-requires : tie.Need-put-run-requires
-put-run-requires c κs = search (needs, ended-room)
+put-run-requires c κs = (search needs, search (needs, ended-room))
 
 same-length : tie.Need-same-length
 same-length c = search needs

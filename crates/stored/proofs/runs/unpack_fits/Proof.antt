@@ -4,7 +4,7 @@ use Prim.Native.Nat.{_≤_, _-_, _/_, _%_}
 use mathlib.Core.Path.{_≡_}
 use lib.ListN.{length}
 use Rattle.rules.specs.Stored.{unpacked}
-use Rattle.stored.proofs.NewPlaces.{new-length, spansLeft}
+use Rattle.stored.proofs.NewPlaces.{new-length, runs-below, spansLeft}
 use Rattle.stored.proofs.Fits.{Fits}
 use Rattle.stored.proofs.NewCalls.{span-fit-first, span-fit-next, span-fit-not, span-fit-end}
 use borrow.Author.Needs.{needs}
@@ -12,31 +12,25 @@ use Rattle.stored.proofs.runs.unpack_fits.Statement.{statement}
 use Rattle.stored.proofs.runs.unpack_fits.Tie as tie
 
 abbrev Inv-loop : tie.InvT-loop
-Inv-loop new room m left₀ j₀ left j = (length new % 5 ≡ 1) × (j ≤ length new / 5) × Fits (unpacked new) room (spansLeft new j) left
+Inv-loop new room m left₀ t₀ j₀ left t j = (length new % 5 ≡ 1) × (j ≤ length new / 5) × (t ≤ 64) × Fits (unpacked new) room (spansLeft new j t) left
 
 abbrev μ-loop : tie.MeasureT-loop
-μ-loop new room m left₀ j₀ left j = length new / 5 - j
+μ-loop new room m left₀ t₀ j₀ left t j = length new / 5 - j
 
 loop-holds : tie.Need-loop-holds Inv-loop μ-loop
-loop-holds c = (search (needs, new-length), search needs, search (needs, span-fit-first))
+loop-holds c = (search (needs, new-length), search needs, search needs, search (needs, span-fit-first))
 
-mul-word : tie.Need-mul-word Inv-loop μ-loop
-mul-word c = search needs
+mul-spans-bytes : tie.Need-mul-spans-bytes Inv-loop μ-loop
+mul-spans-bytes c = search needs
 
-add-word : tie.Need-add-word Inv-loop μ-loop
-add-word c = search needs
-
-word-requires : tie.Need-word-requires Inv-loop μ-loop
-word-requires c κs = search needs
-
-cast-taken : tie.Need-cast-taken Inv-loop μ-loop
-cast-taken c = search needs
-
-mul-taken : tie.Need-mul-taken Inv-loop μ-loop
-mul-taken c = search needs
+spans-bytes-requires : tie.Need-spans-bytes-requires Inv-loop μ-loop
+spans-bytes-requires c κs = search needs
 
 returns : tie.Need-returns Inv-loop μ-loop
 returns c = search (needs, span-fit-not)
+
+runs-after-requires : tie.Need-runs-after-requires Inv-loop μ-loop
+runs-after-requires c κs = search needs
 
 add-j : tie.Need-add-j Inv-loop μ-loop
 add-j c = search needs
@@ -45,7 +39,7 @@ loop-less : tie.Need-loop-less Inv-loop μ-loop
 loop-less c = search needs
 
 loop-again : tie.Need-loop-again Inv-loop μ-loop
-loop-again c = (search needs, search needs, search (needs, span-fit-next))
+loop-again c = (search needs, search needs, search (needs, runs-below), search (needs, span-fit-next))
 
 returns-2 : tie.Need-returns-2 Inv-loop μ-loop
 returns-2 c = search (needs, span-fit-end)
@@ -57,12 +51,10 @@ unpack-fits-spec =
     Inv-loop
     μ-loop
     loop-holds
-    mul-word
-    add-word
-    word-requires
-    cast-taken
-    mul-taken
+    mul-spans-bytes
+    spans-bytes-requires
     returns
+    runs-after-requires
     add-j
     loop-less
     loop-again

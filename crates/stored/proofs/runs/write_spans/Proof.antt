@@ -4,7 +4,7 @@ use Prim.Native.Nat.{_≤_, _-_, _/_, _%_}
 use mathlib.Core.Path.{_≡_}
 use lib.ListN.{length}
 use Rattle.rules.specs.Stored.{unpacked}
-use Rattle.stored.proofs.NewPlaces.{new-length, spansLeft}
+use Rattle.stored.proofs.NewPlaces.{new-length, runs-below, spansLeft}
 use Rattle.stored.proofs.Fits.{Writes}
 use Rattle.stored.proofs.NewCalls.{all-first, all-room, all-next, all-end-room, all-done}
 use borrow.Author.Needs.{needs}
@@ -12,19 +12,22 @@ use Rattle.stored.proofs.runs.write_spans.Statement.{statement}
 use Rattle.stored.proofs.runs.write_spans.Tie as tie
 
 abbrev Inv-loop : tie.InvT-loop
-Inv-loop new out₀ m at₀ j₀ out at j = (length new % 5 ≡ 1) × (j ≤ length new / 5) × Writes out₀ (unpacked new) at (spansLeft new j) out
+Inv-loop new out₀ m at₀ t₀ j₀ out at t j = (length new % 5 ≡ 1) × (j ≤ length new / 5) × (t ≤ 64) × Writes out₀ (unpacked new) at (spansLeft new j t) out
 
 abbrev μ-loop : tie.MeasureT-loop
-μ-loop new out₀ m at₀ j₀ out at j = length new / 5 - j
+μ-loop new out₀ m at₀ t₀ j₀ out at t j = length new / 5 - j
 
 loop-holds : tie.Need-loop-holds Inv-loop μ-loop
-loop-holds c = (search (needs, new-length), search needs, search (needs, all-first))
+loop-holds c = (search (needs, new-length), search needs, search needs, search (needs, all-first))
 
-mul-put-run-spans : tie.Need-mul-put-run-spans Inv-loop μ-loop
-mul-put-run-spans c = search needs
+mul-put-record-spans : tie.Need-mul-put-record-spans Inv-loop μ-loop
+mul-put-record-spans c = search needs
 
-put-run-spans-requires : tie.Need-put-run-spans-requires Inv-loop μ-loop
-put-run-spans-requires c κs = (search needs, search (needs, all-room))
+put-record-spans-requires : tie.Need-put-record-spans-requires Inv-loop μ-loop
+put-record-spans-requires c κs = (search needs, search (needs, all-room))
+
+runs-after-requires : tie.Need-runs-after-requires Inv-loop μ-loop
+runs-after-requires c κs = search needs
 
 add-j : tie.Need-add-j Inv-loop μ-loop
 add-j c = search needs
@@ -33,7 +36,7 @@ loop-less : tie.Need-loop-less Inv-loop μ-loop
 loop-less c = search needs
 
 loop-again : tie.Need-loop-again Inv-loop μ-loop
-loop-again c = (search needs, search needs, search (needs, all-next))
+loop-again c = (search needs, search needs, search (needs, runs-below), search (needs, all-next))
 
 put-requires : tie.Need-put-requires Inv-loop μ-loop
 put-requires c κs = search (needs, all-end-room)
@@ -51,8 +54,9 @@ write-spans-spec =
     Inv-loop
     μ-loop
     loop-holds
-    mul-put-run-spans
-    put-run-spans-requires
+    mul-put-record-spans
+    put-record-spans-requires
+    runs-after-requires
     add-j
     loop-less
     loop-again

@@ -1,6 +1,9 @@
 //! Field files by seed, mended by the program `mending` and by the model of document 02's words.
 
-use crate::{edited, small, tally::Tally};
+use crate::{
+    edited, small,
+    tally::{Tally, only},
+};
 use oracle::{
     field::{Case, Field},
     file::{self, Limits},
@@ -37,7 +40,8 @@ pub fn compare(program: &Path, first: u64, count: u64) -> Result<Tally, String> 
             tally.count(kind, &answer);
         } else {
             tally.differs(&format!(
-                "file of seed {seed}, kind {kind}, through the program mending\nagain: oracle/compare --small 0 --large 0 --edited 7 --seed {seed}"
+                "file of seed {seed}, kind {kind}, through the program mending\nagain: {} --seed {seed}",
+                only("edited", 7)
             ));
         }
         tally.fields += 1;

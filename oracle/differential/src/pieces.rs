@@ -3,7 +3,7 @@
 use crate::{
     library::{self, LOADER_LEN, Lists, LoadAnswer},
     small,
-    tally::Tally,
+    tally::{Tally, only},
 };
 use oracle::{
     file::{self, Limits},
@@ -36,7 +36,8 @@ pub fn compare(first: u64, count: u64) -> Tally {
 
 fn differs(seed: u64, what: &str, tally: &mut Tally) {
     tally.differs(&format!(
-        "file of seed {seed} in pieces: {what}\nagain: oracle/compare --small 0 --large 0 --edited 0 --edges 0 --doors 0 --pieces 1 --seed {seed}"
+        "file of seed {seed} in pieces: {what}\nagain: {} --seed {seed}",
+        only("pieces", 1)
     ));
 }
 

@@ -5,7 +5,7 @@ use crate::{
     faults,
     lent::Lent,
     library::{self, RoomAnswer},
-    tally::Tally,
+    tally::{Tally, only},
 };
 use oracle::{
     field::{Field, Settings},
@@ -43,7 +43,8 @@ pub fn compare(first: u64, count: u64) -> Tally {
 
 fn differs(seed: u64, what: &str, tally: &mut Tally) {
     tally.differs(&format!(
-        "rooms of seed {seed}: {what}\nagain: oracle/compare --small 0 --large 0 --edited 0 --edges 0 --doors 0 --sizes 0 --rooms 1 --seed {seed}"
+        "rooms of seed {seed}: {what}\nagain: {} --seed {seed}",
+        only("rooms", 1)
     ));
 }
 

@@ -1,6 +1,9 @@
 //! Stored results by seed, right, damaged and at the limits: the library's conversions beside the model of document 02's words.
 
-use crate::{library, tally::Tally};
+use crate::{
+    library,
+    tally::{Tally, only},
+};
 use oracle::{
     rng::Rng,
     stored::{self, MOST, Run},
@@ -42,7 +45,8 @@ pub fn compare(first: u64, count: u64) -> Tally {
 
 fn differs(seed: u64, what: &str, tally: &mut Tally) {
     tally.differs(&format!(
-        "stored result of seed {seed}: {what}\nagain: oracle/compare --small 0 --large 0 --edited 0 --edges 0 --doors 0 --results 1 --seed {seed}"
+        "stored result of seed {seed}: {what}\nagain: {} --seed {seed}",
+        only("results", 1)
     ));
 }
 

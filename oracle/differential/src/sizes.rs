@@ -1,6 +1,10 @@
 //! Floor sizes, by seed: the library beside the model of document 02's words.
 
-use crate::{calls::Call, faults, library, tally::Tally};
+use crate::{
+    calls::Call,
+    faults, library,
+    tally::{Tally, only},
+};
 use oracle::{
     field::{Field, Settings},
     levels::{KINDS, Size, at_limits},
@@ -35,7 +39,8 @@ pub fn compare(first: u64, count: u64) -> Tally {
 
 fn differs(seed: u64, what: &str, tally: &mut Tally) {
     tally.differs(&format!(
-        "sizes of seed {seed}: {what}\nagain: oracle/compare --small 0 --large 0 --edited 0 --edges 0 --doors 0 --rooms 0 --sizes 1 --seed {seed}"
+        "sizes of seed {seed}: {what}\nagain: {} --seed {seed}",
+        only("sizes", 1)
     ));
 }
 

@@ -1,6 +1,7 @@
 // Stored results: the conversion of a file of one record a span into one of runs, and back. Each way checks the whole file, then the room, then writes.
 mod bytes;
 pub mod id;
+pub mod ids;
 pub mod into;
 mod old;
 mod runs;

@@ -213,7 +213,7 @@ pub(crate) fn unpack_fits(new: &[u8], room: usize) -> bool
 }
 
 // The record of a span.
-fn put_span(out: &mut [u8], at: usize, x: u16) -> usize
+pub(crate) fn put_span(out: &mut [u8], at: usize, x: u16) -> usize
     requires { ⌜ Room (now out) at (spanRecord x) ⌝ }
     ensures { λ r. ⌜ Wrote (now (out .entry)) at (spanRecord x) r (now (out .exit)) ⌝ }
 {

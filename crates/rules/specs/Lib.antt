@@ -18,3 +18,4 @@ pub mod Listing
 pub mod Open
 pub mod Mend
 pub mod Refresh
+pub mod Reasons

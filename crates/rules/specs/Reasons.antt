@@ -36,18 +36,16 @@ tookFrom a y = record { span = y .span; from = a; gave = y .gave; objecting = y 
 unfoldable pub gaveBack : ℕ → ℕ → Story → Story
 gaveBack id o y = record { span = y .span; from = y .from; gave = id; objecting = o }
 
--- "it takes the id of the first with the least source distance plus 2": the neighbour in direction d has that sum
-unfoldable pub gives : Net → Marks → ℕ → ℕ → Bool
-gives N m s d =
-    let a = near N s d in
-    eqb (areaOf N a) (areaOf N s) and plain (idOf m a) and eqb (getD (m .src) a 0 + 2) (takes N m s .far)
+-- "it takes the id of the first with the least source distance plus 2": the neighbour of entry s in direction d has the sum far
+unfoldable pub gives : Net → Marks → ℕ → ℕ → ℕ → Bool
+gives N m s far d = eqb (areaOf N (near N s d)) (areaOf N s) and plain (idOf m (near N s d)) and eqb (getD (m .src) (near N s d) 0 + 2) far
 
--- "for expansion the span whose id it took": the first of them
+-- "for expansion the span whose id it took": the first neighbour with the least sum
 unfoldable pub source : Net → Marks → ℕ → ℕ
 source N m s =
-    if gives N m s 0 then near N s 0 else
-    if gives N m s 1 then near N s 1 else
-    if gives N m s 2 then near N s 2 else near N s 3
+    if gives N m s (takes N m s .far) 0 then near N s 0 else
+    if gives N m s (takes N m s .far) 1 then near N s 1 else
+    if gives N m s (takes N m s .far) 2 then near N s 2 else near N s 3
 
 -- a round, in which the span takes an id if it stands in the stack, unused, and finds one
 unfoldable pub roundTells : Net → Spread → Story → Story

@@ -1,7 +1,7 @@
 -- What an expansion does to the watched span. Whose id it takes is read as the rule reads it; it stands among a round's changes exactly if the rule's
 -- round changes it (`change-queued`, `queued-change`); and what the rounds to come tell is what all of them tell. Assumes nothing.
 use mathlib.Core.Path.{_≡_, refl, sym, ap, _∙_}
-use mathlib.Core.Bool.{Bool, true, false, not, true≢false, false≢true}
+use mathlib.Core.Bool.{Bool, true, false, true≢false}
 use mathlib.Core.List.{List, map}
 use Prim.Native.Nat.{ℕ, zero, suc, _+_, _-_, _*_, _≤_, _<_}
 use native.Mathlib.Omega.{arith}
@@ -22,7 +22,7 @@ use Rattle.net.proofs.Tables.{area-none, near-at}
 use Rattle.flood.specs.Stack.{marksAt}
 use Rattle.expand.specs.Layout.{Sight, fresh, listAt}
 use Rattle.expand.specs.Front.{Queued, Board, Spans, Front, frontOf}
-use Rattle.expand.specs.Told.{Sought, RoundTold}
+use Rattle.expand.specs.Told.{Sought, sourceAt, Took, RoundTold}
 use Rattle.expand.proofs.Waves.{has, keep-in, keep-out, changes}
 use Rattle.expand.proofs.Fronts.{change-queued, queued-change}
 use Rattle.expand.proofs.Looks.{no₁, no₂, no₃, near-a, own-area, at-area, at-id, at-far}
@@ -76,24 +76,28 @@ module _ (table : ℕ) (ar ids ws : List ℕ) (s own d a far : ℕ) (v : Sight t
 pub side-is : (table : ℕ) (ar ids ws : List ℕ) (s : ℕ) → Sight table ar ids ws s → (d : ℕ) → d < 4 → (o : ℕ) → o ≡ getD ws (table + (4 * s + d)) 0 → o ≡ near (netAt table ar ws) s d
 side-is table ar ids ws s v d h o e = e ∙ sym (near-at table ar ws s d (v .room) (v .span) h)
 
-module _ (N : Net) (m : Marks) (s far : ℕ) (e : far ≡ takes N m s .far) (a : Bool) (ea : a ≡ gives N m s far 0) where
-  pub source-0 : a ≡ true → (o : ℕ) → o ≡ near N s 0 → o ≡ source N m s
-  unfolding source if_then_else_
-  source-0 y o eo = rw (← e, sym ea ∙ y) eo
+module _ (N : Net) (m : Marks) (s far : ℕ) (a : Bool) (ea : a ≡ gives N m s far 0) where
+  pub source-0 : a ≡ true → (o : ℕ) → o ≡ near N s 0 → o ≡ sourceAt N m s far
+  unfolding sourceAt if_then_else_
+  source-0 y o eo = rw (sym ea ∙ y) eo
 
   module _ (y : a ≡ false) (b : Bool) (eb : b ≡ gives N m s far 1) where
-    pub source-1 : b ≡ true → (o : ℕ) → o ≡ near N s 1 → o ≡ source N m s
-    unfolding source if_then_else_
-    source-1 z o eo = rw (← e, sym ea ∙ y, sym eb ∙ z) eo
+    pub source-1 : b ≡ true → (o : ℕ) → o ≡ near N s 1 → o ≡ sourceAt N m s far
+    unfolding sourceAt if_then_else_
+    source-1 z o eo = rw (sym ea ∙ y, sym eb ∙ z) eo
 
     module _ (z : b ≡ false) (c : Bool) (ec : c ≡ gives N m s far 2) where
-      pub source-2 : c ≡ true → (o : ℕ) → o ≡ near N s 2 → o ≡ source N m s
-      unfolding source if_then_else_
-      source-2 x o eo = rw (← e, sym ea ∙ y, sym eb ∙ z, sym ec ∙ x) eo
+      pub source-2 : c ≡ true → (o : ℕ) → o ≡ near N s 2 → o ≡ sourceAt N m s far
+      unfolding sourceAt if_then_else_
+      source-2 x o eo = rw (sym ea ∙ y, sym eb ∙ z, sym ec ∙ x) eo
 
-      pub source-3 : c ≡ false → (o : ℕ) → o ≡ near N s 3 → o ≡ source N m s
-      unfolding source if_then_else_
-      source-3 x o eo = rw (← e, sym ea ∙ y, sym eb ∙ z, sym ec ∙ x) eo
+      pub source-3 : c ≡ false → (o : ℕ) → o ≡ near N s 3 → o ≡ sourceAt N m s far
+      unfolding sourceAt if_then_else_
+      source-3 x o eo = rw (sym ea ∙ y, sym eb ∙ z, sym ec ∙ x) eo
+
+source-is : (N : Net) (m : Marks) (s far : ℕ) → far ≡ takes N m s .far → sourceAt N m s far ≡ source N m s
+unfolding sourceAt source
+source-is N m s far e = rw e
 
 -- ---------------------------------------------------------------- the queue
 
@@ -118,11 +122,16 @@ module _ (ws : List ℕ) (e lo hi s : ℕ) where
       ];
     }
 
-    pub seeking-found : i < hi → (x : ℕ) → x ≡ getD ws (e + 3 * i) 0 → x ≡ s → Sought ws e lo hi s true
-    seeking-found h x q z = record { yes = λ _. record { at = i; from = v .from; to = h; is = sym q ∙ z }; no = λ y. absurd (true≢false y) }
+    pub seeking-found : i < hi → (x : ℕ) → x ≡ getD ws (e + 3 * i) 0 → x ≡ s → Sought ws e lo hi s i
+    seeking-found h x q z = record { from = v .from; to = omega arith; found = λ _. sym q ∙ z; nowhere = λ l _. omega arith }
 
-    pub seeking-end : hi ≤ i → Sought ws e lo hi s false
-    seeking-end h = record { yes = λ y. absurd (false≢true y); no = λ _ q. v .not-yet (q .at) (q .from) (omega (arith, q .to)) (q .is) }
+    pub seeking-end : hi ≤ i → Sought ws e lo hi s hi
+    seeking-end h = record {
+      from = omega (arith, v .from, v .to);
+      to = omega arith;
+      found = λ l. absurd (omega arith);
+      nowhere = λ _ q. v .not-yet (q .at) (q .from) (omega (arith, q .to)) (q .is);
+    }
 
 -- what is queued is a span
 pub queued-span : (ws : List ℕ) (n e lo hi s : ℕ) → Spans n e lo hi ws → Queued ws e lo hi s → s < n
@@ -133,14 +142,24 @@ module _ (N : Net) (m : Marks) (ws : List ℕ) (n e lo hi : ℕ) (y : Story) (v 
   pub told-none : n ≤ mostSpans → y .span ≡ 65535 → RoundTold N m ws e lo hi y y
   told-none h z = record { took = λ q. absurd (let l = queued-span ws n e lo hi (y .span) v q in omega arith); still = λ _. refl }
 
-  module _ (r : Bool) (k : Sought ws e lo hi (y .span) r) where
-    pub told-took : r ≡ true → (o : ℕ) → o ≡ source N m (y .span)
+  module _ (i : ℕ) (k : Sought ws e lo hi (y .span) i) where
+    pub told-still : i ≡ hi → RoundTold N m ws e lo hi y y
+    told-still z = record { took = λ q. absurd (k .nowhere (omega arith) q); still = λ _. refl }
+
+    -- the change that was found is the watched span's
+    sought-in : (i ≡ hi → ⊥) → i < hi
+    sought-in z = omega (arith, k .to)
+
+    pub sought-span : (i ≡ hi → ⊥) → y .span < n
+    sought-span z = rw (k .found (sought-in z)) at (v .span i (k .from) (sought-in z))
+
+    pub told-took : (i ≡ hi → ⊥) → (far : ℕ) → far ≡ getD ws (e + 3 * i + 2) 0 → (o : ℕ) → o ≡ sourceAt N m (y .span) far
         → RoundTold N m ws e lo hi y (record { span = y .span; from = o; gave = y .gave; objecting = y .objecting })
     unfolding tookFrom
-    told-took z o eo = record { took = λ _. rw eo refl; still = λ f. absurd (f (k .yes z)) }
-
-    pub told-still : r ≡ false → RoundTold N m ws e lo hi y y
-    told-still z = record { took = λ q. absurd (k .no z q); still = λ _. refl }
+    told-took z far ef o eo = record {
+      took = λ _. record { at = i; from = k .from; to = sought-in z; is = k .found (sought-in z); told = rw (← ef, ← eo) refl };
+      still = λ f. absurd (f (record { at = i; from = k .from; to = sought-in z; is = k .found (sought-in z) }));
+    }
 
 pub told-sight : (b : ℕ) (ar ids ws : List ℕ) (e k s : ℕ) → Closed (netAt b ar ws) → Board (length ar) e b k ids ws → s < length ar → Sight b ar ids ws s
 told-sight b ar ids ws e k s c v h = record { closed = c; room = v .room; close = v .close; idents = v .idents; low = omega (arith, v .low, v .past); span = h }
@@ -167,7 +186,11 @@ front-told N n a e fill ids ws lo hi v o room few y y′ r =
     let p = finds N (marksAt n ids ws) in
     let l = map (fresh ids) (listAt ws a fill) in
     if-ind (λ (x : Story). y′ ≡ x) (has s l and p s)
-    (λ z. let c = both (has s l) (p s) z in r .took (change-queued N n a e fill ids ws lo hi v o room few s (in-changes N n a fill ids ws s (c .0) (c .1)) .1))
+    (λ z.
+    let c = both (has s l) (p s) z in
+    let t = r .took (change-queued N n a e fill ids ws lo hi v o room few s (in-changes N n a fill ids ws s (c .0) (c .1)) .1) in
+    let f : getD ws (e + 3 * t .at + 2) 0 ≡ takes N (marksAt n ids ws) s .far = rw (t .is) at (v .right (t .at) (t .from) (t .to) .far-is) in
+    t .told ∙ ap (λ (x : ℕ). tookFrom x y) (source-is N (marksAt n ids ws) s (getD ws (e + 3 * t .at + 2) 0) f))
     (λ z. r .still (λ q. let k = of-changes N n a fill ids ws s (queued-change N n a e fill ids ws lo hi v o room few s q) in true≢false (sym (and-both (has s l) (p s) (k .0) (k .1)) ∙ z)))
 
 module _ (N : Net) (k : ℕ) (p : Spread) (y : Story) where

@@ -9,10 +9,11 @@ ghost use Prim.Native.Nat.{_+_, _<_, _≤_};
 ghost use lib.ListN.{length, getD};
 ghost use Rattle.rules.specs.Base.{_or_};
 ghost use Rattle.rules.specs.Growth.{look, takes, exceeds, strays};
-ghost use Rattle.rules.specs.Reasons.{gives, source};
+ghost use Rattle.rules.specs.Reasons.{gives};
 ghost use Rattle.net.specs.Table.{netAt};
 ghost use Rattle.flood.specs.Stack.{marksAt};
 ghost use Rattle.expand.specs.Layout.{takenOf, Sight};
+ghost use Rattle.expand.specs.Told.{sourceAt};
 
 // An id, and the source distance that goes with it; and whether a sum exceeded what a source distance can be.
 pub struct Taken {
@@ -155,15 +156,21 @@ fn gives(
     false
 }
 
-// The span whose id entry span takes: the first of those with the least sum.
-pub(crate) fn source(area: &[u8], ids: &[u16], ws: &[u16], table: usize, span: SpanIx) -> usize
+// The first neighbour of entry span with the sum far.
+pub(crate) fn source(
+    area: &[u8],
+    ids: &[u16],
+    ws: &[u16],
+    table: usize,
+    span: SpanIx,
+    far: usize,
+) -> usize
     requires { ⌜ Sight table (now area) (now ids) (now ws) (span .0) ⌝ }
     ensures { λ r. ⌜ (let net = netAt table (now (area .entry)) (now (ws .entry)) in
         let marks = marksAt (length (now (area .entry))) (now (ids .entry)) (now (ws .entry)) in
-        r ≡ source net marks (span .0)) ⌝ }
+        r ≡ sourceAt net marks (span .0) far) ⌝ }
 {
     let own = at8(area, span.0);
-    let far = takes(area, ids, ws, table, span, false).far as usize;
     if gives(area, ids, ws, table, span, own, 0, far) {
         return neighbour(ws, table, span, 0).0;
     }

@@ -14,19 +14,19 @@ ghost use Rattle.flood.specs.Stories.{storyOf};
 ghost use Rattle.expand.specs.Front.{Board, Spans};
 ghost use Rattle.expand.specs.Told.{Sought, RoundTold};
 
-// Does span s stand among the changes lo .. hi?
-fn queued(ws: &[u16], changes: usize, lo: usize, hi: usize, s: usize) -> bool
+// Which of the changes lo .. hi is span s's, hi for none.
+fn queued(ws: &[u16], changes: usize, lo: usize, hi: usize, s: usize) -> usize
     requires { ⌜ (lo ≤ hi) × (hi ≤ mostSpans) × (changes ≤ lastPlace) × (changes + 3 * hi ≤ length (now ws)) ⌝ }
     ensures { λ r. ⌜ Sought (now (ws .entry)) changes lo hi s r ⌝ }
 {
     let mut i = lo;
     while i < hi {
         if at16(ws, changes + 3 * i) == s {
-            return true;
+            return i;
         }
         i += 1;
     }
-    false
+    hi
 }
 
 // The changes lo .. hi are those of the round: the watched span takes an id if it stands among them.
@@ -49,13 +49,15 @@ pub(crate) fn tell_round(
     if s == NO_SPAN {
         return story;
     }
-    if queued(ws, at.changes, lo, hi, s) {
-        return Story {
-            span: s,
-            from: source(area, ids, ws, at.table, SpanIx(s)),
-            gave: story.gave,
-            objecting: story.objecting,
-        };
+    let i = queued(ws, at.changes, lo, hi, s);
+    if i == hi {
+        return story;
     }
-    story
+    let far = at16(ws, at.changes + 3 * i + 2);
+    Story {
+        span: s,
+        from: source(area, ids, ws, at.table, SpanIx(s), far),
+        gave: story.gave,
+        objecting: story.objecting,
+    }
 }

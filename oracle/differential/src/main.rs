@@ -23,6 +23,7 @@ struct Order {
     program: PathBuf,
     small: u64,
     large: u64,
+    full: u64,
     edited: u64,
     edges: u64,
     doors: u64,
@@ -52,6 +53,10 @@ fn run() -> Result<bool, String> {
     if large.fields > 0 {
         print!("calls on large fields by kind, and their answers:\n{large}");
     }
+    let full = large::compare_full(seed, order.full);
+    if full.fields > 0 {
+        print!("calls on fields of more than 32,000 spans by kind, and their answers:\n{full}");
+    }
     let winding = if order.large > 0 {
         winding::compare()
     } else {
@@ -77,7 +82,7 @@ fn run() -> Result<bool, String> {
     if doors.fields > 0 {
         print!("refreshes by kind, and their answers:\n{doors}");
     }
-    if [&small, &large, &winding, &stops, &edited, &files, &doors]
+    if [&small, &large, &full, &winding, &stops, &edited, &files, &doors]
         .iter()
         .any(|tally| tally.is_enough())
     {
@@ -85,6 +90,7 @@ fn run() -> Result<bool, String> {
     }
     let differences = small.differences
         + large.differences
+        + full.differences
         + winding.differences
         + stops.differences
         + edited.differences
@@ -93,7 +99,7 @@ fn run() -> Result<bool, String> {
     println!(
         "compared {} small, {} large, {} edited fields, {} files mended, {} fields with doors: {differences} differences",
         small.fields,
-        large.fields + winding.fields + stops.fields,
+        large.fields + full.fields + winding.fields + stops.fields,
         edited.fields,
         files.fields,
         doors.fields
@@ -109,6 +115,7 @@ fn order() -> Result<Order, String> {
         program: program.into(),
         small: 20_000,
         large: 38,
+        full: 0,
         edited: 7_000,
         edges: 2,
         doors: 3_000,
@@ -124,6 +131,7 @@ fn order() -> Result<Order, String> {
         match option.as_str() {
             "--small" => order.small = number,
             "--large" => order.large = number,
+            "--full" => order.full = number,
             "--edited" => order.edited = number,
             "--edges" => order.edges = number,
             "--doors" => order.doors = number,

@@ -47,8 +47,8 @@ fn main() {
             };
             let case = read_level(path);
             match who {
-                "gussetraft" => compare(path, &run::gussetraft(&case, entries, mark)),
-                "rust" => compare(path, &run::rust(&case, entries, mark)),
+                "gussetraft" => compare(path, "dense", &run::gussetraft(&case, entries, mark)),
+                "rust" => compare(path, "answer", &run::rust(&case, entries, mark)),
                 "checker" => run::checker(&case, entries, mark),
                 _ => panic!("{USAGE}"),
             }

@@ -137,6 +137,10 @@ module _ (ws : List ℕ) (e lo hi s : ℕ) where
 pub queued-span : (ws : List ℕ) (n e lo hi s : ℕ) → Spans n e lo hi ws → Queued ws e lo hi s → s < n
 queued-span ws n e lo hi s v q = rw (q .is) at (v .span (q .at) (q .from) (q .to))
 
+-- and so is what was sought and found
+pub sought-span : (ws : List ℕ) (n e lo hi s i : ℕ) → Spans n e lo hi ws → Sought ws e lo hi s i → (i ≡ hi → ⊥) → s < n
+sought-span ws n e lo hi s i v k z = let h : i < hi = omega (arith, k .to) in rw (k .found h) at (v .span i (k .from) h)
+
 module _ (N : Net) (m : Marks) (ws : List ℕ) (n e lo hi : ℕ) (y : Story) (v : Spans n e lo hi ws) where
   -- a build that watches no span
   pub told-none : n ≤ mostSpans → y .span ≡ 65535 → RoundTold N m ws e lo hi y y
@@ -149,9 +153,6 @@ module _ (N : Net) (m : Marks) (ws : List ℕ) (n e lo hi : ℕ) (y : Story) (v 
     -- the change that was found is the watched span's
     sought-in : (i ≡ hi → ⊥) → i < hi
     sought-in z = omega (arith, k .to)
-
-    pub sought-span : (i ≡ hi → ⊥) → y .span < n
-    sought-span z = rw (k .found (sought-in z)) at (v .span i (k .from) (sought-in z))
 
     pub told-took : (i ≡ hi → ⊥) → (far : ℕ) → far ≡ getD ws (e + 3 * i + 2) 0 → (o : ℕ) → o ≡ sourceAt N m (y .span) far
         → RoundTold N m ws e lo hi y (record { span = y .span; from = o; gave = y .gave; objecting = y .objecting })

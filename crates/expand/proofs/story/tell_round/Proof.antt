@@ -41,7 +41,7 @@ source-requires : tie.Need-source-requires
 source-requires c κs =
     let q = Q c in
     let s = S q in
-    told-sight _ _ _ _ _ _ _ (s .pre .0 .0) (s .pre .0 .1) (sought-span _ _ _ _ _ _ _ (storyOf (s .args .story)) (s .pre .1) _ (q .queued .ensures) (c .before .before .if2 .left))
+    told-sight _ _ _ _ _ _ _ (s .pre .0 .0) (s .pre .0 .1) (sought-span _ _ _ _ _ _ _ (s .pre .1) (q .queued .ensures) (c .before .before .if2 .left))
 
 returns-3 : tie.Need-returns-3
 returns-3 c =

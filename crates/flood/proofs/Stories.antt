@@ -22,7 +22,9 @@ use Rattle.space.specs.Space.{stackAt}
 use Rattle.rules.specs.Refusals.{mostSpans}
 use Rattle.space.proofs.Laws.{stackAt-pop, length-sec}
 use Rattle.flood.specs.declared.flow.Height.{Height}
+use Rattle.flood.specs.Looks.{seesFrom}
 use Rattle.flood.specs.Stack.{marksAt, flowAt, Placed, Blank, Flooding, Kept, Begins}
+use Rattle.flood.proofs.Sight.{objects-from}
 use Rattle.flood.proofs.Floods.{first, begun, start-flow, Running, running-start, running-falls, running-on}
 
 -- ---------------------------------------------------------------- the objecting span
@@ -91,14 +93,14 @@ module _ (N : Net) (m : Marks) (q : Seed) (c : ℕ) (y : Story) where
   unfolding visitTells if_then_else_ _and_
   visit-other h = rw (ne-eqb c (y .span) h)
 
-  pub visit-calm : (r : Bool) → r ≡ objects N m q c → r ≡ false → y ≡ visitTells N m q c y
+  pub visit-calm : (l : ℕ) → l ≡ seesFrom N m q c 4 0 → (l ≡ 2 → ⊥) → y ≡ visitTells N m q c y
   unfolding visitTells if_then_else_ _and_
-  visit-calm r e z = rw (sym e ∙ z, and-no (eqb c (y .span)))
+  visit-calm l e z = rw (objects-from N m q c, sym (at-no (seesFrom N m q c 4 0) l e z), and-no (eqb c (y .span)))
 
-pub visit-back : (N : Net) (m : Marks) (q : Seed) (y : Story) (r : Bool) → r ≡ objects N m q (y .span) → r ≡ true → (o : ℕ) → o ≡ objecting N m q (y .span)
+pub visit-back : (N : Net) (m : Marks) (q : Seed) (y : Story) (l : ℕ) → l ≡ seesFrom N m q (y .span) 4 0 → l ≡ 2 → (o : ℕ) → o ≡ objecting N m q (y .span)
     → record { span = y .span; from = y .from; gave = q .id; objecting = o } ≡ visitTells N m q (y .span) y
 unfolding visitTells gaveBack if_then_else_ _and_
-visit-back N m q y r e z o eo = rw (eq-eqb (y .span) (y .span) refl, sym e ∙ z, ← eo)
+visit-back N m q y l e z o eo = rw (eq-eqb (y .span) (y .span) refl, objects-from N m q (y .span), sym (at-yes (seesFrom N m q (y .span) 4 0) l e z), ← eo)
 
 -- the span on top is the one that is watched
 pub visit-own : (N : Net) (m : Marks) (q : Seed) (c : ℕ) (y y′ : Story) → c ≡ y .span → y′ ≡ visitTells N m q (y .span) y → y′ ≡ visitTells N m q c y

@@ -22,7 +22,7 @@ pub struct Seed {
 }
 
 // What a span sees in one direction: nothing, the end of the looking, or an objection.
-const NOTHING: u8 = 0;
+pub(crate) const NOTHING: u8 = 0;
 
 const THE_END: u8 = 1;
 

@@ -1,8 +1,8 @@
 // What growth does to one span, noted as it goes: "Why has this span no room?"
 use crate::flow::Height;
+use crate::look::NOTHING;
 use crate::look::OBJECTION;
 use crate::look::Seed;
-use crate::look::objects;
 use crate::look::other;
 use crate::look::sees;
 use field::place::NO_SPAN;
@@ -18,7 +18,7 @@ ghost use lib.Dec.{eqb};
 ghost use Rattle.rules.specs.Growth.{sees};
 ghost use Rattle.rules.specs.Reasons.{begins, objector, objecting, visitTells};
 ghost use Rattle.net.specs.Table.{netAt, Lent, AtSpan};
-ghost use Rattle.flood.specs.Looks.{seedOf};
+ghost use Rattle.flood.specs.Looks.{seedOf, seesFrom};
 ghost use Rattle.flood.specs.Stack.{marksAt, Placed, Flooding};
 ghost use Rattle.flood.specs.Stories.{storyOf};
 
@@ -119,6 +119,33 @@ fn objecting(
     objector(area, ids, ws, table, cons, span, 3, seed)
 }
 
+// What a span that has the connections cons sees first, in direction order. Not `objects`: with a second caller it would be called, not inlined, at each
+// visit of each flood.
+fn first_sight(
+    area: &[u8],
+    ids: &[u16],
+    ws: &[u16],
+    table: usize,
+    cons: [u8; 4],
+    span: SpanIx,
+    seed: Seed,
+) -> u8
+    requires { ⌜ AtSpan table (now area) (now ws) cons (span .0) × (length (now ids) ≡ length (now area)) × (seed .area < 256) ⌝ }
+    ensures { λ r. ⌜ (let net = netAt table (now (area .entry)) (now (ws .entry)) in
+        let marks = marksAt (length (now (area .entry))) (now (ids .entry)) (now (ws .entry)) in
+        r ≡ seesFrom net marks (seedOf seed) (span .0) 4 0) ⌝ }
+{
+    let mut d = 0;
+    while d < 4 {
+        let look = sees(area, ids, ws, table, cons, span, d, seed);
+        if look != NOTHING {
+            return look;
+        }
+        d += 1;
+    }
+    NOTHING
+}
+
 // The watched span, popped next, objects: the flood gives it back.
 fn give_back(
     area: &[u8],
@@ -136,7 +163,7 @@ fn give_back(
 {
     let s = story.span;
     let cons = connections(con, SpanIx(s));
-    if objects(area, ids, ws, table, cons, SpanIx(s), seed) {
+    if first_sight(area, ids, ws, table, cons, SpanIx(s), seed) == OBJECTION {
         return Story {
             span: s,
             from: story.from,

@@ -3,5 +3,6 @@
 pub mod door;
 pub mod level;
 pub mod measured;
+pub mod rooms;
 pub mod run;
 pub mod timed;

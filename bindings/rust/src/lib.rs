@@ -49,7 +49,11 @@
 
 #![no_std]
 
+mod load;
+pub mod results;
 mod sys;
+
+pub use load::{Lists, LoadRefusal, Loaded, Loader};
 
 use core::fmt;
 
@@ -129,12 +133,21 @@ pub enum Refusal {
     TooShort = 7,
     /// 8: the greatest distance is above 510, or a distance is above the greatest.
     TooFar = 8,
+    /// 9: the scale is 0 or above 256.
+    WrongScale = 9,
+    /// 10: the ids are not one a span, or one is above the greatest and not flagged.
+    WrongIds = 10,
     /// 11: the rectangle is empty or not in the field.
     WrongRect = 11,
-    /// 12: ids run out: a successful flood would make the next id 0x8000. Never with at most 32,000 spans.
+    /// 12: ids run out: a successful flood would make the next id 0x8000, or there are more than 32,767 plain rooms. Never with
+    /// at most 32,000 spans.
     NoIds = 12,
     /// 13: a source distance in expansion would exceed 65,535. Never with at most 32,000 spans.
     NoSum = 13,
+    /// 20: the file is malformed: unknown kind, a record out of place, cut short, or bytes after the end.
+    Malformed = 20,
+    /// 21: the file's field has more cells or spans than the loader takes.
+    TooLarge = 21,
     /// 27: there are more changes than places in their list.
     NoRoom = 27,
     /// 31: a stored pass 1 or raw value is above 510.
@@ -143,7 +156,7 @@ pub enum Refusal {
 
 impl Refusal {
     /// Every refusal, in the order of the numbers.
-    pub const ALL: [Self; 13] = [
+    pub const ALL: [Self; 17] = [
         Self::TooWide,
         Self::TooMany,
         Self::WrongLength,
@@ -152,14 +165,18 @@ impl Refusal {
         Self::WrongBack,
         Self::TooShort,
         Self::TooFar,
+        Self::WrongScale,
+        Self::WrongIds,
         Self::WrongRect,
         Self::NoIds,
         Self::NoSum,
+        Self::Malformed,
+        Self::TooLarge,
         Self::NoRoom,
         Self::WrongStored,
     ];
 
-    /// The number, 1 to 8, 11 to 13, 27 or 31.
+    /// The number, 1 to 13, 20, 21, 27 or 31.
     pub const fn number(self) -> u16 {
         self as u16
     }
@@ -167,10 +184,9 @@ impl Refusal {
     /// The refusal of a number.
     pub const fn from_number(number: u16) -> Option<Self> {
         match number {
-            1..=8 => Some(Self::ALL[number as usize - 1]),
-            11 => Some(Self::WrongRect),
-            12 => Some(Self::NoIds),
-            13 => Some(Self::NoSum),
+            1..=13 => Some(Self::ALL[number as usize - 1]),
+            20 => Some(Self::Malformed),
+            21 => Some(Self::TooLarge),
             27 => Some(Self::NoRoom),
             31 => Some(Self::WrongStored),
             _ => None,
@@ -192,9 +208,17 @@ impl Refusal {
             Self::TooFar => {
                 "the greatest distance is above 510, or a distance is above the greatest"
             }
+            Self::WrongScale => "the scale is 0 or above 256",
+            Self::WrongIds => {
+                "the ids are not one a span, or one is above the greatest and not flagged"
+            }
             Self::WrongRect => "the rectangle is empty or not in the field",
-            Self::NoIds => "ids run out: a successful flood would make the next id 0x8000",
+            Self::NoIds => "ids run out: the next would be 0x8000",
             Self::NoSum => "a source distance in expansion would exceed 65,535",
+            Self::Malformed => {
+                "the file is malformed: unknown kind, a record out of place, cut short, or bytes after the end"
+            }
+            Self::TooLarge => "the file's field has more cells or spans than the loader takes",
             Self::WrongStored => "a stored pass 1 or raw value is above 510",
             Self::NoRoom => "there are more changes than places in their list",
         }
@@ -462,5 +486,105 @@ pub fn refresh_distance_field(
         pass1_rows: a..=b,
         pass2_rows: c..=d,
         blur_rows: e..=f,
+    })
+}
+
+/// Plain rooms, with no watershed: one id for each set of walkable spans of one area that connections join. Gives the number of
+/// rooms, which is the greatest id of one.
+///
+/// Rooms are numbered from 1 in the order of their first spans. The border is painted as [`build_regions`] paints it, and
+/// painted spans join nothing. Two walkable spans of one area that are not painted have the same id exactly if a chain of such
+/// spans joins them; a span that is not walkable has id 0. The workspace is that of [`build_regions`].
+///
+/// ```
+/// use gussetraft::{build_rooms, workspace_len, Field, Refusal, NO_CONNECTION};
+///
+/// // Six cells in a row, all joined; the third is a wall, and the last two are another area.
+/// let mut con = [NO_CONNECTION; 24];
+/// for x in 0..5 {
+///     con[4 * x + 2] = 0;
+///     con[4 * (x + 1)] = 0;
+/// }
+/// let area = [1, 1, 0, 1, 2, 2];
+/// let field = Field { w: 6, h: 1, index: &[0, 1, 2, 3, 4, 5], count: &[1; 6], area: &area, con: &con };
+/// let (mut workspace, mut ids) = (vec![0; workspace_len(6)], [0; 6]);
+/// let rooms = build_rooms(&field, 0, &mut workspace, &mut ids)?;
+/// assert_eq!(ids, [1, 1, 0, 2, 3, 3]);
+/// assert_eq!(rooms, 3);
+/// # Ok::<(), Refusal>(())
+/// ```
+///
+/// # Errors
+///
+/// Refusals 1 to 7. The workspace and the ids then hold what they held before. And 12 where there are more than 32,767 rooms:
+/// the ids then hold what they held before, the workspace zeros.
+pub fn build_rooms(
+    field: &Field<'_>,
+    border_size: u16,
+    workspace: &mut [u16],
+    ids: &mut [u16],
+) -> Result<u16, Refusal> {
+    let answer = sys::rooms(field, border_size, workspace, ids);
+    accepted(answer.refusal)?;
+    Ok(answer.max_region)
+}
+
+/// The size record of a room, in metres; each value is exact.
+#[derive(Debug, Clone, Copy, Default, PartialEq)]
+pub struct Room {
+    /// The floor size in square metres: count·k·k/4096.
+    pub floor: f64,
+    /// The left edge: the least column times k/64.
+    pub x_least: f64,
+    /// The right edge: the greatest column and 1, times k/64.
+    pub x_past: f64,
+    /// The low edge: the least row times k/64.
+    pub z_least: f64,
+    /// The high edge: the greatest row and 1, times k/64.
+    pub z_past: f64,
+    /// The area code of its first span.
+    pub area: u16,
+    /// How many spans it has.
+    pub count: u16,
+}
+
+/// The size of one room of a finished result, with cells of side k/64 metre.
+///
+/// `ids` and `max_region` are those that [`build_regions`] or [`build_rooms`] gives, or any others. An id that is flagged, has no
+/// spans or is not from 1 to `max_region` has a record of zeros.
+///
+/// ```
+/// use gussetraft::{measure_room, Field, Refusal, Room, NO_CONNECTION};
+///
+/// // Three cells in a row, of half a metre; the last two are room 1.
+/// let con = [NO_CONNECTION, NO_CONNECTION, 0, NO_CONNECTION, 0, NO_CONNECTION, 0, NO_CONNECTION, 0, 255, 255, 255];
+/// let field = Field { w: 3, h: 1, index: &[0, 1, 2], count: &[1; 3], area: &[0, 4, 4], con: &con };
+/// let room = measure_room(&field, &[0, 1, 1], 1, 32, 1)?;
+/// assert_eq!(room, Room { floor: 0.5, x_least: 0.5, x_past: 1.5, z_least: 0.0, z_past: 0.5, area: 4, count: 2 });
+/// assert_eq!(measure_room(&field, &[0, 1, 1], 1, 32, 2)?, Room::default());
+/// # Ok::<(), Refusal>(())
+/// ```
+///
+/// # Errors
+///
+/// Refusals 1 to 6, 9 (k 0 or above 256) and 10 (ids that are not one a span, or one above `max_region` and not flagged).
+pub fn measure_room(
+    field: &Field<'_>,
+    ids: &[u16],
+    max_region: u16,
+    k: u16,
+    id: u16,
+) -> Result<Room, Refusal> {
+    let (sizes, [refusal, area, count]) = sys::measure(field, ids, [max_region, k, id]);
+    accepted(refusal)?;
+    let [floor, x_least, x_past, z_least, z_past] = sizes;
+    Ok(Room {
+        floor,
+        x_least,
+        x_past,
+        z_least,
+        z_past,
+        area,
+        count,
     })
 }

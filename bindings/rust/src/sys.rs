@@ -22,7 +22,86 @@ pub struct MendAnswer {
     pub count: u32,
 }
 
+#[repr(C)]
+pub struct RoomAnswer {
+    pub refusal: u16,
+    pub max_region: u16,
+}
+
+#[repr(C)]
+pub struct LoadAnswer {
+    pub refusal: u32,
+    pub position: u32,
+}
+
+/// How many numbers a loader has.
+pub const LOADER_LEN: usize = 17;
+
 extern "C" {
+    fn gussetraft_measure_room_into(
+        w: u16,
+        h: u16,
+        index: *const u32,
+        index_len: usize,
+        count: *const u8,
+        count_len: usize,
+        area: *const u8,
+        area_len: usize,
+        con: *const u8,
+        con_len: usize,
+        ids: *const u16,
+        ids_len: usize,
+        max_region: u16,
+        k: u16,
+        id: u16,
+        sizes: *mut f64,
+        sizes_len: usize,
+        numbers: *mut u16,
+        numbers_len: usize,
+    ) -> u16;
+
+    fn gussetraft_build_rooms(
+        w: u16,
+        h: u16,
+        index: *const u32,
+        index_len: usize,
+        count: *const u8,
+        count_len: usize,
+        area: *const u8,
+        area_len: usize,
+        con: *const u8,
+        con_len: usize,
+        border_size: u16,
+        workspace: *mut u16,
+        workspace_len: usize,
+        ids: *mut u16,
+        ids_len: usize,
+    ) -> RoomAnswer;
+
+    fn gussetraft_load_begin_into(
+        most_cells: u32,
+        most_spans: u32,
+        loader: *mut u32,
+        loader_len: usize,
+    ) -> LoadAnswer;
+
+    fn gussetraft_load_piece_into(
+        piece: *const u8,
+        piece_len: usize,
+        index: *mut u32,
+        index_len: usize,
+        count: *mut u8,
+        count_len: usize,
+        area: *mut u8,
+        area_len: usize,
+        con: *mut u8,
+        con_len: usize,
+        loader: *mut u32,
+        loader_len: usize,
+    ) -> LoadAnswer;
+
+    fn gussetraft_load_end_into(loader: *mut u32, loader_len: usize) -> LoadAnswer;
+
     fn gussetraft_build_distance_field(
         w: u16,
         h: u16,
@@ -326,6 +405,204 @@ pub fn refresh(
             raw.len(),
             blurred.as_mut_ptr(),
             blurred.len(),
+            answer.as_mut_ptr(),
+            answer.len(),
+        );
+    }
+    answer
+}
+
+pub fn rooms(
+    field: &Field<'_>,
+    border_size: u16,
+    workspace: &mut [u16],
+    ids: &mut [u16],
+) -> RoomAnswer {
+    // SAFETY: as above.
+    unsafe {
+        gussetraft_build_rooms(
+            field.w,
+            field.h,
+            field.index.as_ptr(),
+            field.index.len(),
+            field.count.as_ptr(),
+            field.count.len(),
+            field.area.as_ptr(),
+            field.area.len(),
+            field.con.as_ptr(),
+            field.con.len(),
+            border_size,
+            workspace.as_mut_ptr(),
+            workspace.len(),
+            ids.as_mut_ptr(),
+            ids.len(),
+        )
+    }
+}
+
+pub fn load_begin(most_cells: u32, most_spans: u32, loader: &mut [u32; LOADER_LEN]) -> LoadAnswer {
+    // SAFETY: as above.
+    unsafe { gussetraft_load_begin_into(most_cells, most_spans, loader.as_mut_ptr(), loader.len()) }
+}
+
+pub fn load_piece(
+    piece: &[u8],
+    index: &mut [u32],
+    count: &mut [u8],
+    area: &mut [u8],
+    con: &mut [u8],
+    loader: &mut [u32; LOADER_LEN],
+) -> LoadAnswer {
+    // SAFETY: as above.
+    unsafe {
+        gussetraft_load_piece_into(
+            piece.as_ptr(),
+            piece.len(),
+            index.as_mut_ptr(),
+            index.len(),
+            count.as_mut_ptr(),
+            count.len(),
+            area.as_mut_ptr(),
+            area.len(),
+            con.as_mut_ptr(),
+            con.len(),
+            loader.as_mut_ptr(),
+            loader.len(),
+        )
+    }
+}
+
+pub fn load_end(loader: &mut [u32; LOADER_LEN]) -> LoadAnswer {
+    // SAFETY: as above.
+    unsafe { gussetraft_load_end_into(loader.as_mut_ptr(), loader.len()) }
+}
+
+extern "C" {
+    fn gussetraft_pack_into(
+        file: *const u8,
+        file_len: usize,
+        out: *mut u8,
+        out_len: usize,
+        answer: *mut u64,
+        answer_len: usize,
+    ) -> u32;
+
+    fn gussetraft_unpack_into(
+        file: *const u8,
+        file_len: usize,
+        out: *mut u8,
+        out_len: usize,
+        answer: *mut u64,
+        answer_len: usize,
+    ) -> u32;
+}
+
+pub fn pack(file: &[u8], out: &mut [u8]) -> [u64; 2] {
+    let mut answer = [0; 2];
+    // SAFETY: as above.
+    unsafe {
+        gussetraft_pack_into(
+            file.as_ptr(),
+            file.len(),
+            out.as_mut_ptr(),
+            out.len(),
+            answer.as_mut_ptr(),
+            answer.len(),
+        );
+    }
+    answer
+}
+
+pub fn unpack(file: &[u8], out: &mut [u8]) -> [u64; 2] {
+    let mut answer = [0; 2];
+    // SAFETY: as above.
+    unsafe {
+        gussetraft_unpack_into(
+            file.as_ptr(),
+            file.len(),
+            out.as_mut_ptr(),
+            out.len(),
+            answer.as_mut_ptr(),
+            answer.len(),
+        );
+    }
+    answer
+}
+
+pub fn measure(
+    field: &Field<'_>,
+    ids: &[u16],
+    [max_region, k, id]: [u16; 3],
+) -> ([f64; 5], [u16; 3]) {
+    let (mut sizes, mut numbers) = ([0.0; 5], [0; 3]);
+    // SAFETY: as above.
+    unsafe {
+        gussetraft_measure_room_into(
+            field.w,
+            field.h,
+            field.index.as_ptr(),
+            field.index.len(),
+            field.count.as_ptr(),
+            field.count.len(),
+            field.area.as_ptr(),
+            field.area.len(),
+            field.con.as_ptr(),
+            field.con.len(),
+            ids.as_ptr(),
+            ids.len(),
+            max_region,
+            k,
+            id,
+            sizes.as_mut_ptr(),
+            sizes.len(),
+            numbers.as_mut_ptr(),
+            numbers.len(),
+        );
+    }
+    (sizes, numbers)
+}
+
+extern "C" {
+    fn gussetraft_id_at_into(
+        file: *const u8,
+        file_len: usize,
+        span: u32,
+        answer: *mut u32,
+        answer_len: usize,
+    ) -> u32;
+
+    fn gussetraft_id_at_whole_into(
+        file: *const u8,
+        file_len: usize,
+        span: u32,
+        answer: *mut u32,
+        answer_len: usize,
+    ) -> u32;
+}
+
+pub fn id_at(file: &[u8], span: u32) -> [u32; 3] {
+    let mut answer = [0; 3];
+    // SAFETY: as above.
+    unsafe {
+        gussetraft_id_at_into(
+            file.as_ptr(),
+            file.len(),
+            span,
+            answer.as_mut_ptr(),
+            answer.len(),
+        );
+    }
+    answer
+}
+
+pub fn id_at_whole(file: &[u8], span: u32) -> [u32; 3] {
+    let mut answer = [0; 3];
+    // SAFETY: as above.
+    unsafe {
+        gussetraft_id_at_whole_into(
+            file.as_ptr(),
+            file.len(),
+            span,
             answer.as_mut_ptr(),
             answer.len(),
         );

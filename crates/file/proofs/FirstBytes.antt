@@ -14,6 +14,7 @@ use Rattle.rules.specs.Field.{Field}
 use Rattle.rules.specs.Outcomes.{Sizes}
 use Rattle.rules.specs.File.{withSpan, withCell, word, readOn, readFile, emptyField}
 use Rattle.rules.specs.Listing.{printed}
+use Rattle.rules.specs.Load.{readOnAt, readFileAt}
 use Rattle.laws.proofs.Basics.{drop-take}
 use Rattle.laws.proofs.FileEnds.{reading-fuel}
 
@@ -80,3 +81,74 @@ first-file (kind ∷ rest) (suc m) h =
 pub first-bytes-decide : (bytes : List ℕ) (m : ℕ) → 3261 ≤ m → printed (take m bytes) ≡ printed bytes
 unfolding printed
 first-bytes-decide bytes m h = rw (first-file bytes m h) refl
+
+-- ---------------------------------------------------------------- the place
+
+-- the same of the reading with its place; a record cut short has fewer bytes than are looked at
+place-on : (k p cells due promised : ℕ) (bytes : List ℕ) (m : ℕ) (F : Field) (z : Sizes) → promised ≤ 200 → 2 * cells + 6 * (due + (200 - promised)) + 2 ≤ m
+    → readOnAt 200 k p cells due promised (take m bytes) F z ≡ readOnAt 200 k p cells due promised bytes F z
+unfolding readOnAt if_then_else_
+place-on zero p cells due promised bytes m F z q h = refl
+place-on (suc k) p cells due promised bytes zero F z q h = absurd (omega arith)
+place-on (suc k) p cells due promised [] (suc m) F z q h = refl
+place-on (suc k) p cells (suc due) promised (kind ∷ rest) (suc m) F z q h =
+    let on = place-on k (p + 6) cells due promised (drop 5 rest) (m - 5) (withSpan (take 5 rest) F) z q (omega arith) in
+    elim (decLt (length rest) 5) [
+      | yes g ↦ rw (take-all m rest (omega arith)) refl
+      | no g ↦ rw (leb-take 5 m rest (omega arith), le-leb 5 (length rest) (omega arith), drop-take 5 m rest, take-take 5 m rest (omega arith), on) refl
+    ]
+place-on (suc k) p (suc cells) zero promised (kind ∷ rest) (suc m) F z q h =
+    let e = getD-take m rest 0 0 (omega arith) in
+    elim (decLt (length rest) 1) [
+      | yes g ↦ rw (take-all m rest (omega arith)) refl
+      | no g ↦
+          elim (decLt 200 (promised + getD rest 0 0)) [
+            | yes o ↦ rw (leb-take 1 m rest (omega arith), le-leb 1 (length rest) (omega arith), e, lt-ltb 200 (promised + getD rest 0 0) o) refl
+            | no o ↦
+                let on = place-on k (p + 2) cells (getD rest 0 0) (promised + getD rest 0 0) (drop 1 rest) (m - 1) (withCell promised (getD rest 0 0) F) z (omega arith) (omega arith) in
+                rw (leb-take 1 m rest (omega arith), le-leb 1 (length rest) (omega arith), e, drop-take 1 m rest, on) refl
+          ]
+    ]
+place-on (suc k) p zero zero promised (kind ∷ rest) (suc m) F z q h = rw (none-take m rest (omega arith)) refl
+
+place-fuel : (j k p cells due promised : ℕ) (bytes : List ℕ) (F : Field) (z : Sizes) → length bytes ≤ j → length bytes ≤ k
+    → readOnAt 200 j p cells due promised bytes F z ≡ readOnAt 200 k p cells due promised bytes F z
+unfolding readOnAt
+place-fuel zero zero p cells due promised [] F z h g = refl
+place-fuel zero (suc k) p cells due promised [] F z h g = refl
+place-fuel zero k p cells due promised (kind ∷ rest) F z h g = absurd (omega arith)
+place-fuel (suc j) zero p cells due promised [] F z h g = refl
+place-fuel (suc j) (suc k) p cells due promised [] F z h g = refl
+place-fuel (suc j) zero p cells due promised (kind ∷ rest) F z h g = absurd (omega arith)
+place-fuel (suc j) (suc k) p cells (suc due) promised (kind ∷ rest) F z h g =
+    rw (place-fuel j k (p + 6) cells due promised (drop 5 rest) _ z (omega (arith, length-drop 5 rest)) (omega (arith, length-drop 5 rest)))
+place-fuel (suc j) (suc k) p (suc cells) zero promised (kind ∷ rest) F z h g =
+    rw (place-fuel j k (p + 2) cells (getD rest 0 0) (promised + getD rest 0 0) (drop 1 rest) _ z (omega (arith, length-drop 1 rest)) (omega (arith, length-drop 1 rest)))
+place-fuel (suc j) (suc k) p zero zero promised (kind ∷ rest) F z h g = refl
+
+-- the first 3,261 bytes decide where a file is refused, too
+pub first-bytes-place : (bytes : List ℕ) (m : ℕ) → 3261 ≤ m → readFileAt 1024 200 (take m bytes) ≡ readFileAt 1024 200 bytes
+unfolding readFileAt if_then_else_
+first-bytes-place bytes zero h = absurd (omega arith)
+first-bytes-place [] (suc m) h = refl
+first-bytes-place (kind ∷ rest) (suc m) h =
+    let cells = word rest 0 * word rest 2 in
+    let F = emptyField (word rest 0) (word rest 2) in
+    let z : Sizes = record { border = word rest 4; least = word rest 6; merge = word rest 8 } in
+    let w = word-take m 0 rest (omega arith) in
+    let x = word-take m 2 rest (omega arith) in
+    let a = word-take m 4 rest (omega arith) in
+    let b = word-take m 6 rest (omega arith) in
+    let c = word-take m 8 rest (omega arith) in
+    let n = leb-take 10 m rest (omega arith) in
+    elim (decLt (length rest) 10) [
+      | yes g ↦ rw (take-all m rest (omega arith)) refl
+      | no g ↦
+          elim (decLt 1024 cells) [
+            | yes o ↦ rw (n, le-leb 10 (length rest) (omega arith), w, x, lt-ltb 1024 cells o) refl
+            | no o ↦
+                let fuel = place-fuel (length (take m rest)) (length rest) 11 cells 0 0 (drop 10 (take m rest)) F z (omega (arith, length-drop 10 (take m rest))) (omega (arith, length-drop 10 (take m rest), length-take m rest)) in
+                let on = place-on (length rest) 11 cells 0 0 (drop 10 rest) (m - 10) F z (omega arith) (omega arith) in
+                rw (n, le-leb 10 (length rest) (omega arith), w, x, a, b, c, fuel, drop-take 10 m rest, on) refl
+          ]
+    ]

@@ -3,9 +3,6 @@ pub mod Decimals
 pub mod Joins
 pub mod Lines
 pub mod Bounds
-pub mod Sizes
-pub mod Steps
-pub mod Turns
-pub mod Whole
+pub mod Told
 pub mod OneReading
 pub mod FirstBytes

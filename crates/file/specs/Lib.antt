@@ -1,4 +1,3 @@
 pub mod Written
-pub mod Held
 pub mod Reads
 pub mod Shown

@@ -7,7 +7,7 @@ ghost use Rattle.file.specs.Written.{Room, Wrote};
 ghost use Rattle.file.specs.Shown.{named};
 
 // One byte.
-pub(crate) fn put(out: &mut [u8], at: usize, b: u8) -> usize
+pub fn put(out: &mut [u8], at: usize, b: u8) -> usize
     requires { ⌜ Room (now out) at (b ∷ []) ⌝ }
     ensures { λ r. ⌜ Wrote (now (out .entry)) at (b ∷ []) r (now (out .exit)) ⌝ }
 {

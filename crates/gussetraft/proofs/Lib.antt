@@ -1,2 +1,4 @@
 pub mod Apart
 pub mod OneAnswer
+pub mod PlainRooms
+pub mod MeasuredOnce

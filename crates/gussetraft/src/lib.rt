@@ -1,4 +1,9 @@
 // The functions that C and Rust call (include/gussetraft.h). They take any input, as the entries do.
+mod pieces;
+mod results;
+pub mod roomids;
+pub mod roomsizes;
+
 use checker::refusal_number;
 use mend::MendAnswer;
 use mend::mend;

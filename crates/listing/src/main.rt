@@ -1,6 +1,9 @@
-// Reads a field file, standard input or the file that the one argument names, and prints its listing, or `refused` and the number.
-// The first 4,096 bytes are enough: `first-bytes-decide` (crates/file/proofs/FirstBytes.antt).
+// Reads a field file, standard input or the file that the one argument names, and prints its listing, or `refused` and the number. On standard error it
+// tells where a file is refused 20 or 21: `position` and the place, counted from 0.
+// The first 4,096 bytes are enough: `first-bytes-decide` and `first-bytes-place` (crates/file/proofs/FirstBytes.antt).
 use answer::reply;
+use file::read::FilePlace;
+use file::read::place;
 use libc::STDERR_FILENO;
 use libc::STDIN_FILENO;
 use libc::STDOUT_FILENO;
@@ -21,11 +24,23 @@ fn print_reply(bytes: &[u8]) {
     io::write_all(STDOUT_FILENO, &out[..n]);
 }
 
+fn tell_place(bytes: &[u8]) {
+    match place(bytes) {
+        FilePlace::At(p) => {
+            io::write_all(STDERR_FILENO, b"position ");
+            io::print_decimal(STDERR_FILENO, p as u64);
+            io::write_all(STDERR_FILENO, b"\n");
+        }
+        FilePlace::Nowhere => {}
+    }
+}
+
 fn print_file(fd: i32, name: &[u8]) {
     let mut bytes = io::buffer();
     let n = io::read_full(fd, &mut bytes);
     if is_read(fd, name) {
         print_reply(&bytes[..n]);
+        tell_place(&bytes[..n]);
     }
 }
 

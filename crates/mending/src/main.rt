@@ -1,6 +1,6 @@
 // Reads a field file from standard input and prints it with its connections mended, or `refused` and the number. On standard error it tells each change
-// in a line of five numbers: column, row, layer, direction, old layer.
-// The first 4,096 bytes are enough: a file that is not refused is shorter (`first-bytes-decide` in crates/file/proofs/FirstBytes.antt).
+// in a line of five numbers: column, row, layer, direction, old layer; or where a file is refused 20 or 21: `position` and the place, counted from 0.
+// The first 4,096 bytes are enough: a file that is not refused is shorter (`first-bytes-decide` and `first-bytes-place` in crates/file/proofs/FirstBytes.antt).
 mod patch;
 mod whole;
 
@@ -8,6 +8,8 @@ use crate::patch::spot_of;
 use crate::whole::Filed;
 use crate::whole::mend_file;
 use field::read::at16;
+use file::read::FilePlace;
+use file::read::place;
 use libc::STDERR_FILENO;
 use libc::STDIN_FILENO;
 use libc::STDOUT_FILENO;
@@ -18,6 +20,17 @@ fn print_refused(n: u16) {
     io::write_all(STDOUT_FILENO, b"refused ");
     io::print_decimal(STDOUT_FILENO, n as u64);
     io::write_all(STDOUT_FILENO, b"\n");
+}
+
+fn tell_place(bytes: &[u8]) {
+    match place(bytes) {
+        FilePlace::At(p) => {
+            io::write_all(STDERR_FILENO, b"position ");
+            io::print_decimal(STDERR_FILENO, p as u64);
+            io::write_all(STDERR_FILENO, b"\n");
+        }
+        FilePlace::Nowhere => {}
+    }
 }
 
 // A number of a line, and what comes after it.
@@ -66,7 +79,10 @@ fn print_mended(bytes: &mut [u8]) {
         &mut con,
         &mut changes,
     ) {
-        Filed::Refused(k) => print_refused(k),
+        Filed::Refused(k) => {
+            print_refused(k);
+            tell_place(bytes);
+        }
         Filed::Made(w, made) => {
             io::write_all(STDOUT_FILENO, bytes);
             tell_changes(w, &count, &changes, made);

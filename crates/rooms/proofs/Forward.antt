@@ -26,7 +26,7 @@ module _ (F : Field) (lens : List ℕ) (ok : Passed F lens) where
     begins s t (goes d h c r) = c
     begins s t (comes u d h e c r) = c
 
-    forward : (s t : ℕ) → Linked (netOf F) C s t → Joined F C s t
+    pub forward : (s t : ℕ) → Linked (netOf F) C s t → Joined F C s t
     forward s t (stay c) = room.stay c
     forward s t (goes d h c r) =
         let y : Joined F C (field.near F s d) t = rw (near-is s d h) at (forward (near (netOf F) s d) t r) in

@@ -19,3 +19,7 @@ pub mod Open
 pub mod Mend
 pub mod Refresh
 pub mod Reasons
+pub mod Plain
+pub mod Load
+pub mod Stored
+pub mod Sizes

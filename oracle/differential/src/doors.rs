@@ -1,6 +1,9 @@
 //! Doors opened and closed, by seed: the library's refresh beside the model of document 02's words.
 
-use crate::{library, tally::Tally};
+use crate::{
+    library,
+    tally::{Tally, only},
+};
 use oracle::{
     doors::{self, Rect, Stages},
     field::Field,
@@ -35,7 +38,8 @@ pub fn compare(first: u64, count: u64) -> Tally {
 
 fn differs(seed: u64, what: &str, tally: &mut Tally) {
     tally.differs(&format!(
-        "door of seed {seed}: {what}\nagain: oracle/compare --small 0 --large 0 --edited 0 --doors 1 --seed {seed}"
+        "door of seed {seed}: {what}\nagain: {} --seed {seed}",
+        only("doors", 1)
     ));
 }
 

@@ -4,7 +4,7 @@ use crate::{
     calls::Call,
     faults,
     library::{self, MendAnswer},
-    tally::Tally,
+    tally::{Tally, only},
 };
 use oracle::{
     damage::DAMAGES,
@@ -56,7 +56,8 @@ pub fn compare(first: u64, count: u64) -> Tally {
 
 fn differs(seed: u64, what: &str, tally: &mut Tally) {
     tally.differs(&format!(
-        "edited field of seed {seed}: {what}\nagain: oracle/compare --small 0 --large 0 --edited 1 --seed {seed}"
+        "edited field of seed {seed}: {what}\nagain: {} --seed {seed}",
+        only("edited", 1)
     ));
 }
 

@@ -1,10 +1,14 @@
 //! Field files by seed, mended by the program `mending` and by the model of document 02's words.
 
-use crate::{edited, small, tally::Tally};
+use crate::{
+    edited, small,
+    tally::{Tally, only},
+};
 use oracle::{
     field::{Case, Field},
     file::{self, Limits},
     mending::{self, Mended},
+    pieces,
     refusals::Refusal,
 };
 use std::{
@@ -36,7 +40,8 @@ pub fn compare(program: &Path, first: u64, count: u64) -> Result<Tally, String> 
             tally.count(kind, &answer);
         } else {
             tally.differs(&format!(
-                "file of seed {seed}, kind {kind}, through the program mending\nagain: oracle/compare --small 0 --large 0 --edited 7 --seed {seed}"
+                "file of seed {seed}, kind {kind}, through the program mending\nagain: {} --seed {seed}",
+                only("edited", 7)
             ));
         }
         tally.fields += 1;
@@ -77,14 +82,18 @@ fn expected(bytes: &[u8]) -> (String, Printed) {
             let out = file::write(&Case { field, ..case });
             (sort.to_owned(), Printed { out, told })
         }
-        Err(refusal) => (refusal.to_string(), refused(refusal)),
+        Err(refusal) => (refusal.to_string(), refused(refusal, bytes)),
     }
 }
 
-fn refused(refusal: Refusal) -> Printed {
+/// The line, and where in the file, for 20 and 21.
+fn refused(refusal: Refusal, bytes: &[u8]) -> Printed {
+    let stop = pieces::load(bytes, Limits::PROGRAM).answer.err();
     Printed {
         out: format!("{refusal}\n").into_bytes(),
-        told: String::new(),
+        told: stop.map_or(String::new(), |stop| {
+            format!("position {}\n", stop.position)
+        }),
     }
 }
 

@@ -3,7 +3,7 @@
 use crate::{
     calls::Call,
     faults::{self, FAULTS},
-    tally::Tally,
+    tally::{Tally, only},
 };
 use oracle::{
     field::{Case, Field, Settings},
@@ -89,7 +89,8 @@ pub fn compare_full(first: u64, count: u64) -> Tally {
 
 fn differs(seed: u64, what: &str, tally: &mut Tally) {
     tally.differs(&format!(
-        "large field of seed {seed}: {what}\nagain: oracle/compare --small 0 --large 1 --seed {seed}"
+        "large field of seed {seed}: {what}\nagain: {} --seed {seed}",
+        only("large", 1)
     ));
 }
 

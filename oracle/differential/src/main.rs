@@ -8,6 +8,10 @@ mod files;
 mod large;
 mod lent;
 mod library;
+mod pieces;
+mod plain;
+mod results;
+mod sizes;
 mod small;
 mod stops;
 mod tally;
@@ -27,6 +31,10 @@ struct Order {
     edited: u64,
     edges: u64,
     doors: u64,
+    rooms: u64,
+    sizes: u64,
+    pieces: u64,
+    results: u64,
     seed: u64,
 }
 
@@ -82,27 +90,41 @@ fn run() -> Result<bool, String> {
     if doors.fields > 0 {
         print!("refreshes by kind, and their answers:\n{doors}");
     }
-    if [&small, &large, &full, &winding, &stops, &edited, &files, &doors]
-        .iter()
-        .any(|tally| tally.is_enough())
-    {
+    let rooms = plain::compare(seed, order.rooms);
+    if rooms.fields > 0 {
+        print!("plain rooms by kind, and their answers:\n{rooms}");
+    }
+    let sizes = sizes::compare(seed, order.sizes);
+    if sizes.fields > 0 {
+        print!("floor sizes by kind, and their answers:\n{sizes}");
+    }
+    let pieces = pieces::compare(seed, order.pieces);
+    if pieces.fields > 0 {
+        print!("files in pieces by kind, and their answers:\n{pieces}");
+    }
+    let results = results::compare(seed, order.results);
+    if results.fields > 0 {
+        print!("conversions of stored results by kind, and their answers:\n{results}");
+    }
+    let parts = [
+        &small, &large, &full, &winding, &stops, &edited, &files, &doors, &rooms, &sizes, &pieces,
+        &results,
+    ];
+    if parts.iter().any(|tally| tally.is_enough()) {
         println!("{ended}");
     }
-    let differences = small.differences
-        + large.differences
-        + full.differences
-        + winding.differences
-        + stops.differences
-        + edited.differences
-        + files.differences
-        + doors.differences;
+    let differences: usize = parts.iter().map(|tally| tally.differences).sum();
     println!(
-        "compared {} small, {} large, {} edited fields, {} files mended, {} fields with doors: {differences} differences",
+        "compared {} small, {} large, {} edited fields, {} files mended, {} fields with doors, {} with plain rooms, {} with sizes, {} files in pieces, {} stored results: {differences} differences",
         small.fields,
         large.fields + full.fields + winding.fields + stops.fields,
         edited.fields,
         files.fields,
-        doors.fields
+        doors.fields,
+        rooms.fields,
+        sizes.fields,
+        pieces.fields,
+        results.fields
     );
     Ok(differences == 0)
 }
@@ -119,6 +141,10 @@ fn order() -> Result<Order, String> {
         edited: 7_000,
         edges: 2,
         doors: 3_000,
+        rooms: 2_000,
+        sizes: 2_000,
+        pieces: 4_000,
+        results: 3_500,
         seed: 0,
     };
     while let Some(option) = arguments.next() {
@@ -135,6 +161,10 @@ fn order() -> Result<Order, String> {
             "--edited" => order.edited = number,
             "--edges" => order.edges = number,
             "--doors" => order.doors = number,
+            "--rooms" => order.rooms = number,
+            "--sizes" => order.sizes = number,
+            "--pieces" => order.pieces = number,
+            "--results" => order.results = number,
             "--seed" => order.seed = number,
             _ => {
                 return Err(format!(

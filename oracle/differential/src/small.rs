@@ -1,6 +1,6 @@
 //! Field files by seed, answered by the program `vectors` in batches and by the unchanged Rust.
 
-use crate::tally::Tally;
+use crate::tally::{Tally, only};
 use oracle::{
     damage::{self, DAMAGES},
     file::{self, Limits},
@@ -147,11 +147,11 @@ fn tell(
     };
     tally.differs(&format!(
         "small field of seed {}, kind {}\n\
-         again: oracle/compare --small {} --large 0 --seed {}\n\
+         again: {} --seed {}\n\
          the program prints\n{}the Rust\n{}",
         sample.seed,
         sample.kind,
-        again.len(),
+        only("small", again.len()),
         again[0].seed,
         String::from_utf8_lossy(printed),
         sample.answer

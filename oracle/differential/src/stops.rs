@@ -1,7 +1,10 @@
 //! Request A6: fields at the edges where ids or source distances run out. What is expected is written down here, beside what the Rust
 //! and the model answer.
 
-use crate::{calls::Call, tally::Tally};
+use crate::{
+    calls::Call,
+    tally::{Tally, only},
+};
 use oracle::{
     field::Settings,
     levels::edges::{self, Steps},
@@ -67,7 +70,7 @@ pub fn compare(count: u64) -> Tally {
         tally.fields += 1;
         match edge.compare() {
             Ok(answer) => tally.count(edge.name, &answer),
-            Err(what) => tally.differs(&format!("{}: {what}\nagain: oracle/compare --small 0 --large 0 --edited 0 --edges 6", edge.name)),
+            Err(what) => tally.differs(&format!("{}: {what}\nagain: {}", edge.name, only("edges", 6))),
         }
     }
     tally

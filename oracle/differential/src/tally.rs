@@ -6,6 +6,21 @@ use std::{
     time::{Duration, Instant},
 };
 
+/// The parts of the comparison, as its options name them.
+const PARTS: [&str; 9] = [
+    "small", "large", "edited", "edges", "doors", "rooms", "sizes", "pieces", "results",
+];
+
+/// The command that runs so much of one part, and nothing of the others.
+pub fn only(part: &str, number: usize) -> String {
+    let mut command = "oracle/compare".to_owned();
+    for other in PARTS {
+        let count = if other == part { number } else { 0 };
+        command += &format!(" --{other} {count}");
+    }
+    command
+}
+
 /// Counts of answers by kind, and the differences.
 #[derive(Default)]
 pub struct Tally {

@@ -1,7 +1,10 @@
 //! Request A8: winding corridors whose contours have 39,996, 40,000 or 40,004 steps and more, in records that stay, are
 //! removed or are merged. What is expected is written down here, beside what the Rust and the model answer.
 
-use crate::{calls::Call, tally::Tally};
+use crate::{
+    calls::Call,
+    tally::{Tally, only},
+};
 use oracle::{field::Settings, levels::long_corridor};
 
 /// The distance of every span but the gap: so great that a flood of it stops at the gap.
@@ -56,7 +59,7 @@ pub fn compare() -> Tally {
         tally.fields += 1;
         match winding.compare() {
             Ok(answer) => tally.count(winding.name, &answer),
-            Err(what) => tally.differs(&format!("winding corridor, {}: {what}\nagain: oracle/compare --small 0 --large 1 --edited 0", winding.name)),
+            Err(what) => tally.differs(&format!("winding corridor, {}: {what}\nagain: {}", winding.name, only("large", 1))),
         }
     }
     tally

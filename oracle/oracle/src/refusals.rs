@@ -22,6 +22,10 @@ pub enum Refusal {
     WorkspaceTooShort = 7,
     /// The greatest distance is above 510, or a distance above the greatest.
     DistanceTooGreat = 8,
+    /// A scale of 0 or above 256.
+    WrongScale = 9,
+    /// A list of ids of a wrong length, or with an unflagged id above max_region.
+    WrongIds = 10,
     /// A rectangle that is empty or not in the field.
     WrongRect = 11,
     /// A successful flood would make the next id 0x8000 (request A6).

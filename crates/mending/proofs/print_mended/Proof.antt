@@ -29,6 +29,9 @@ enum-known-k c = search needs
 print-refused-requires : tie.Need-print-refused-requires
 print-refused-requires c κs = search needs
 
+tell-place-requires : tie.Need-tell-place-requires
+tell-place-requires c κs = search needs
+
 enum-known-w : tie.Need-enum-known-w
 enum-known-w c = search needs
 
@@ -68,6 +71,7 @@ print-mended-spec =
     mend-file-requires
     enum-known-k
     print-refused-requires
+    tell-place-requires
     enum-known-w
     write-all-requires
     slice-aggregate-tell-changes

@@ -1,24 +1,16 @@
--- `read::read_file` meets its contract: a header that is refused leaves the lists as they were, and one that is read gives what the records ask.
--- Assumes nothing.
-use Rattle.file.proofs.Whole.{head-read, head-refused}
+-- `read::read_file` meets its contract: the loader tells what the rule's reading says (`whole-reads` in `Told.antt`).
+-- Elements of the file are bytes: that is what the slice's rule gives.
+use Rattle.file.proofs.Told.{whole-short, whole-reads}
+use native.Mathlib.Omega.{arith}
 use borrow.Author.Needs.{needs}
 use Rattle.file.proofs.read.read_file.Statement.{statement}
 use Rattle.file.proofs.read.read_file.Tie as tie
 
-read-header-requires : tie.Need-read-header-requires
-read-header-requires c κs = search needs
+load-whole-requires : tie.Need-load-whole-requires
+load-whole-requires c κs = search needs
 
-enum-known-r : tie.Need-enum-known-r
-enum-known-r c = search needs
-
-enum-known-header : tie.Need-enum-known-header
-enum-known-header c = search needs
-
-read-records-requires : tie.Need-read-records-requires
-read-records-requires c κs = (search head-read, search needs)
-
-returns : tie.Need-returns
-returns c = search head-refused
+reading-requires : tie.Need-reading-requires
+reading-requires c κs = whole-short _ _ _ _ _ _ _ _ _ _ (c .before .before .before .before .before .before .before .before .load-whole .ensures) (c .before .before .before .before .before .before .before .before .before .before .before .before .before .before .before .before .before .before .pre) (λ i. omega (arith, c .before .before .before .before .before .before .before .before .before .before .before .before .before .before .before .before .before .shared-slice-known .given i))
 
 same-length : tie.Need-same-length
 same-length c = search needs
@@ -32,20 +24,17 @@ same-length-3 c = search needs
 same-length-4 : tie.Need-same-length-4
 same-length-4 c = search needs
 
-returns-2 : tie.Need-returns-2
-returns-2 c = search needs
+returns : tie.Need-returns
+returns c = whole-reads _ _ _ _ _ _ _ _ _ _ (c .before .before .before .before .before .before .before .before .before .load-whole .ensures) (c .before .before .before .before .before .before .before .before .before .before .before .before .before .before .before .before .before .before .before .pre) (λ i. omega (arith, c .before .before .before .before .before .before .before .before .before .before .before .before .before .before .before .before .before .before .shared-slice-known .given i)) _ (c .reading .ensures)
 
 pub read-file-spec : {M : Type 1} → statement M
 read-file-spec =
     tie.close
     (tie.spec
-    read-header-requires
-    enum-known-r
-    enum-known-header
-    read-records-requires
-    returns
+    load-whole-requires
+    reading-requires
     same-length
     same-length-2
     same-length-3
     same-length-4
-    returns-2)
+    returns)

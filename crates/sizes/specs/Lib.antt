@@ -1,0 +1,4 @@
+-- What the promises of floor sizes cite.
+pub mod Walk
+pub mod Answer
+pub mod Into

@@ -97,7 +97,8 @@ fn turn(
         Turned (now (area .entry)) (now (con .entry)) (now (dist .entry)) at next (l .fills) (l .turn) level ids₀ ws₀
         (r .next) (r .stop) (r .stacks .fills) (r .stacks .turn) (now (ids .exit)) (now (ws .exit))) ⌝ }
     ensures { λ r. ⌜ (let ids₀ = now (ids .entry) in let ws₀ = now (ws .entry) in
-        TurnTold (now (area .entry)) (now (dist .entry)) (at .table) next (l .fills) (l .turn) level ids₀ ws₀ (r .stop) (storyOf story) (storyOf (r .story))) ⌝ }
+        TurnTold (now (area .entry)) (now (dist .entry)) (at .table) next (l .fills) (l .turn) level ids₀ ws₀
+        (r .stop) (storyOf story) (storyOf (r .story))) ⌝ }
 {
     let stacks = load(area, dist, ids, ws, at, l, level);
     let stack = turn_stack(area.len(), stacks);

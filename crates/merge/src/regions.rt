@@ -76,7 +76,8 @@ pub fn merge_and_filter_told(
     r: usize,
 ) -> Told
     requires { ⌜ (end + 2 * m ≤ length (now ws)) × Ready m n (take end (now ws)) (now ids) × (r < m) ⌝ }
-    ensures { λ t. ⌜ (let found : rules.Regions = record { ids = now (ids .exit); most = t .regions .«max_region»; over = t .regions .overlaps; cut = t .regions .cut } in
+    ensures { λ t. ⌜ (let g = t .regions in
+        let found : rules.Regions = record { ids = now (ids .exit); most = g .«max_region»; over = g .overlaps; cut = g .cut } in
         ToldRegions «min_region_area» «merge_region_size» m end r (now (ws .entry)) (now (ids .entry)) (now (ws .exit)) found
         (t .id) (t .group) (t .merges)) ⌝ }
 {

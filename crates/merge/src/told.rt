@@ -1,5 +1,5 @@
-// Merges noted in their order: "the trail of merges from the flood's id to the last". The records lie before `end` in the workspace, what is noted from there on,
-// two numbers a merge: the id that was absorbed, and the one that absorbed it.
+// Merges noted in their order: "the trail of merges from the flood's id to the last". The records lie before `end` in the workspace, what is noted
+// from there on, two numbers a merge: the id that was absorbed, and the one that absorbed it.
 use crate::merge::Round;
 use crate::merge::merge_one;
 ghost use mathlib.Core.Path.{_≡_};

@@ -5,4 +5,5 @@ pub mod level;
 pub mod measured;
 pub mod rooms;
 pub mod run;
+pub mod stored;
 pub mod timed;

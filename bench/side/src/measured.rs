@@ -7,14 +7,16 @@ use oracle::{
 };
 use std::{env, fs, path::Path};
 
-/// Writes NUMBER.field and NUMBER.answer for each level to a folder, and prints a line for each: its number, its number of spans,
-/// its name.
+/// Writes NUMBER.field, NUMBER.answer (the Rust's numbers) and NUMBER.dense (the same answer in the dense form) for each level to a folder, and prints
+/// a line for each: its number, its number of spans, its name.
 pub fn write_levels(folder: &str, levels: Vec<(String, Case)>) {
     for (number, (name, case)) in levels.into_iter().enumerate() {
         let stem = Path::new(folder).join(number.to_string());
         let answer = run::rust(&case, Entries::Both, |_| ());
         fs::write(stem.with_extension("field"), file::write(&case)).expect("can write a level");
         fs::write(stem.with_extension("answer"), bytes(&answer)).expect("can write an answer");
+        fs::write(stem.with_extension("dense"), bytes(&answer.dense()))
+            .expect("can write an answer");
         println!("{number} {} {name}", case.field.spans());
     }
 }
@@ -38,10 +40,10 @@ fn bytes(answer: &Answer) -> Vec<u8> {
         .collect()
 }
 
-/// Stops where an answer is not the one that was written for the level.
-pub fn compare(path: &str, answer: &Answer) {
+/// Stops where an answer is not the one that was written for the level, in the form "answer" or "dense".
+pub fn compare(path: &str, form: &str, answer: &Answer) {
     let written =
-        fs::read(Path::new(path).with_extension("answer")).expect("can read the level's answer");
+        fs::read(Path::new(path).with_extension(form)).expect("can read the level's answer");
     assert!(
         written.starts_with(&bytes(answer)),
         "{path}: the answers are not the same"

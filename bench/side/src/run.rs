@@ -33,6 +33,26 @@ pub struct Ids {
     pub ids: Vec<u16>,
 }
 
+impl Answer {
+    /// The same in the dense form: ids in use become 1, 2, .. in the order of their numbers.
+    pub fn dense(mut self) -> Self {
+        if let Some(regions) = &mut self.regions {
+            let mut used: Vec<u16> = (regions.ids.iter().copied())
+                .filter(|&id| id != 0 && id & 0x8000 == 0)
+                .collect();
+            used.sort_unstable();
+            used.dedup();
+            for id in &mut regions.ids {
+                if let Ok(place) = used.binary_search(id) {
+                    *id = place as u16 + 1;
+                }
+            }
+            regions.max_region = used.len() as u16;
+        }
+        self
+    }
+}
+
 /// Gussetraft's distance entry.
 #[unsafe(no_mangle)]
 #[inline(never)]

@@ -13,6 +13,7 @@ use lib.Seq.{ext-getD, getD-drop, getD-set-same, getD-set-other, take-set-le}
 use borrow.Author.Tests.{eq-eqb, ne-eqb}
 use Rattle.rules.specs.Base.{_and_, if_then_else_, tab, keep}
 use Rattle.rules.specs.Growth.{walkable, Spread, expand, expandStrays, blank}
+use Rattle.rules.specs.Reasons.{Story, expandTells}
 use Rattle.laws.proofs.Basics.{and-no, getD-any}
 use Rattle.space.specs.Space.{sec, Frame, Clear}
 use Rattle.space.proofs.Laws.{cases, getD-after}
@@ -188,6 +189,10 @@ module _ (ar : List ℕ) (e b : ℕ) (ids ws ws₁ : List ℕ) (fill : ℕ) (v :
     pub last-strays : (o : Bool) → o ≡ expandStrays (netAt b ar ws₁) 0 (marksAt (length ar) ids ws₁) (sec (length ar) fill ws₁)
         → o ≡ expandStrays (netAt b ar ws) 0 (marksAt (length ar) ids ws) (blank ar ids)
     last-strays o r = r ∙ rw (filled-net, marks-same (length ar) ids ws ws₁ (v .marks), ← listAt-sec ws₁ (length ar) fill filled-room, filled-list)
+
+    pub last-told : (y s : Story) → s ≡ expandTells (netAt b ar ws₁) 0 (marksAt (length ar) ids ws₁) (sec (length ar) fill ws₁) y
+        → s ≡ expandTells (netAt b ar ws) 0 (marksAt (length ar) ids ws) (blank ar ids) y
+    last-told y s r = r ∙ rw (filled-net, marks-same (length ar) ids ws ws₁ (v .marks), ← listAt-sec ws₁ (length ar) fill filled-room, filled-list)
 
     module _ (ids₂ ws₂ : List ℕ) (k : Kept (length ar) (length ar) fill ws₁ ws₂) (ws₃ : List ℕ) (size : length ws₃ ≡ length ws₂)
         (q : Clear (length ar) (length ar + fill) ws₃) (cleared : Frame (length ar) (length ar + fill) ws₂ ws₃) where

@@ -14,7 +14,8 @@ use borrow.Author.Tests.{eq-eqb, ne-eqb}
 use Rattle.rules.specs.Base.{if_then_else_}
 use Rattle.rules.specs.Field.{none}
 use Rattle.rules.specs.Net.{Net}
-use Rattle.rules.specs.Growth.{rounds, roundsStray, expand, expandStrays}
+use Rattle.rules.specs.Growth.{Spread, rounds, roundsStray, expand, expandStrays}
+use Rattle.rules.specs.Reasons.{Story, roundsTell, expandTells}
 use Rattle.laws.proofs.Basics.{All, map-all}
 use Rattle.space.specs.Space.{sec, Frame, Clear}
 use Rattle.space.proofs.Laws.{getD-before, getD-after}
@@ -222,6 +223,10 @@ strays-is : (N : Net) (n a fill level : ℕ) (ids ws : List ℕ) → expandStray
 unfolding expandStrays mostAt fresh frontOf
 strays-is N n a fill level ids ws = rw (length-listAt ws a fill)
 
+tells-is : (N : Net) (n a fill level : ℕ) (ids ws : List ℕ) (y : Story) → expandTells N level (marksAt n ids ws) (listAt ws a fill) y ≡ roundsTell N (mostAt level fill) (frontOf n a fill ids ws) y
+unfolding expandTells mostAt fresh frontOf
+tells-is N n a fill level ids ws y = rw (length-listAt ws a fill)
+
 front-view : (n a fill : ℕ) (ids ws ws′ : List ℕ) → take n ws′ ≡ take n ws → listAt ws′ a fill ≡ map (fresh ids) (listAt ws a fill) → a + fill ≤ length ws′
     → record { marks = marksAt n ids ws′; stack = sec a fill ws′ } ≡ frontOf n a fill ids ws
 unfolding frontOf
@@ -266,6 +271,16 @@ module _ (ar : List ℕ) (a e b fill level p : ℕ) (ids ws ws₁ : List ℕ) (f
       rw (lit-net ar a e b fill ids ws ws₁ y g ws₂ raised) at (r .stray)
       ∙ ap (roundsStray (netAt b ar ws) most) (lit-front (length ar) a e b fill ids ws ws₁ y g ws₂ raised) ∙ ap (λ (m : ℕ). roundsStray (netAt b ar ws) m (frontOf (length ar) a fill ids ws)) q
       ∙ sym (strays-is (netAt b ar ws) (length ar) a fill level ids ws) ∙ ap (λ (t : List ℕ). expandStrays (netAt b ar ws) level (marksAt (length ar) ids ws) t) (listAt-sec ws a fill i)
+
+  pub expanded-told : (y₀ s : Story) → s ≡ roundsTell (netAt b ar ws₂) most (frontOf (length ar) a fill ids ws₂) y₀
+      → s ≡ expandTells (netAt b ar ws) level (marksAt (length ar) ids ws) (sec a fill ws) y₀
+  expanded-told y₀ s t =
+      let i : a + fill ≤ length ws = omega (arith, g .entries .filled, g .sizes .apart, g .sizes .past, g .sizes .room) in
+      rw (lit-net ar a e b fill ids ws ws₁ y g ws₂ raised) at t
+      ∙ ap (λ (p : Spread). roundsTell (netAt b ar ws) most p y₀) (lit-front (length ar) a e b fill ids ws ws₁ y g ws₂ raised)
+      ∙ ap (λ (m : ℕ). roundsTell (netAt b ar ws) m (frontOf (length ar) a fill ids ws) y₀) q
+      ∙ sym (tells-is (netAt b ar ws) (length ar) a fill level ids ws y₀)
+      ∙ ap (λ (t : List ℕ). expandTells (netAt b ar ws) level (marksAt (length ar) ids ws) t y₀) (listAt-sec ws a fill i)
 
   module _ (ws₄ : List ℕ) (s : Settled (length ar) a e fill k ids₃ ws₃ ws₄) where
     room₄ : a + fill ≤ length ws₄

@@ -188,7 +188,7 @@ module _ (N : Net) (n a e fill : ℕ) (ids ws : List ℕ) (lo hi : ℕ) (v : Fro
       let i = has-all (Unheld n ids) x (map (fresh ids) (listAt ws a fill)) (v .ok .entries) (k .0) s .0 in
       (i, ⊎-elim (λ (u : Up n e ws x). absurd (true≢false (sym (k .1) ∙ v .cold x i u .2))) (λ (q : Queued ws e lo hi x). q) (v .all x i (t .0) (t .1)))
 
-  queued-change : (x : ℕ) → Queued ws e lo hi x → has x (changes N (frontOf n a fill ids ws)) ≡ true
+  pub queued-change : (x : ℕ) → Queued ws e lo hi x → has x (changes N (frontOf n a fill ids ws)) ≡ true
   unfolding changes frontOf
   queued-change x q =
       let r = v .right (q .at) (q .from) (q .to) in

@@ -7,6 +7,7 @@ pub mod Sources
 pub mod Waves
 pub mod Fronts
 pub mod Writes
+pub mod Tellings
 pub mod Wholes
 pub mod Flagged
 pub mod Stacks

@@ -26,16 +26,16 @@ stays : (a b c : Bool) (x y : Taken) → (a and b) and c ≡ false → y ≡ (if
 unfolding if_then_else_
 stays a b c x y e = rw e
 
-no₁ : (a b c : Bool) → a ≡ false → (a and b) and c ≡ false
+pub no₁ : (a b c : Bool) → a ≡ false → (a and b) and c ≡ false
 unfolding _and_
 no₁ a b c e = rw e
 
-no₂ : (a b c : Bool) → b ≡ false → (a and b) and c ≡ false
+pub no₂ : (a b c : Bool) → b ≡ false → (a and b) and c ≡ false
 unfolding _and_
 no₂ true b c e = rw e
 no₂ false b c e = refl
 
-no₃ : (a b c : Bool) → c ≡ false → (a and b) and c ≡ false
+pub no₃ : (a b c : Bool) → c ≡ false → (a and b) and c ≡ false
 no₃ a b c e = rw e (and-no (a and b))
 
 more : (x e : Bool) → e ≡ false → x ≡ x or e
@@ -72,10 +72,10 @@ module _ (table : ℕ) (ar ids ws : List ℕ) (s own d a : ℕ) (t : Taken) (x :
   pub sight-inside : (a ≡ none → ⊥) → a < length ar
   sight-inside z = net-inside table ar ws s d a (v .closed) (v .room) (v .span) h n z
 
-  near-a : near N s d ≡ a
+  pub near-a : near N s d ≡ a
   near-a = near-at table ar ws s d (v .room) (v .span) h ∙ sym n
 
-  own-area : areaOf N s ≡ own
+  pub own-area : areaOf N s ≡ own
   own-area = area-at table ar ws s (v .span) ∙ sym q
 
   pub look-none : a ≡ none → own < 256 → (t ≡ look N m s d t) × (x ≡ x or exceeds N m s d)
@@ -86,10 +86,10 @@ module _ (table : ℕ) (ar ids ws : List ℕ) (s own d a : ℕ) (t : Taken) (x :
       (stays _ _ _ _ _ (no₁ _ _ _ (ne-eqb _ _ y)), more x _ (no₁ _ _ _ (ne-eqb _ _ y)))
 
   module _ (i : a < length ar) where
-    at-area : areaOf N (near N s d) ≡ getD ar a 0
+    pub at-area : areaOf N (near N s d) ≡ getD ar a 0
     at-area = ap (areaOf N) near-a ∙ area-at table ar ws a i
 
-    at-id : getD ids (near N s d) 0 ≡ getD ids a 0
+    pub at-id : getD ids (near N s d) 0 ≡ getD ids a 0
     at-id = ap (λ (x : ℕ). getD ids x 0) near-a
 
     pub look-area : (u : ℕ) → u ≡ getD ar a 0 → (u ≡ own → ⊥) → (t ≡ look N m s d t) × (x ≡ x or exceeds N m s d)
@@ -112,7 +112,7 @@ module _ (table : ℕ) (ar ids ws : List ℕ) (s own d a : ℕ) (t : Taken) (x :
             (stays _ _ _ _ _ (no₂ _ _ _ k), more x _ (no₂ _ _ _ k))
 
         module _ (f : ℕ) (p : f ≡ getD ws a 0) where
-          at-far : getD (m .src) (near N s d) 0 ≡ f
+          pub at-far : getD (m .src) (near N s d) 0 ≡ f
           at-far = rw (near-a, getD-take (length ar) ws a 0 i) (sym p)
 
           -- the sum exceeds 65,535, and what is found is nearer

@@ -10,6 +10,7 @@ use lib.ListN.{length, getD}
 use Rattle.rules.specs.Base.{any}
 use Rattle.rules.specs.Net.{Net}
 use Rattle.rules.specs.Growth.{finds, strays, Spread, rounds, roundsStray}
+use Rattle.rules.specs.Reasons.{Story, roundTells, roundsTell}
 use Rattle.laws.proofs.NextId.{zeros, zeros-le}
 use Rattle.space.proofs.Laws.{cases}
 use Rattle.net.specs.Table.{netAt, Closed, Mutual}
@@ -17,6 +18,8 @@ use Rattle.net.proofs.Tables.{net-same, spans-at}
 use Rattle.flood.specs.Stack.{marksAt}
 use Rattle.expand.specs.Layout.{listAt, Past, Ok}
 use Rattle.expand.specs.Front.{Up, Entry, Board, Strayed, Moved, Beside, Spans, Entered, Writing, frontOf, Lit, Begun, Watched, Going, Gone}
+use Rattle.expand.specs.Told.{RoundTold}
+use Rattle.expand.proofs.Tellings.{front-told, tells-on, tells-off, tells-none}
 use Rattle.expand.proofs.Lists.{listAt-cong, length-listAt, marks-same}
 use Rattle.expand.proofs.Waves.{stray-first, stray-on, stray-off, stray-none, rounds-none}
 use Rattle.expand.proofs.Fronts.{front-marks, front-same, front-tried, front-stray, front-calm, front-next, next-stray, next-still, front-round, round-ok, round-only, front-still, front-finds, front-off, front-on}
@@ -121,6 +124,9 @@ module _ (ar : List ℕ) (a e b fill most : ℕ) (ids₀ ws₀ : List ℕ) (x : 
       stray = rw tried-net at (g .stray) ∙ ap (roundsStray (netAt b ar ws₀) most) same-front;
     }
 
+    pub told-from : (y s : Story) → s ≡ roundsTell (netAt b ar ws) most (frontOf (length ar) a fill ids₀ ws) y → s ≡ roundsTell (netAt b ar ws₀) most (frontOf (length ar) a fill ids₀ ws₀) y
+    told-from y s t = rw tried-net at t ∙ ap (λ (p : Spread). roundsTell (netAt b ar ws₀) most p y) same-front
+
 -- rounds, from where the first one's changes are noted
 module _ (ar : List ℕ) (a e b fill most : ℕ) (ids₀ ws₀ : List ℕ) (x : Mutual (netAt b ar ws₀)) (z : Begun (length ar) a e b fill ids₀ ws₀) where
   module _ (ids ws : List ℕ) (lo hi : ℕ) (w : Bool) (more : ℕ) (v : Going ar a e b fill most ids₀ ws₀ ids ws lo hi w more) where
@@ -149,6 +155,37 @@ module _ (ar : List ℕ) (a e b fill most : ℕ) (ids₀ ws₀ : List ℕ) (x : 
 
     going-only : (s : ℕ) → s < length ar → Up (length ar) e ws s → Entry ws a fill s
     going-only s h u = v .front .cold s h u .0
+
+    net-now : netAt b ar ws ≡ netAt b ar ws₀
+    net-now = net-same b ar ws₀ ws (z .sizes .room) (v .size₂) (λ s h. v .beyond s (omega (arith, z .sizes .past)))
+
+    -- what the watched span's story asks for
+    pub going-closed : Closed (netAt b ar ws)
+    going-closed = rw net-now (x .closed)
+
+    pub going-board : Board (length ar) e b hi ids ws
+    going-board = record {
+      few = z .sizes .few;
+      idents = sized;
+      low = omega (arith, z .sizes .low, z .sizes .apart);
+      past = z .sizes .past;
+      room = omega (arith, z .sizes .room, v .size₂);
+      close = z .sizes .close;
+      most = few-hi;
+      free = v .free;
+    }
+
+    pub going-changes : Spans (length ar) e lo hi ws
+    going-changes = record { order = v .order; span = λ i l u. v .front .right i l u .span }
+
+    -- y₀ is the story before the rounds, y the one so far: what is left to tell is what is left of the whole
+    pub told-end : (y₀ y : Story)
+        → roundsTell (netAt b ar ws₀) most (frontOf (length ar) a fill ids₀ ws₀) y₀ ≡ roundsTell (netAt b ar ws₀) more (frontOf (length ar) a fill ids ws) y
+        → hi ≤ lo → y ≡ roundsTell (netAt b ar ws₀) most (frontOf (length ar) a fill ids₀ ws₀) y₀
+    told-end y₀ y t h =
+        let s : more ≡ suc (more - 1) = omega (arith, v .some) in
+        sym (t ∙ rw s (tells-off (netAt b ar ws₀) (more - 1) (frontOf (length ar) a fill ids ws) y
+        (front-still (netAt b ar ws₀) (length ar) a e fill ids ws lo hi (v .front) room-ws (z .sizes .few) h (v .order))))
 
     -- nothing is noted
     pub going-end : hi ≤ lo → Gone ar a e b fill most ids₀ ws₀ ids ws hi w
@@ -221,6 +258,27 @@ module _ (ar : List ℕ) (a e b fill most : ℕ) (ids₀ ws₀ : List ℕ) (x : 
           ∙ stray-on (netAt b ar ws₀) (more - 1) (frontOf (length ar) a fill ids ws) c finds₁
           ∙ ap (roundsStray (netAt b ar ws₀) (more - 1)) (sym (front-round (netAt b ar ws₀) (length ar) a e fill ids ws lo hi (v .front) (v .order) room-ws (z .sizes .few) ids₁ ws₁ made (z .sizes .low)))
 
+      told₁ : (y₀ s s′ : Story)
+          → roundsTell (netAt b ar ws₀) most (frontOf (length ar) a fill ids₀ ws₀) y₀ ≡ roundsTell (netAt b ar ws₀) more (frontOf (length ar) a fill ids ws) s
+          → RoundTold (netAt b ar ws) (marksAt (length ar) ids ws) ws e lo hi s s′
+          → roundsTell (netAt b ar ws₀) most (frontOf (length ar) a fill ids₀ ws₀) y₀ ≡ roundsTell (netAt b ar ws₀) (more - 1) (frontOf (length ar) a fill ids₁ ws₁) s′
+      told₁ y₀ s s′ t r =
+          let q : more ≡ suc (more - 1) = omega (arith, v .some) in
+          let f = front-told (netAt b ar ws₀) (length ar) a e fill ids ws lo hi (v .front) (v .order) room-ws (z .sizes .few) s s′ (rw net-now at r) in
+          t ∙ ap (λ (k : ℕ). roundsTell (netAt b ar ws₀) k (frontOf (length ar) a fill ids ws) s) q
+          ∙ tells-on (netAt b ar ws₀) (more - 1) (frontOf (length ar) a fill ids ws) s finds₁
+          ∙ ap (λ (p : Spread). roundsTell (netAt b ar ws₀) (more - 1) p (roundTells (netAt b ar ws₀) (frontOf (length ar) a fill ids ws) s))
+          (sym (front-round (netAt b ar ws₀) (length ar) a e fill ids ws lo hi (v .front) (v .order) room-ws (z .sizes .few) ids₁ ws₁ made (z .sizes .low)))
+          ∙ ap (roundsTell (netAt b ar ws₀) (more - 1) (frontOf (length ar) a fill ids₁ ws₁)) (sym f)
+
+      pub told-last : (y₀ s s′ : Story)
+          → roundsTell (netAt b ar ws₀) most (frontOf (length ar) a fill ids₀ ws₀) y₀ ≡ roundsTell (netAt b ar ws₀) more (frontOf (length ar) a fill ids ws) s
+          → RoundTold (netAt b ar ws) (marksAt (length ar) ids ws) ws e lo hi s s′
+          → more ≡ 1 → s′ ≡ roundsTell (netAt b ar ws₀) most (frontOf (length ar) a fill ids₀ ws₀) y₀
+      told-last y₀ s s′ t r q =
+          let p : more - 1 ≡ 0 = omega arith in
+          sym (told₁ y₀ s s′ t r ∙ rw p (tells-none (netAt b ar ws₀) (frontOf (length ar) a fill ids₁ ws₁) s′))
+
       -- the last round is made
       pub going-last : more ≡ 1 → Gone ar a e b fill most ids₀ ws₀ ids₁ ws₁ hi w
       going-last q = record {
@@ -276,3 +334,9 @@ module _ (ar : List ℕ) (a e b fill most : ℕ) (ids₀ ws₀ : List ℕ) (x : 
           same = ap (rounds (netAt b ar ws₀) (more - 1)) front₂ ∙ same₁;
           watched = watched₂ (omega (arith, v .some));
         }
+
+        pub told-next : (y₀ s s′ : Story)
+            → roundsTell (netAt b ar ws₀) most (frontOf (length ar) a fill ids₀ ws₀) y₀ ≡ roundsTell (netAt b ar ws₀) more (frontOf (length ar) a fill ids ws) s
+            → RoundTold (netAt b ar ws) (marksAt (length ar) ids ws) ws e lo hi s s′
+            → roundsTell (netAt b ar ws₀) most (frontOf (length ar) a fill ids₀ ws₀) y₀ ≡ roundsTell (netAt b ar ws₀) (more - 1) (frontOf (length ar) a fill ids₁ ws₂) s′
+        told-next y₀ s s′ t r = told₁ y₀ s s′ t r ∙ ap (λ (p : Spread). roundsTell (netAt b ar ws₀) (more - 1) p s′) (sym front₂)

@@ -5,6 +5,7 @@ use crate::round::rounds;
 use field::place::NO_SPAN;
 use field::read::at8;
 use field::read::at16;
+use flood::story::Story;
 use net::Sections;
 use space::clear_part;
 ghost use mathlib.Core.Path.{_≡_};
@@ -12,10 +13,12 @@ ghost use Prim.Native.Nat.{_+_, _*_, _<_, _≤_};
 ghost use lib.ListN.{length, getD, set, drop};
 ghost use Rattle.rules.specs.Field.{none};
 ghost use Rattle.rules.specs.Growth.{expand, expandStrays, blank};
+ghost use Rattle.rules.specs.Reasons.{expandTells};
 ghost use Rattle.rules.specs.Refusals.{mostSpans};
 ghost use Rattle.space.specs.Space.{sec};
 ghost use Rattle.net.specs.Table.{netAt, lastPlace, Mutual};
 ghost use Rattle.flood.specs.Stack.{marksAt};
+ghost use Rattle.flood.specs.Stories.{storyOf};
 ghost use Rattle.expand.specs.Layout.{fresh, mostAt, pushAt, fillAt, Past, Entries, Kept, Given, Using, Filling, Last};
 ghost use Rattle.expand.specs.Front.{Settled};
 
@@ -78,7 +81,13 @@ fn settle(ids: &[u16], ws: &mut [u16], n: usize, at: Sections, stack: Stack, k: 
     clear_part(ws, at.changes, at.changes + 3 * k);
 }
 
-// Expands the stack at a level. Tells whether a sum exceeded what a source distance can be.
+// Whether a sum exceeded what a source distance can be, and the story of the watched span.
+pub struct Expanded {
+    pub strays: bool,
+    pub story: Story,
+}
+
+// Expands the stack at a level. Tells whether a sum exceeded what a source distance can be, and what it did to the watched span.
 pub fn expand_regions(
     area: &[u8],
     ids: &mut [u16],
@@ -86,7 +95,8 @@ pub fn expand_regions(
     at: Sections,
     stack: Stack,
     level: u16,
-) -> bool
+    story: Story,
+) -> Expanded
     requires { ⌜ Mutual (netAt (at .table) (now area) (now ws)) × (at .stack ≡ at .changes + 3 * length (now area)) ⌝ }
     requires { ⌜ Given (length (now area)) (stack .at) (at .changes) (at .table) (stack .fill) (now ids) (now ws) ⌝ }
     ensures { λ _. ⌜ (let n = length (now (area .entry)) in
@@ -96,17 +106,24 @@ pub fn expand_regions(
         ≡ expand net level before (sec (stack .at) (stack .fill) (now (ws .entry)))) ⌝ }
     ensures { λ r. ⌜ (let net = netAt (at .table) (now (area .entry)) (now (ws .entry)) in
         let before = marksAt (length (now (area .entry))) (now (ids .entry)) (now (ws .entry)) in
-        r ≡ expandStrays net level before (sec (stack .at) (stack .fill) (now (ws .entry)))) ⌝ }
+        r .strays ≡ expandStrays net level before (sec (stack .at) (stack .fill) (now (ws .entry)))) ⌝ }
     ensures { λ _. ⌜ Kept (length (now (area .entry))) (stack .at) (stack .fill) (now (ws .entry)) (now (ws .exit)) ⌝ }
     ensures { λ _. ⌜ Given (length (now (area .entry))) (stack .at) (at .changes) (at .table) (stack .fill) (now (ids .exit)) (now (ws .exit)) ⌝ }
+    ensures { λ r. ⌜ (let net = netAt (at .table) (now (area .entry)) (now (ws .entry)) in
+        let before = marksAt (length (now (area .entry))) (now (ids .entry)) (now (ws .entry)) in
+        storyOf (r .story) ≡ expandTells net level before (sec (stack .at) (stack .fill) (now (ws .entry))) (storyOf story)) ⌝ }
 {
     let n = area.len();
     use_up(ids, ws, stack);
     flag_all(ws, n, at.stack, stack, 1);
     let most = most_rounds(level, stack.fill);
-    let t = rounds(area, ids, ws, at, stack, most);
+    let t = rounds(area, ids, ws, at, stack, most, story);
     settle(ids, ws, n, at, stack, t.noted);
-    t.strays
+    let told = t.story;
+    Expanded {
+        strays: t.strays,
+        story: told,
+    }
 }
 
 // Span s is stacked, with fill spans on the stack at n, if it is walkable and has id 0. Gives the stack's new fill.
@@ -142,8 +159,14 @@ fn fill_stack(area: &[u8], ids: &[u16], ws: &mut [u16]) -> usize
 }
 
 // Expands all walkable spans of id 0 at level 0, with no limit of rounds; their stack is past the source distances. Tells whether a sum exceeded
-// what a source distance can be.
-pub fn expand_last(area: &[u8], ids: &mut [u16], ws: &mut [u16], at: Sections) -> bool
+// what a source distance can be, and what it did to the watched span.
+pub fn expand_last(
+    area: &[u8],
+    ids: &mut [u16],
+    ws: &mut [u16],
+    at: Sections,
+    story: Story,
+) -> Expanded
     requires { ⌜ Mutual (netAt (at .table) (now area) (now ws)) × (at .stack ≡ at .changes + 3 * length (now area)) ⌝ }
     requires { ⌜ Last (length (now area)) (at .changes) (at .table) (now ids) (now ws) ⌝ }
     ensures { λ _. ⌜ (let n = length (now (area .entry)) in
@@ -152,12 +175,15 @@ pub fn expand_last(area: &[u8], ids: &mut [u16], ws: &mut [u16], at: Sections) -
         marksAt n (now (ids .exit)) (now (ws .exit)) ≡ expand net 0 before (blank (now (area .entry)) (now (ids .entry))) .marks) ⌝ }
     ensures { λ r. ⌜ (let net = netAt (at .table) (now (area .entry)) (now (ws .entry)) in
         let before = marksAt (length (now (area .entry))) (now (ids .entry)) (now (ws .entry)) in
-        r ≡ expandStrays net 0 before (blank (now (area .entry)) (now (ids .entry)))) ⌝ }
+        r .strays ≡ expandStrays net 0 before (blank (now (area .entry)) (now (ids .entry)))) ⌝ }
     ensures { λ _. ⌜ drop (length (now (area .entry))) (now (ws .exit)) ≡ drop (length (now (area .entry))) (now (ws .entry)) ⌝ }
+    ensures { λ r. ⌜ (let net = netAt (at .table) (now (area .entry)) (now (ws .entry)) in
+        let before = marksAt (length (now (area .entry))) (now (ids .entry)) (now (ws .entry)) in
+        storyOf (r .story) ≡ expandTells net 0 before (blank (now (area .entry)) (now (ids .entry))) (storyOf story)) ⌝ }
 {
     let n = area.len();
     let fill = fill_stack(area, ids, ws);
-    let strays = expand_regions(area, ids, ws, at, Stack { at: n, fill }, 0);
+    let r = expand_regions(area, ids, ws, at, Stack { at: n, fill }, 0, story);
     clear_part(ws, n, n + fill);
-    strays
+    r
 }

@@ -9,9 +9,11 @@ ghost use Prim.Native.Nat.{_+_, _<_, _≤_};
 ghost use lib.ListN.{length, getD};
 ghost use Rattle.rules.specs.Base.{_or_};
 ghost use Rattle.rules.specs.Growth.{look, takes, exceeds, strays};
+ghost use Rattle.rules.specs.Reasons.{gives};
 ghost use Rattle.net.specs.Table.{netAt};
 ghost use Rattle.flood.specs.Stack.{marksAt};
 ghost use Rattle.expand.specs.Layout.{takenOf, Sight};
+ghost use Rattle.expand.specs.Told.{sourceAt};
 
 // An id, and the source distance that goes with it; and whether a sum exceeded what a source distance can be.
 pub struct Taken {
@@ -116,4 +118,67 @@ pub(crate) fn takes(
         t = look(area, ids, ws, table, span, own, d, t);
     }
     t
+}
+
+// Has the neighbour in direction d, of an entry of the area own, an id to give, and the sum far?
+fn gives(
+    area: &[u8],
+    ids: &[u16],
+    ws: &[u16],
+    table: usize,
+    span: SpanIx,
+    own: usize,
+    d: usize,
+    far: usize,
+) -> bool
+    requires { ⌜ Sight table (now area) (now ids) (now ws) (span .0) × (d < 4) × (own ≡ getD (now area) (span .0) 0) × (own < 256) ⌝ }
+    ensures { λ r. ⌜ (let net = netAt table (now (area .entry)) (now (ws .entry)) in
+        let marks = marksAt (length (now (area .entry))) (now (ids .entry)) (now (ws .entry)) in
+        r ≡ gives net marks (span .0) far d) ⌝ }
+{
+    let a = neighbour(ws, table, span, d).0;
+    if a == NO_SPAN {
+        return false;
+    }
+    if at8(area, a) != own {
+        return false;
+    }
+    let r = id_at(ids, a);
+    if r == RegionId::NONE.0 {
+        return false;
+    }
+    if RegionId(r).is_border() {
+        return false;
+    }
+    if source_at(ws, a) as usize + 2 == far {
+        return true;
+    }
+    false
+}
+
+// The first neighbour of entry span with the sum far.
+pub(crate) fn source(
+    area: &[u8],
+    ids: &[u16],
+    ws: &[u16],
+    table: usize,
+    span: SpanIx,
+    far: usize,
+) -> usize
+    requires { ⌜ Sight table (now area) (now ids) (now ws) (span .0) ⌝ }
+    ensures { λ r. ⌜ (let net = netAt table (now (area .entry)) (now (ws .entry)) in
+        let marks = marksAt (length (now (area .entry))) (now (ids .entry)) (now (ws .entry)) in
+        r ≡ sourceAt net marks (span .0) far) ⌝ }
+{
+    let own = at8(area, span.0);
+    if gives(area, ids, ws, table, span, own, 0, far) {
+        return neighbour(ws, table, span, 0).0;
+    }
+    if gives(area, ids, ws, table, span, own, 1, far) {
+        return neighbour(ws, table, span, 1).0;
+    }
+    if gives(area, ids, ws, table, span, own, 2, far) {
+        return neighbour(ws, table, span, 2).0;
+    }
+    neighbour(ws, table, span, 3).0
 }

@@ -10,6 +10,7 @@ use Rattle.rules.specs.Base.{_and_, _or_, if_then_else_, any}
 use Rattle.rules.specs.Growth.{flagged}
 use Rattle.rules.specs.Records.{Rec, at}
 use Rattle.rules.specs.Filter.{seen, Gather, gather, total, removeAll}
+use Rattle.rules.specs.Reasons.{groupCount}
 use Rattle.laws.proofs.FilterEnds.{ahead}
 use Rattle.space.specs.Space.{stackAt}
 use Rattle.table.specs.View.{part, recsOf, Held}
@@ -66,3 +67,7 @@ unfoldable pub filterGroup : ℕ → ℕ → List Rec → List Rec
 filterGroup least i rs =
     let g = gather (suc (length rs)) (i ∷ []) (set rs i (seen (at rs i))) [] in
     if small least rs (g .found) then removeAll (g .found) (g .recs) else g .recs
+
+-- the count of the group that record i begins, 0 where it begins none
+unfoldable pub turnCount : ℕ → List Rec → ℕ
+turnCount i rs = if eqb (at rs i .id) 0 or eqb (at rs i .count) 0 or at rs i .visited then 0 else groupCount i rs

@@ -1,6 +1,8 @@
 // The filter: groups of records under the least area are removed.
 mod gather;
 mod remove;
+mod told;
 mod whole;
 
+pub use crate::told::filter_told;
 pub use crate::whole::filter;

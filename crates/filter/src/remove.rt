@@ -14,7 +14,7 @@ ghost use Rattle.table.specs.View.{part, recsOf, Held};
 ghost use Rattle.filter.specs.Group.{listsFlagged, anyFlagged, small, removeSmall, Found, Calm};
 
 // The spans of the f found.
-fn total(ws: &[u16], m: usize, f: usize) -> usize
+pub(crate) fn total(ws: &[u16], m: usize, f: usize) -> usize
     requires { ⌜ Held m (7 * m) (11 * m) (now ws) ⌝ }
     requires { ⌜ Found m f (now ws) ⌝ }
     requires { ⌜ f ≤ m ⌝ }
@@ -58,14 +58,15 @@ fn any_flagged(ws: &[u16], m: usize, f: usize) -> bool
     false
 }
 
-// Is the group to go?
-fn small(ws: &[u16], m: usize, f: usize, least: u16) -> bool
+// Is the group of that count to go?
+fn small(ws: &[u16], m: usize, f: usize, least: u16, count: usize) -> bool
     requires { ⌜ Held m (7 * m) (11 * m) (now ws) ⌝ }
     requires { ⌜ Found m f (now ws) ⌝ }
     requires { ⌜ f ≤ m ⌝ }
+    requires { ⌜ count ≡ total (recsOf (now ws) m) (part (6 * m) (6 * m + f) (now ws)) ⌝ }
     ensures { λ r. ⌜ r ≡ small least (recsOf (now (ws .entry)) m) (part (6 * m) (6 * m + f) (now (ws .entry))) ⌝ }
 {
-    if least as usize <= total(ws, m, f) {
+    if least as usize <= count {
         return false;
     }
     if any_flagged(ws, m, f) {
@@ -103,16 +104,17 @@ fn remove_all(ws: &mut [u16], m: usize, f: usize)
     }
 }
 
-// A small group is removed.
-pub(crate) fn remove_small(ws: &mut [u16], m: usize, f: usize, least: u16)
+// A small group is removed; count is its own.
+pub(crate) fn remove_small(ws: &mut [u16], m: usize, f: usize, least: u16, count: usize)
     requires { ⌜ Held m (7 * m) (11 * m) (now ws) ⌝ }
     requires { ⌜ Found m f (now ws) ⌝ }
     requires { ⌜ f ≤ m ⌝ }
+    requires { ⌜ count ≡ total (recsOf (now ws) m) (part (6 * m) (6 * m + f) (now ws)) ⌝ }
     ensures { λ _. ⌜ recsOf (now (ws .exit)) m ≡ removeSmall least (recsOf (now (ws .entry)) m) (part (6 * m) (6 * m + f) (now (ws .entry))) ⌝ }
     ensures { λ _. ⌜ Held m (7 * m) (11 * m) (now (ws .exit)) ⌝ }
     ensures { λ _. ⌜ Frame 0 (2 * m) (now (ws .entry)) (now (ws .exit)) ⌝ }
 {
-    if small(ws, m, f, least) {
+    if small(ws, m, f, least, count) {
         remove_all(ws, m, f);
     }
 }

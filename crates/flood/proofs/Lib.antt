@@ -4,3 +4,4 @@ pub mod Sight
 pub mod Pushes
 pub mod Visits
 pub mod Floods
+pub mod Stories

@@ -1,6 +1,8 @@
 // The flood over its stack.
 use crate::look::Seed;
 use crate::look::objects;
+use crate::story::Story;
+use crate::story::tell_visit;
 use field::place::NO_LAYER;
 use field::place::SpanIx;
 use field::place::connections;
@@ -13,10 +15,12 @@ ghost use Prim.Native.Nat.{_+_, _-_, _<_, _≤_};
 ghost use lib.ListN.{length, getD, set, drop};
 ghost use Rattle.rules.specs.Base.{upto};
 ghost use Rattle.rules.specs.Growth.{pushed, visit, flood};
+ghost use Rattle.rules.specs.Reasons.{floodTells};
 ghost use Rattle.space.specs.Space.{tally};
 ghost use Rattle.net.specs.Table.{netAt, Lent, AtSpan};
 ghost use Rattle.flood.specs.Looks.{seedOf};
 ghost use Rattle.flood.specs.Stack.{marksAt, flowAt, Placed, Flooding, Blank, Kept, Pushed, Begins};
+ghost use Rattle.flood.specs.Stories.{storyOf};
 
 // The stack's height, and how many spans count.
 pub struct Height {
@@ -155,7 +159,13 @@ fn below(level: u16) -> u16
     level - 2
 }
 
-// Floods from a span with the id. Gives how many spans count.
+// How many spans count, and the story of the watched span.
+pub struct Flooded {
+    pub count: usize,
+    pub story: Story,
+}
+
+// Floods from a span with the id. Gives how many spans count, and what it did to the watched span.
 pub fn flood_region(
     area: &[u8],
     con: &[u8],
@@ -166,15 +176,19 @@ pub fn flood_region(
     from: SpanIx,
     level: u16,
     id: u16,
-) -> usize
+    story: Story,
+) -> Flooded
     requires { ⌜ Lent (at .table) (now area) (now con) (now ws) × Placed (length (now area)) at (now dist) (now ids) ⌝ }
     requires { ⌜ Begins id (from .0) (now ids) × Blank (length (now area)) (at .stack) 0 (now ws) ⌝ }
-    ensures { λ count. ⌜ (let n = length (now (area .entry)) in
+    ensures { λ r. ⌜ (let n = length (now (area .entry)) in
         let net = netAt (at .table) (now (area .entry)) (now (ws .entry)) in
-        record { todo = []; marks = marksAt n (now (ids .exit)) (now (ws .exit)); count = count }
+        record { todo = []; marks = marksAt n (now (ids .exit)) (now (ws .exit)); count = r .count }
         ≡ flood net (now (dist .entry)) level id (marksAt n (now (ids .entry)) (now (ws .entry))) (from .0)) ⌝ }
-    ensures { λ count. ⌜ (let n = length (now (area .entry)) in
-        (drop n (now (ws .exit)) ≡ drop n (now (ws .entry))) × (tally id (now (ids .exit)) ≡ count)) ⌝ }
+    ensures { λ r. ⌜ (let n = length (now (area .entry)) in
+        (drop n (now (ws .exit)) ≡ drop n (now (ws .entry))) × (tally id (now (ids .exit)) ≡ r .count)) ⌝ }
+    ensures { λ r. ⌜ (let net = netAt (at .table) (now (area .entry)) (now (ws .entry)) in
+        let before = marksAt (length (now (area .entry))) (now (ids .entry)) (now (ws .entry)) in
+        storyOf (r .story) ≡ floodTells net (now (dist .entry)) level id before (from .0) (storyOf story)) ⌝ }
 {
     let s = from.0;
     let stack = at.stack;
@@ -187,8 +201,13 @@ pub fn flood_region(
     ws[s] = 0;
     ws[stack] = s as u16;
     let mut height = Height { top: 1, count: 0 };
+    let mut told = story;
     while 0 < height.top {
+        told = tell_visit(area, con, ids, ws, at, seed, height, told);
         height = visit(area, con, dist, ids, ws, at, seed, height);
     }
-    height.count
+    Flooded {
+        count: height.count,
+        story: told,
+    }
 }

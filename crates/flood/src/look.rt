@@ -22,14 +22,14 @@ pub struct Seed {
 }
 
 // What a span sees in one direction: nothing, the end of the looking, or an objection.
-const NOTHING: u8 = 0;
+pub(crate) const NOTHING: u8 = 0;
 
 const THE_END: u8 = 1;
 
-const OBJECTION: u8 = 2;
+pub(crate) const OBJECTION: u8 = 2;
 
 // Another nonzero id?
-fn other(region: u16, id: u16) -> bool
+pub(crate) fn other(region: u16, id: u16) -> bool
     ensures { λ r. ⌜ r ≡ other id region ⌝ }
 {
     if region == RegionId::NONE.0 {
@@ -56,7 +56,7 @@ fn bears(area: &[u8], ids: &[u16], span: SpanIx, seed: Seed) -> bool
 }
 
 // What a span that has the connections cons sees in direction d.
-fn sees(
+pub(crate) fn sees(
     area: &[u8],
     ids: &[u16],
     ws: &[u16],

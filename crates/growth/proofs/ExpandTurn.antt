@@ -10,6 +10,7 @@ use lib.ListN.{length, getD, set}
 use Rattle.rules.specs.Field.{none}
 use Rattle.rules.specs.Net.{Net, spans}
 use Rattle.rules.specs.Growth.{Spread, expand, expandStrays}
+use Rattle.rules.specs.Reasons.{Story, expandTells}
 use Rattle.rules.specs.Refusals.{mostSpans}
 use Rattle.laws.proofs.Basics.{All, All-map}
 use Rattle.laws.proofs.Grows.{Inside, expand-down}
@@ -141,3 +142,7 @@ module _ (ar con : List ℕ) (at : Sections) (next : ℕ) (fs : List ℕ) (j : �
     pub strays-as : (level : ℕ) (o : Bool) → o ≡ expandStrays (netAt (at .table) ar ws) level (marksAt (length ar) ids ws) (sec a fill ws)
         → o ≡ expandStrays (netAt (at .table) ar ws) level (marksAt (length ar) ids ws) (getD (stacksAt (length ar) ws fs) j [])
     strays-as level o e = e ∙ rw (ea, ef, stack-is)
+
+    pub told-as : (level : ℕ) (y y′ : Story) → y′ ≡ expandTells (netAt (at .table) ar ws) level (marksAt (length ar) ids ws) (sec a fill ws) y
+        → y′ ≡ expandTells (netAt (at .table) ar ws) level (marksAt (length ar) ids ws) (getD (stacksAt (length ar) ws fs) j []) y
+    told-as level y y′ e = e ∙ rw (ea, ef, stack-is)

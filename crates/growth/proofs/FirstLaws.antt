@@ -10,6 +10,7 @@ use Rattle.rules.specs.Base.{upto}
 use Rattle.rules.specs.Field.{Field}
 use Rattle.rules.specs.Net.{netOf}
 use Rattle.rules.specs.Growth.{Marks, Turn, turn, expand, blank, painted, firstId, grown, stops}
+use Rattle.rules.specs.Reasons.{Story, begins, story}
 use Rattle.rules.specs.Refusals.{mostSpans}
 use Rattle.laws.proofs.Lengths.{painted-length}
 use Rattle.laws.proofs.Grows.{first-few}
@@ -25,8 +26,8 @@ use Rattle.net.proofs.Tables.{net-same}
 use Rattle.net.proofs.Fills.{net-lent, mutual-of}
 use Rattle.flood.specs.Stack.{marksAt}
 use Rattle.growth.specs.Floods.{IdsBelowNext}
-use Rattle.growth.specs.Turns.{SectionsFor, Between, turnsOf}
-use Rattle.growth.specs.Grow.{turnsFor, stopsOf, Grew, Poised, Full}
+use Rattle.growth.specs.Turns.{SectionsFor, Between, begun, turnsOf}
+use Rattle.growth.specs.Grow.{turnsFor, stopsOf, tellsOf, Grew, Poised, Full}
 
 marks-eq : {a a′ s s′ : List ℕ} → a ≡ a′ → s ≡ s′ → _≡_ {A = Marks} (record { ids = a; src = s }) (record { ids = a′; src = s′ })
 marks-eq p q = rw (p, q)
@@ -115,6 +116,11 @@ module _ (w h : ℕ) (is ks ar cs dist : List ℕ) (b most border : ℕ) (ids ws
   rule-stops : stopsOf (netAt b ar ws₁) ar dist (turnsFor most) (record { marks = marksAt (length ar) ids₁ ws₁; stacks = []; next = first }) ≡ stops G dist most border
   unfolding stopsOf stops
   rule-stops = let e : 2 * turnsFor most / 2 ≡ turnsFor most = omega arith in rw (m, marks₁, r, e)
+
+  pub rule-story : (s : ℕ) (y : Story) → y ≡ begins s → (table : ℕ) → table ≡ b
+      → tellsOf (netAt table ar ws₁) ar dist (turnsFor most) (begun (length ar) ids₁ ws₁ first) y ≡ story G dist most border s
+  unfolding tellsOf story
+  rule-story s y q table tb = let e : 2 * turnsFor most / 2 ≡ turnsFor most = omega arith in rw (tb, q, m, marks₁, r, e)
 
   pub full : (table next stop : ℕ) (ids₂ ws₂ ws₃ : List ℕ) → table ≡ b → Grew ar dist table most first ids₁ ws₁ next stop ids₂ ws₂ → length ws₃ ≡ length ws₂ → length ws₂ ≡ length ws₁
       → Clear 0 (length ar) ws₃ → Frame 0 (length ar) ws₂ ws₃ → Full G dist most border b ws next stop ids₂ ws₃

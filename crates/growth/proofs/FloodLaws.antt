@@ -15,6 +15,7 @@ use Rattle.rules.specs.Base.{_and_, _or_, if_then_else_}
 use Rattle.rules.specs.Field.{none}
 use Rattle.rules.specs.Net.{Net, spans, areaOf}
 use Rattle.rules.specs.Growth.{Marks, idOf, Flow, flood, floods, floodsRunOut, Ids}
+use Rattle.rules.specs.Reasons.{Story, floodTells, floodsTell}
 use Rattle.rooms.proofs.Flooding.{flood-leaves}
 use Rattle.net.specs.Table.{netAt, Lent}
 use Rattle.net.proofs.Tables.{spans-at, area-at, net-same, lent-same}
@@ -22,7 +23,7 @@ use Rattle.flood.specs.Stack.{marksAt, Begins, Blank}
 use lib.Seq.{getD-drop, drop-cons}
 use Rattle.space.specs.Space.{sec}
 use Rattle.space.proofs.Laws.{tally-none, sec-drop}
-use Rattle.growth.specs.Floods.{floodOne, IdsBelowNext, FloodedFrom, EntriesAt}
+use Rattle.growth.specs.Floods.{floodOne, oneTells, IdsBelowNext, FloodedFrom, EntriesAt}
 
 -- the next id is borne by no span
 pub next-begins : (n next e : ℕ) (ids : List ℕ) → IdsBelowNext n next ids → e < n → getD ids e 0 ≡ 0 → Begins next e ids
@@ -105,6 +106,32 @@ module _ (N : Net) (dist : List ℕ) (level e id : ℕ) (m : Marks) where
   unfolding floods floodOne
   floods-step es = on-either N dist level es (not (eqb e none) and eqb (idOf m e) 0) _ _ _ _
 
+-- what a flood from an entry does to the watched span
+tells-either : (N : Net) (dist : List ℕ) (level : ℕ) (es : List ℕ) (t : Bool) (p q : Marks) (i j : ℕ) (y z : Story)
+    → (if t then floodsTell N dist level es p i y else floodsTell N dist level es q j z)
+    ≡ floodsTell N dist level es (either-ids t p q i j .marks) (either-ids t p q i j .next) (if t then y else z)
+unfolding if_then_else_
+tells-either N dist level es true p q i j y z = refl
+tells-either N dist level es false p q i j y z = refl
+
+module _ (N : Net) (dist : List ℕ) (level e id : ℕ) (m : Marks) (y : Story) where
+  pub tells-used : e ≡ none → y ≡ oneTells N dist level e m id y
+  unfolding oneTells _and_ if_then_else_
+  tells-used h = rw (eq-eqb e none h)
+
+  pub tells-has-id : (e ≡ none → ⊥) → (idOf m e ≡ 0 → ⊥) → y ≡ oneTells N dist level e m id y
+  unfolding oneTells _and_ if_then_else_
+  tells-has-id h k = rw (ne-eqb e none h, ne-eqb (idOf m e) 0 k)
+
+  pub tells-flood : (e ≡ none → ⊥) → idOf m e ≡ 0 → (y′ : Story) → y′ ≡ floodTells N dist level id m e y → y′ ≡ oneTells N dist level e m id y
+  unfolding oneTells _and_ if_then_else_
+  tells-flood h k y′ q = rw (ne-eqb e none h, eq-eqb (idOf m e) 0 k) q
+
+  tells-step : (es : List ℕ)
+      → floodsTell N dist level (e ∷ es) m id y ≡ floodsTell N dist level es (floodOne N dist level e m id .marks) (floodOne N dist level e m id .next) (oneTells N dist level e m id y)
+  unfolding floodsTell floodOne oneTells
+  tells-step es = tells-either N dist level es (not (eqb e none) and eqb (idOf m e) 0) _ _ _ _ _ _
+
 -- ids run out at an entry, or at those after it
 pub run-step : (N : Net) (dist : List ℕ) (level e id : ℕ) (m : Marks) (es : List ℕ) → id < 0x8000
     → floodsRunOut N dist level (e ∷ es) m id
@@ -176,12 +203,23 @@ pub record FloodedTo (ar dist : List ℕ) (b a fill level next : ℕ) (ids₀ ws
   pub out : floodsRunOut (netAt b ar ws₀) dist level (sec a fill ws₀) (marksAt (length ar) ids₀ ws₀) next
       ≡ floodsRunOut (netAt b ar ws₀) dist level (sec (a + j) (fill - j) ws) (marksAt (length ar) ids ws) id
 
+-- y₀ is the watched span's story before the floods, y the one so far: the rest tells what all tell
+pub record FloodsTold (ar dist : List ℕ) (b a fill level next : ℕ) (ids₀ ws₀ : List ℕ) (y₀ : Story) (ids ws : List ℕ) (j id : ℕ) (y : Story) : Type 0 where
+  pub told : floodsTell (netAt b ar ws₀) dist level (sec a fill ws₀) (marksAt (length ar) ids₀ ws₀) next y₀
+      ≡ floodsTell (netAt b ar ws₀) dist level (sec (a + j) (fill - j) ws) (marksAt (length ar) ids ws) id y
+
 module _ (ar con dist : List ℕ) (b a fill level next : ℕ) (ids₀ ws₀ : List ℕ) (l : Lent b ar con ws₀) (en : EntriesAt (length ar) a fill ws₀) (ro : length ar ≤ b) where
   pub flooded-start : IdsBelowNext (length ar) next ids₀ → FloodedTo ar dist b a fill level next ids₀ ws₀ ids₀ ws₀ 0 next
   flooded-start v =
       let z : a + 0 ≡ a = omega arith in
       let y : fill - 0 ≡ fill = omega arith in
       record { within = omega arith; size₁ = refl; size₂ = refl; past = refl; ids-below = v; same = rw (z, y); out = rw (z, y) }
+
+  pub told-start : (y : Story) → FloodsTold ar dist b a fill level next ids₀ ws₀ y ids₀ ws₀ 0 next y
+  told-start y =
+      let z : a + 0 ≡ a = omega arith in
+      let k : fill - 0 ≡ fill = omega arith in
+      record { told = rw (z, k) }
 
   module _ (ids ws : List ℕ) (j id : ℕ) (v : FloodedTo ar dist b a fill level next ids₀ ws₀ ids ws j id) where
     flooded-net : netAt b ar ws ≡ netAt b ar ws₀
@@ -239,6 +277,17 @@ module _ (ar con dist : List ℕ) (b a fill level next : ℕ) (ids₀ ws₀ : Li
         out = out-step ∙ rw (ne-eqb r 0x8000 (λ z. omega (arith, s .plain)));
       }
 
+      pub told-next : (y₀ y y′ : Story) → FloodsTold ar dist b a fill level next ids₀ ws₀ y₀ ids ws j id y
+          → y′ ≡ oneTells (netAt b ar ws) dist level e (marksAt (length ar) ids ws) id y → FloodsTold ar dist b a fill level next ids₀ ws₀ y₀ ids′ ws′ (j + 1) r y′
+      told-next y₀ y y′ u t = record {
+        told =
+            u .told ∙ ap (λ (t : List ℕ). floodsTell N dist level t (marksAt (length ar) ids ws) id y) (entry-cons e h q)
+            ∙ tells-step N dist level e id (marksAt (length ar) ids ws) y (sec (a + j + 1) (fill - (j + 1)) ws)
+            ∙ ap (λ (x : Ids). floodsTell N dist level (sec (a + j + 1) (fill - (j + 1)) ws) (x .marks) (x .next) (oneTells N dist level e (marksAt (length ar) ids ws) id y)) (sym m)
+            ∙ ap (λ (t : List ℕ). floodsTell N dist level t (marksAt (length ar) ids′ ws′) r (oneTells N dist level e (marksAt (length ar) ids ws) id y)) rest
+            ∙ ap (floodsTell N dist level (sec (a + (j + 1)) (fill - (j + 1)) ws′) (marksAt (length ar) ids′ ws′) r) (sym (rw flooded-net at t));
+      }
+
       -- the next id is the flag
       pub flooded-out : r ≡ 0x8000 → FloodedFrom (netAt b ar ws₀) dist level (sec a fill ws₀) (length ar) next ids₀ ws₀ r ids′ ws′
       unfolding _or_
@@ -252,3 +301,8 @@ module _ (ar con dist : List ℕ) (b a fill level next : ℕ) (ids₀ ws₀ : Li
         let z : fill - j ≡ 0 = omega arith in
         let o : floodsRunOut (netAt b ar ws₀) dist level (sec a fill ws₀) (marksAt (length ar) ids₀ ws₀) next ≡ false = rw z at (v .out) in
         record { out = ne-eqb id 0x8000 (λ q. omega (arith, v .ids-below .plain)) ∙ sym o; past = v .past; same = λ _. sym (rw z at (v .same)); below = λ _. v .ids-below }
+
+    pub told-end : (y₀ y : Story) → FloodsTold ar dist b a fill level next ids₀ ws₀ y₀ ids ws j id y → fill ≤ j
+        → y ≡ floodsTell (netAt b ar ws₀) dist level (sec a fill ws₀) (marksAt (length ar) ids₀ ws₀) next y₀
+    unfolding floodsTell
+    told-end y₀ y u h = let z : fill - j ≡ 0 = omega arith in sym (rw z at (u .told))

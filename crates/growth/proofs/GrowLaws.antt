@@ -8,6 +8,7 @@ use lib.ListN.{length, getD, drop}
 use Rattle.rules.specs.Base.{if_then_else_}
 use Rattle.rules.specs.Net.{Net}
 use Rattle.rules.specs.Growth.{Marks, expand, expandStrays, orElse, blank, turnsStop}
+use Rattle.rules.specs.Reasons.{Story, expandTells, turnsTell}
 use Rattle.space.specs.Space.{Frame, Clear}
 use Rattle.space.proofs.Laws.{getD-after}
 use Rattle.net.specs.declared.Sections.{Sections}
@@ -15,8 +16,8 @@ use Rattle.net.specs.Table.{netAt, Mutual}
 use Rattle.flood.specs.Stack.{marksAt}
 use Rattle.expand.specs.Layout.{Last}
 use Rattle.expand.proofs.Lists.{marks-same}
-use Rattle.growth.specs.Turns.{Between, turnsOf, AllTurns}
-use Rattle.growth.specs.Grow.{turnsFor, stopsOf, Grew}
+use Rattle.growth.specs.Turns.{Between, begun, turnsOf, AllTurns}
+use Rattle.growth.specs.Grow.{turnsFor, stopsOf, tellsOf, Grew}
 use Rattle.growth.proofs.FloodLaws.{past-same}
 use Rattle.growth.proofs.KeptLaws.{few-spans, flags-clear, kept-net}
 
@@ -106,3 +107,12 @@ module _ (ar con dist : List ℕ) (at : Sections) (most next : ℕ) (ids ws : Li
       where
         last-is : (N N′ : Net) (x y : Marks) → N ≡ N′ → x ≡ y → expand N 0 x (blank ar (x .ids)) .marks ≡ expand N′ 0 y (blank ar (y .ids)) .marks
         last-is N N′ x y p q = rw (p, q)
+
+  pub grew-told : (y₀ y₁ y₂ : Story) → y₁ ≡ turnsTell (netAt (at .table) ar ws) dist (2 * count) count (begun (length ar) ids ws next) y₀
+      → y₂ ≡ expandTells (netAt (at .table) ar ws₂) 0 (marksAt (length ar) ids₁ ws₂) (blank ar ids₁) y₁
+      → y₂ ≡ tellsOf (netAt (at .table) ar ws) ar dist (turnsFor most) (begun (length ar) ids ws next) y₀
+  unfolding tellsOf
+  grew-told y₀ y₁ y₂ p q = q ∙ tells-is _ _ _ _ y₁ _ net₂ marks₂ (rw c at p)
+    where
+      tells-is : (N N′ : Net) (x y : Marks) (t t′ : Story) → N ≡ N′ → x ≡ y → t ≡ t′ → expandTells N 0 x (blank ar (x .ids)) t ≡ expandTells N′ 0 y (blank ar (y .ids)) t′
+      tells-is N N′ x y t t′ p q r = rw (p, q, r)

@@ -8,10 +8,11 @@ use lib.ListN.{length}
 use Rattle.rules.specs.Base.{upto}
 use Rattle.rules.specs.Net.{Net}
 use Rattle.rules.specs.Growth.{orElse, Turn, turn, turnStops, turnsStop}
+use Rattle.rules.specs.Reasons.{Story, turnTells, turnsTell}
 use Rattle.net.specs.declared.Sections.{Sections}
 use Rattle.net.specs.Table.{netAt}
 use Rattle.flood.specs.Stack.{marksAt}
-use Rattle.growth.specs.Turns.{stacksAt, Between, Turned, turnAt, stopsAt, turnsOf, SomeTurns, AllTurns}
+use Rattle.growth.specs.Turns.{stacksAt, Between, Turned, TurnTold, turnAt, stopsAt, tellsAt, begun, turnsOf, SomeTurns, AllTurns}
 use Rattle.growth.proofs.KeptLaws.{kept-net, kept-between}
 
 turn-at : (N : Net) (dist : List ℕ) (top k : ℕ) (t : Turn) → turn N dist top k t ≡ turnAt N dist (top - 2 * (k + 1)) (k % 8) t
@@ -21,6 +22,10 @@ turn-at N dist top k t = refl
 stops-at : (N : Net) (dist : List ℕ) (top k : ℕ) (t : Turn) → turnStops N dist top k t ≡ stopsAt N dist (top - 2 * (k + 1)) (k % 8) t
 unfolding turnStops stopsAt
 stops-at N dist top k t = refl
+
+tells-at : (N : Net) (dist : List ℕ) (top k : ℕ) (t : Turn) (y : Story) → turnTells N dist top k t y ≡ tellsAt N dist (top - 2 * (k + 1)) (k % 8) t y
+unfolding turnTells tellsAt
+tells-at N dist top k t y = refl
 
 or-first : (a b r : ℕ) → 0 < r → a ≡ r → orElse a b ≡ r
 unfolding orElse
@@ -38,6 +43,10 @@ stopped-on N dist top t k (suc n) r h p e =
     ]
 
 module _ (ar con dist : List ℕ) (at : Sections) (count next : ℕ) (ids ws : List ℕ) (b : Between ar con at next [] 7 ids ws) where
+  pub told-first : (y : Story) → y ≡ turnsTell (netAt (at .table) ar ws) dist (2 * count) 0 (begun (length ar) ids ws next) y
+  unfolding turnsTell
+  told-first y = refl
+
   -- no turn yet: the turn before the first has number 7, so its stacks are thrown away
   pub turns-start : (fs : List ℕ) → SomeTurns ar con dist at count next ids ws 0 next fs 7 ids ws
   unfolding upto turnsStop
@@ -82,6 +91,13 @@ module _ (ar con dist : List ℕ) (at : Sections) (count next : ℕ) (ids ws : L
             same = record { marks = ap (λ (z : Turn). z .marks) r; id = ap (λ (z : Turn). z .next) r; stacks = λ _. ap (λ (z : Turn). z .stacks) r };
             goes = stop-is ∙ z;
           }
+
+      pub turns-told : stop ≡ 0 → (y₀ y y′ : Story) → y ≡ turnsTell N dist (2 * count) k start y₀ → TurnTold ar dist (at .table) id fs j level ids₁ ws₁ stop y y′
+          → y′ ≡ turnsTell N dist (2 * count) (suc k) start y₀
+      unfolding turnsTell
+      turns-told z y₀ y y′ p q =
+          let r = q .told z (turnsOf N dist count (length ar) ids ws next k) (v .same) in
+          r ∙ rw (net-is, v .turn, e, ← p) (sym (tells-at N dist (2 * count) k _ y))
 
       pub turns-stopped : suc k ≤ count → (stop ≡ 0 → ⊥) → (last : ℕ) → AllTurns ar dist (at .table) count next ids ws last stop ids₂ ws₂
       turns-stopped h z last = record {

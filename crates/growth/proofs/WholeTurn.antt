@@ -12,13 +12,15 @@ use borrow.Author.Tests.{eq-eqb, ne-eqb}
 use Rattle.rules.specs.Base.{if_then_else_}
 use Rattle.rules.specs.Net.{Net}
 use Rattle.rules.specs.Growth.{Marks, sorted, remains, Turn, loaded, Spread, expand, expandStrays, Ids, floods, floodsRunOut}
+use Rattle.rules.specs.Reasons.{Story, expandTells, floodsTell}
+use Rattle.space.specs.Space.{sec}
 use Rattle.net.specs.declared.Sections.{Sections}
 use Rattle.net.specs.Table.{netAt}
 use Rattle.flood.specs.Stack.{marksAt}
 use Rattle.expand.proofs.Lists.{marks-same}
 use Rattle.levels.specs.Levels.{appended}
 use Rattle.levels.proofs.TurnLaws.{loaded-first, loaded-next}
-use Rattle.growth.specs.Turns.{after, stacksAt, stackOf, Loaded, Ready, Expanded, Flooded, Between, TurnIs, Turned, turnAt, stopsAt}
+use Rattle.growth.specs.Turns.{after, stacksAt, stackOf, Loaded, Ready, Expanded, Flooded, Between, TurnIs, Turned, TurnTold, turnAt, stopsAt, tellsAt}
 use Rattle.growth.proofs.KeptLaws.{kept-net, kept-between}
 
 turn-eq : {a a′ : Marks} {s s′ : List (List ℕ)} {n n′ : ℕ} → a ≡ a′ → s ≡ s′ → n ≡ n′ → _≡_ {A = Turn} (record { marks = a; stacks = s; next = n }) (record { marks = a′; stacks = s′; next = n′ })
@@ -145,3 +147,22 @@ module _ (ar con dist : List ℕ) (at : Sections) (next : ℕ) (fs : List ℕ) (
         stops = λ t o. rw (← l .turn) (stops-is t o 0 (rw (ne-eqb next′ 0x8000 z)));
         went = λ _. record { turn = l .turn; between = f .ready kept-on .between; same = λ t o. rule t o ∙ rw (l .turn) };
       }
+
+      pub turn-told : (a fill : ℕ) → a ≡ length ar + j′ * length ar → fill ≡ getD fs′ j′ 0 → (y₀ y₁ y₂ : Story)
+          → y₁ ≡ expandTells (netAt (at .table) ar ws₁) level (marksAt (length ar) ids ws₁) (getD (stacksAt (length ar) ws₁ fs′) j′ []) y₀
+          → y₂ ≡ floodsTell (netAt (at .table) ar ws₂) dist level (sec a fill ws₂) (marksAt (length ar) ids₂ ws₂) next y₁
+          → TurnTold ar dist (at .table) next fs j level ids ws 0 y₀ y₂
+      unfolding tellsAt
+      turn-told a fill ea ef y₀ y₁ y₂ p q = record {
+        told = λ _ t o.
+            let e = rule-expand t o in
+            let p′ : y₁ ≡ expandTells N level (t .marks) (entries t) y₀ = p ∙ rw (net₁, marks₁, loaded-is t o, ← o .marks) in
+            let q′ : y₂ ≡ floodsTell N dist level (expand N level (t .marks) (entries t) .stack) (expand N level (t .marks) (entries t) .marks) (t .next) y₁
+            = q ∙ rw (ea, ef, net₂, ← ap (λ (z : Spread). z .stack) e, ← ap (λ (z : Spread). z .marks) e, o .id) in
+            rw (← l .turn) (rw p′ at q′);
+      }
+
+-- a turn that is stopped tells nothing
+pub stopped-told : (ar dist : List ℕ) (table next : ℕ) (fs : List ℕ) (j level : ℕ) (ids ws : List ℕ) (stop : ℕ) (y y′ : Story) → 0 < stop
+    → TurnTold ar dist table next fs j level ids ws stop y y′
+stopped-told ar dist table next fs j level ids ws stop y y′ h = record { told = λ z. absurd (omega arith) }

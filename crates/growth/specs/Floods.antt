@@ -9,6 +9,7 @@ use Rattle.rules.specs.Base.{_and_, if_then_else_}
 use Rattle.rules.specs.Field.{none}
 use Rattle.rules.specs.Net.{Net}
 use Rattle.rules.specs.Growth.{Marks, idOf, flood, floods, floodsRunOut, Ids}
+use Rattle.rules.specs.Reasons.{Story, floodTells}
 use Rattle.net.specs.Table.{lastPlace}
 use Rattle.flood.specs.Stack.{marksAt}
 use Rattle.expand.specs.Layout.{Entries}
@@ -20,6 +21,10 @@ floodOne N dist level e m id =
     if not (eqb e none) and eqb (idOf m e) 0
     then record { marks = f .marks; next = if eqb (f .count) 0 then id else suc id }
     else record { marks = m; next = id }
+
+-- what it does to the watched span
+unfoldable pub oneTells : Net → List ℕ → ℕ → ℕ → Marks → ℕ → Story → Story
+oneTells N dist level e m id y = if not (eqb e none) and eqb (idOf m e) 0 then floodTells N dist level id m e y else y
 
 -- the ids that floods have given are below the next, which is not flagged; the others are flagged
 pub record IdsBelowNext (n next : ℕ) (ids : List ℕ) : Type 0 where

@@ -7,6 +7,7 @@ use Rattle.rules.specs.Field.{Field, spans}
 use Rattle.rules.specs.Base.{if_then_else_, upto}
 use Rattle.rules.specs.Net.{Net, netOf}
 use Rattle.rules.specs.Growth.{expand, expandStrays, orElse, blank, Turn, turn, turnsStop, grown, stops}
+use Rattle.rules.specs.Reasons.{Story, expandTells, turnsTell}
 use Rattle.space.specs.Space.{Clear}
 use Rattle.field.specs.Lent.{Sound, lent}
 use Rattle.net.specs.Table.{netAt, lastPlace}
@@ -22,6 +23,12 @@ unfoldable pub stopsOf : Net → List ℕ → List ℕ → ℕ → Turn → ℕ
 stopsOf N areas dist count start =
     let t = upto count (turn N dist (2 * count)) start in
     orElse (turnsStop N dist (2 * count) count start) (if expandStrays N 0 (t .marks) (blank areas (t .marks .ids)) then 13 else 0)
+
+-- what the turns and the last expansion do to the watched span
+unfoldable pub tellsOf : Net → List ℕ → List ℕ → ℕ → Turn → Story → Story
+tellsOf N areas dist count start y =
+    let t = upto count (turn N dist (2 * count)) start in
+    expandTells N 0 (t .marks) (blank areas (t .marks .ids)) (turnsTell N dist (2 * count) count start y)
 
 -- what the turns and the last expansion leave, where nothing stops them: the rule's marks, and the level stacks zeroed; past them all is as it was
 pub record Grew (area dist : List ℕ) (table most next : ℕ) (ids ws : List ℕ) (next′ stop : ℕ) (ids′ ws′ : List ℕ) : Type 0 where

@@ -8,6 +8,7 @@ use lib.Dec.{eqb}
 use Rattle.rules.specs.Base.{if_then_else_, upto}
 use Rattle.rules.specs.Net.{Net}
 use Rattle.rules.specs.Growth.{sorted, remains, Turn, loaded, expand, expandStrays, floods, floodsRunOut, turn, turnsStop}
+use Rattle.rules.specs.Reasons.{Story, expandTells, floodsTell}
 use Rattle.space.specs.Space.{sec, Clear}
 use Rattle.net.specs.declared.Sections.{Sections}
 use Rattle.net.specs.Table.{netAt, Mutual, Lent}
@@ -111,6 +112,13 @@ stopsAt N dist level j t =
     if expandStrays N level (t .marks) entries then 13 else
     if floodsRunOut N dist level (e .stack) (e .marks) (t .next) then 12 else 0
 
+-- what a turn at a level, with its number, does to the watched span
+unfoldable pub tellsAt : Net → List ℕ → ℕ → ℕ → Turn → Story → Story
+tellsAt N dist level j t y =
+    let entries = getD (loaded N dist level j t) j [] in
+    let e = expand N level (t .marks) entries in
+    floodsTell N dist level (e .stack) (e .marks) (t .next) (expandTells N level (t .marks) entries y)
+
 -- what a turn leaves where it is not stopped
 pub record Went (area con dist : List ℕ) (at : Sections) (next : ℕ) (fills : List ℕ) (j level : ℕ) (ids ws : List ℕ)
     (next′ : ℕ) (fills′ : List ℕ) (j′ : ℕ) (ids′ ws′ : List ℕ) : Type 0 where
@@ -127,6 +135,14 @@ pub record Turned (area con dist : List ℕ) (at : Sections) (next : ℕ) (fills
   pub past : (x : ℕ) → 9 * length area ≤ x → getD ws′ x 0 ≡ getD ws x 0
   pub stops : (t : Turn) → TurnIs (length area) next fills j ids ws t → stop ≡ stopsAt (netAt (at .table) area ws) dist level (after j) t
   pub went : stop ≡ 0 → Went area con dist at next fills j level ids ws next′ fills′ j′ ids′ ws′
+
+-- what a turn does to the watched span, where it is not stopped: the story was y, and is y′
+pub record TurnTold (area dist : List ℕ) (table next : ℕ) (fills : List ℕ) (j level : ℕ) (ids ws : List ℕ) (stop : ℕ) (y y′ : Story) : Type 0 where
+  pub told : stop ≡ 0 → (t : Turn) → TurnIs (length area) next fills j ids ws t → y′ ≡ tellsAt (netAt table area ws) dist level (after j) t y
+
+-- what is there before the first turn, with no stacks
+abbrev pub begun : ℕ → List ℕ → List ℕ → ℕ → Turn
+begun n ids ws next = record { marks = marksAt n ids ws; stacks = []; next = next }
 
 -- the rule's turns, k of count, from what is there with no stacks
 abbrev pub turnsOf : Net → List ℕ → ℕ → ℕ → List ℕ → List ℕ → ℕ → ℕ → Turn

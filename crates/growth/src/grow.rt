@@ -4,6 +4,8 @@ use crate::turns::Growth;
 use crate::turns::TOO_FAR;
 use crate::turns::turns;
 use expand::expand::expand_last;
+use flood::story::Story;
+use flood::story::begins;
 use net::Sections;
 use net::fill::fill_neighbours;
 use paint::paint_border;
@@ -12,10 +14,13 @@ ghost use mathlib.Core.Path.{_≡_};
 ghost use mathlib.Core.List.{[]};
 ghost use Prim.Native.Nat.{_*_, _≤_};
 ghost use lib.ListN.{length};
+ghost use Rattle.rules.specs.Reasons.{story};
 ghost use Rattle.rules.specs.Refusals.{mostSpans};
 ghost use Rattle.field.specs.Lent.{lent};
-ghost use Rattle.growth.specs.Turns.{SectionsFor, Between};
-ghost use Rattle.growth.specs.Grow.{Grew, Poised, Full};
+ghost use Rattle.net.specs.Table.{netAt};
+ghost use Rattle.flood.specs.Stories.{storyOf};
+ghost use Rattle.growth.specs.Turns.{SectionsFor, Between, begun};
+ghost use Rattle.growth.specs.Grow.{turnsFor, tellsOf, Grew, Poised, Full};
 
 // Where the sections begin, with n spans: past the source distances and the eight level stacks.
 fn sections(n: usize, table: usize) -> Sections
@@ -39,28 +44,40 @@ fn grow_painted(
     at: Sections,
     max_distance: u16,
     next: u16,
+    story: Story,
 ) -> Growth
     requires { ⌜ Between (now area) (now con) at next [] 7 (now ids) (now ws) × (length (now dist) ≡ length (now area)) ⌝ }
     ensures { λ r. ⌜ (let ids₀ = now (ids .entry) in let ws₀ = now (ws .entry) in
         let area₀ = now (area .entry) in let dist₀ = now (dist .entry) in
         Grew area₀ dist₀ (at .table) «max_distance» next ids₀ ws₀ (r .next) (r .stop) (now (ids .exit)) (now (ws .exit))) ⌝ }
+    ensures { λ r. ⌜ (let net = netAt (at .table) (now (area .entry)) (now (ws .entry)) in
+        let start = begun (length (now (area .entry))) (now (ids .entry)) (now (ws .entry)) next in
+        r .stop ≡ 0 → storyOf (r .story) ≡ tellsOf net (now (area .entry)) (now (dist .entry)) (turnsFor «max_distance») start (storyOf story)) ⌝ }
 {
     let count = max_distance / 2 + max_distance % 2;
-    let g = turns(area, con, dist, ids, ws, at, count, next);
+    let g = turns(area, con, dist, ids, ws, at, count, next, story);
     if g.stop != GOES_ON {
         return g;
     }
     clear_part(ws, area.len(), at.changes);
-    if expand_last(area, ids, ws, at) {
+    let turned = g.story;
+    let e = expand_last(area, ids, ws, at, turned);
+    if e.strays {
         return Growth {
             next: g.next,
             stop: TOO_FAR,
+            story,
         };
     }
-    g
+    let told = e.story;
+    Growth {
+        next: g.next,
+        stop: g.stop,
+        story: told,
+    }
 }
 
-// From ids 0 to the grown ids, and the table of neighbours at its place.
+// From ids 0 to the grown ids, and the table of neighbours at its place; with the story of the watched span, if there is one (NO_SPAN where not).
 pub fn grow(
     w: usize,
     h: usize,
@@ -74,11 +91,14 @@ pub fn grow(
     table: usize,
     max_distance: u16,
     border_size: u16,
+    watched: usize,
 ) -> Growth
     requires { ⌜ Poised w h (now index) (now count) (now area) (now con) table (now ids) (now ws) × (length (now dist) ≡ length (now area)) ⌝ }
     ensures { λ r. ⌜ (let F = lent w h (now (index .entry)) (now (count .entry)) (now (area .entry)) (now (con .entry)) in
         let ws₀ = now (ws .entry) in
         Full F (now (dist .entry)) «max_distance» «border_size» table ws₀ (r .next) (r .stop) (now (ids .exit)) (now (ws .exit))) ⌝ }
+    ensures { λ r. ⌜ (let F = lent w h (now (index .entry)) (now (count .entry)) (now (area .entry)) (now (con .entry)) in
+        r .stop ≡ 0 → storyOf (r .story) ≡ story F (now (dist .entry)) «max_distance» «border_size» watched) ⌝ }
 {
     let n = area.len();
     let first = paint_border(w, h, index, count, area, ids, border_size);
@@ -92,6 +112,7 @@ pub fn grow(
         sections(n, table),
         max_distance,
         first,
+        begins(watched),
     );
     clear_part(ws, 0, n);
     g

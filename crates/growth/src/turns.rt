@@ -2,6 +2,7 @@
 use crate::floods::flood_all;
 use expand::Stack;
 use expand::expand::expand_regions;
+use flood::story::Story;
 use levels::LevelStacks;
 use levels::append_stacks;
 use levels::sort_cells_by_level;
@@ -12,7 +13,10 @@ ghost use mathlib.Core.List.{[]};
 ghost use Prim.Native.Nat.{_+_, _*_, _<_, _≤_};
 ghost use lib.ListN.{length, getD};
 ghost use Rattle.rules.specs.Refusals.{mostSpans};
-ghost use Rattle.growth.specs.Turns.{SectionsFor, Left, Loaded, Between, Turned, AllTurns};
+ghost use Rattle.rules.specs.Reasons.{turnsTell};
+ghost use Rattle.net.specs.Table.{netAt};
+ghost use Rattle.flood.specs.Stories.{storyOf};
+ghost use Rattle.growth.specs.Turns.{SectionsFor, Left, Loaded, Between, Turned, TurnTold, begun, AllTurns};
 
 // The stacks of the turn after l's: at turn number 0 all is sorted anew; at another, what remains of the stack before is appended to this turn's.
 fn load(
@@ -51,10 +55,11 @@ fn turn_stack(n: usize, l: LevelStacks) -> Stack
     }
 }
 
-// What growth comes to: the next id, and the refusal that stops it.
+// What growth comes to: the next id, the refusal that stops it, and the story of the watched span.
 pub struct Growth {
     pub next: u16,
     pub stop: u16,
+    pub story: Story,
 }
 
 // Nothing stops it.
@@ -66,11 +71,12 @@ pub const IDS_RUN_OUT: u16 = 12;
 // A sum that expansion computes would exceed what a source distance can be.
 pub(crate) const TOO_FAR: u16 = 13;
 
-// The stacks after a turn, the next id, and what stops it.
+// The stacks after a turn, the next id, what stops it, and the story of the watched span.
 pub struct TurnResult {
     pub stacks: LevelStacks,
     pub next: u16,
     pub stop: u16,
+    pub story: Story,
 }
 
 // One turn at a level: rules 2 to 4.
@@ -84,33 +90,43 @@ fn turn(
     l: LevelStacks,
     level: u16,
     next: u16,
+    story: Story,
 ) -> TurnResult
     requires { ⌜ Between (now area) (now con) at next (l .fills) (l .turn) (now ids) (now ws) × (length (now dist) ≡ length (now area)) ⌝ }
     ensures { λ r. ⌜ (let ids₀ = now (ids .entry) in let ws₀ = now (ws .entry) in
         Turned (now (area .entry)) (now (con .entry)) (now (dist .entry)) at next (l .fills) (l .turn) level ids₀ ws₀
         (r .next) (r .stop) (r .stacks .fills) (r .stacks .turn) (now (ids .exit)) (now (ws .exit))) ⌝ }
+    ensures { λ r. ⌜ (let ids₀ = now (ids .entry) in let ws₀ = now (ws .entry) in
+        TurnTold (now (area .entry)) (now (dist .entry)) (at .table) next (l .fills) (l .turn) level ids₀ ws₀
+        (r .stop) (storyOf story) (storyOf (r .story))) ⌝ }
 {
     let stacks = load(area, dist, ids, ws, at, l, level);
     let stack = turn_stack(area.len(), stacks);
-    if expand_regions(area, ids, ws, at, stack, level) {
+    let e = expand_regions(area, ids, ws, at, stack, level, story);
+    if e.strays {
         return TurnResult {
             stacks,
             next,
             stop: TOO_FAR,
+            story,
         };
     }
-    let id = flood_all(area, con, dist, ids, ws, at, stack, level, next);
-    if id == RegionId::BORDER_REGION.0 {
+    let expanded = e.story;
+    let f = flood_all(area, con, dist, ids, ws, at, stack, level, next, expanded);
+    if f.next == RegionId::BORDER_REGION.0 {
         return TurnResult {
             stacks,
             next,
             stop: IDS_RUN_OUT,
+            story,
         };
     }
+    let told = f.story;
     TurnResult {
         stacks,
-        next: id,
+        next: f.next,
         stop: GOES_ON,
+        story: told,
     }
 }
 
@@ -124,11 +140,15 @@ pub(crate) fn turns(
     at: Sections,
     count: u16,
     next: u16,
+    story: Story,
 ) -> Growth
     requires { ⌜ Between (now area) (now con) at next [] 7 (now ids) (now ws) × (length (now dist) ≡ length (now area)) ⌝ }
     requires { ⌜ 2 * count ≤ 65536 ⌝ }
     ensures { λ r. ⌜ (let ids₀ = now (ids .entry) in let ws₀ = now (ws .entry) in
         AllTurns (now (area .entry)) (now (dist .entry)) (at .table) count next ids₀ ws₀ (r .next) (r .stop) (now (ids .exit)) (now (ws .exit))) ⌝ }
+    ensures { λ r. ⌜ (let net = netAt (at .table) (now (area .entry)) (now (ws .entry)) in
+        let start = begun (length (now (area .entry))) (now (ids .entry)) (now (ws .entry)) next in
+        r .stop ≡ 0 → storyOf (r .story) ≡ turnsTell net (now (dist .entry)) (2 * count) count start (storyOf story)) ⌝ }
 {
     let mut l = LevelStacks {
         fills: [0; 8],
@@ -136,20 +156,24 @@ pub(crate) fn turns(
     };
     let mut id = next;
     let mut left = count;
+    let mut told = story;
     while left > 0 {
         left -= 1;
-        let t = turn(area, con, dist, ids, ws, at, l, 2 * left, id);
+        let t = turn(area, con, dist, ids, ws, at, l, 2 * left, id, told);
         if t.stop != GOES_ON {
             return Growth {
                 next: id,
                 stop: t.stop,
+                story,
             };
         }
         l = t.stacks;
         id = t.next;
+        told = t.story;
     }
     Growth {
         next: id,
         stop: GOES_ON,
+        story: told,
     }
 }

@@ -27,7 +27,7 @@ pub record Ready (rs : List Rec) : Type 0 where
 unfoldable pub spanned : Rec → Bool
 spanned r = not (eqb (r .count) 0)
 
-spanned-yes : (r : Rec) → (r .count ≡ 0 → ⊥) → spanned r ≡ true
+pub spanned-yes : (r : Rec) → (r .count ≡ 0 → ⊥) → spanned r ≡ true
 unfolding spanned
 spanned-yes r h = rw (ne-eqb (r .count) 0 h)
 
@@ -38,7 +38,7 @@ emptied-bare r = refl
 -- ---------------------------------------------------------------- the absorber
 
 -- what is picked is the id of a live record, or the own id, with which the picking begins
-picked-live : (rs : List Rec) (a : Rec) → ((x : ℕ) → Live rs x → Live rs (at rs x .id)) → (start : ℕ) (l : List ℕ) (p : Pick)
+pub picked-live : (rs : List Rec) (a : Rec) → ((x : ℕ) → Live rs x → Live rs (at rs x .id)) → (start : ℕ) (l : List ℕ) (p : Pick)
     → ((p .id ≡ start → ⊥) → (p .id ≡ 0 → ⊥) × Live rs (p .id))
     → (picked rs a l p .id ≡ start → ⊥) → (picked rs a l p .id ≡ 0 → ⊥) × Live rs (picked rs a l p .id)
 unfolding picked
@@ -50,7 +50,7 @@ picked-live rs a named start (r ∷ l) p h =
     (z, named r z))
     (λ _. h))
 
-has-none : (l : List ℕ) (r : ℕ) → has l r ≡ true → l ≡ [] → ⊥
+pub has-none : (l : List ℕ) (r : ℕ) → has l r ≡ true → l ≡ [] → ⊥
 unfolding any
 has-none [] r h e = false≢true h
 has-none (x ∷ l) r h e = let z : _≡_ {A = ℕ} (suc (length l)) 0 = ap length e in omega arith
@@ -62,7 +62,7 @@ unfolding renamed
 renamed-id P o n r p q =
     if-ind (λ (z : Rec). P (z .id)) (eqb (r .id) 0) (λ _. p) (λ e. if-ind P (eqb (r .id) o) (λ _. q (eqb-false _ _ e)) (λ _. p))
 
-renamed-count : (o n : ℕ) (r : Rec) → renamed o n r .count ≡ r .count
+pub renamed-count : (o n : ℕ) (r : Rec) → renamed o n r .count ≡ r .count
 unfolding renamed
 renamed-count o n r = if-ind (λ (z : Rec). z .count ≡ r .count) (eqb (r .id) 0) (λ _. refl) (λ _. refl)
 
@@ -149,7 +149,7 @@ pub record Falls (most : ℕ) (g : Merge) : Type 0 where
   pub ready : Ready (g .recs)
   pub sum : tally spanned (g .recs) + g .merges ≤ most
 
-one-falls : (area most i : ℕ) (g : Merge) → Falls most g → Falls most (mergeOne area i g)
+pub one-falls : (area most i : ℕ) (g : Merge) → Falls most g → Falls most (mergeOne area i g)
 unfolding mergeOne after half
 one-falls area most i g h =
     if-ind (Falls most) _ (λ _. h)

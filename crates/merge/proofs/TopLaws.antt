@@ -55,7 +55,7 @@ removed-own : (x : ℕ) (r : Rec) → (removed r .id ≡ 0 → ⊥) → removed 
 unfolding removed
 removed-own x r h = absurd (h refl)
 
-filter-fresh : (least : ℕ) (rs : List Rec) → Fresh rs → Fresh (filtered least rs)
+pub filter-fresh : (least : ℕ) (rs : List Rec) → Fresh rs → Fresh (filtered least rs)
 filter-fresh least rs f = record { own = filter-each (λ x r. (r .id ≡ 0 → ⊥) → r .id ≡ x) seen-own (λ x r _. removed-own x r) least rs (f .own) }
 
 -- ---- before the filter
@@ -81,7 +81,7 @@ module _ (m n : ℕ) (ws ids : List ℕ) (R : Ready m n ws ids) where
     blank = R .blank;
   }
 
-  ready-fresh : Fresh (recsOf ws m)
+  pub ready-fresh : Fresh (recsOf ws m)
   ready-fresh = record {
     own = λ x z. elim (decLt x m) [
       | yes h ↦ id-at ws m x h ∙ R .own x h (λ e. z (id-at ws m x h ∙ e))

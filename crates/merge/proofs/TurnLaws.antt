@@ -262,7 +262,7 @@ pub round-end : (area m i : ℕ) (ws₀ ws : List ℕ) (c : ℕ) → i ≤ m →
 round-end area m i ws₀ ws c h g e = let q : i ≡ m = omega arith in rw q at e
 
 -- at every turn the two are alike
-joined-at : (area m i : ℕ) (ws₀ ws : List ℕ) (c : ℕ) → Joined (recsOf ws₀ m) → record { recs = recsOf ws m; merges = c } ≡ upto i (mergeOneF area) (record { recs = recsOf ws₀ m; merges = 0 })
+pub joined-at : (area m i : ℕ) (ws₀ ws : List ℕ) (c : ℕ) → Joined (recsOf ws₀ m) → record { recs = recsOf ws m; merges = c } ≡ upto i (mergeOneF area) (record { recs = recsOf ws₀ m; merges = 0 })
     → Joined (recsOf ws m)
 joined-at area m i ws₀ ws c j e =
     let b = round-alike area i (record { recs = j .rs; merges = 0 }) (record { recs = recsOf ws₀ m; merges = 0 }) (record { recs = j .alike; merges = refl }) in
@@ -279,7 +279,7 @@ one-still : (area i : ℕ) (g : Merge) → mergeOneF area i g .merges ≡ 0 → 
 one-still area i g =
     rw (oneF area i g) (if-ind (λ (x : Merge). x .merges ≡ 0 → x ≡ g) _ (λ _ _. refl) (λ _ e. absurd (omega arith)))
 
-one-grows : (area i : ℕ) (g : Merge) → g .merges ≤ mergeOneF area i g .merges
+pub one-grows : (area i : ℕ) (g : Merge) → g .merges ≤ mergeOneF area i g .merges
 one-grows area i g = rw (oneF area i g) (if-ind (λ (x : Merge). g .merges ≤ x .merges) _ (λ _. omega arith) (λ _. omega arith))
 
 round-still : (area k : ℕ) (g : Merge) → upto k (mergeOneF area) g .merges ≡ 0 → upto k (mergeOneF area) g ≡ g

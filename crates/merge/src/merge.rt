@@ -105,7 +105,7 @@ fn try_merge(ws: &mut [u16], m: usize, p: usize, i: usize, n: usize, g: Round) -
 }
 
 // Record i of a round.
-fn merge_one(ws: &mut [u16], m: usize, p: usize, area: u16, i: usize, g: Round) -> Round
+pub(crate) fn merge_one(ws: &mut [u16], m: usize, p: usize, area: u16, i: usize, g: Round) -> Round
     requires { ⌜ Pool m p (g .now) (g .other) (now ws) ⌝ }
     requires { ⌜ Reps (recsOf (now ws) m) ⌝ }
     requires { ⌜ i < m ⌝ }

@@ -744,7 +744,7 @@ module _ (area i k : ℕ) (g h : Merge) (B : Both g h) (l : i < k) where
       let c = cond-none area i (g .recs) (h .recs) (B .recs) n (pickR (g .recs) i) (pickF (h .recs) i) in
       rw (oneF area i h) (fall-if _ _ (λ f. absurd (true≢false (sym (c .1) ∙ f))))
 
-  one-falls : owners k (mergeOneF area i h .recs) + mergeOneF area i h .merges ≤ owners k (h .recs) + h .merges
+  pub one-falls : owners k (mergeOneF area i h .recs) + mergeOneF area i h .merges ≤ owners k (h .recs) + h .merges
   one-falls =
       elim (ℕ-discrete (at (h .recs) i .id) 0) [
         | yes e ↦ fall-none (inl e)

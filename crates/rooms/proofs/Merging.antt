@@ -1,19 +1,20 @@
 -- A merge renames one class of records to another of the same area that it meets. Assumes nothing.
-use Prim.Native.Nat.{ℕ, zero, suc, _<_}
+use Prim.Native.Nat.{ℕ, zero, suc, _+_, _<_}
 use native.Mathlib.Omega.{arith}
 use native.Mathlib.Decide.{decLt, ℕ-discrete}
 use mathlib.Core.Path.{_≡_, refl, sym, ap, _∙_, subst}
 use mathlib.Core.Bool.{Bool, true, false}
 use mathlib.Core.List.{List, [], _∷_, _++_, map}
 use lib.ListN.{length, getD, set, take, drop, length-set, length-map}
+use lib.Seq.{getD-set-same}
 use lib.Dec.{eqb}
 use borrow.Author.Tests.{eqb-true, eqb-false, not-true}
 use Rattle.rules.specs.Base.{if_then_else_, any}
 use Rattle.rules.specs.Net.{Net, near, areaOf}
-use Rattle.rules.specs.Records.{Rec, at, has}
+use Rattle.rules.specs.Records.{Rec, fresh, at, has}
 use Rattle.rules.specs.Merge.{suits, Pick, picked, place, around, dedup, tidy, absorbed, emptied, renamed, Merge, mergeOne, merged}
 use Rattle.laws.proofs.Basics.{both, neither, if-ind, upto-ind, All, All-map, All-both, append-all, map-all, take-all}
-use Rattle.laws.proofs.MergeEnds.{renamed-fresh, at-map}
+use Rattle.laws.proofs.MergeEnds.{renamed-fresh, renamed-count, at-map}
 use Rattle.rooms.specs.Linked.{Linked, stay, goes}
 use Rattle.rooms.proofs.Joins.{joined-trans, joined-sym, joined-map}
 use Rattle.rooms.proofs.Expanding.{Grow}
@@ -241,7 +242,7 @@ module _ (N : Net) (first next : ℕ) (ids : List ℕ) (g : Grow N first next id
 -- ---------------------------------------------------------------- the records after a merge
 
 -- class a's record at i goes into b's
-abbrev after : List Rec → ℕ → ℕ → ℕ → List Rec
+abbrev pub after : List Rec → ℕ → ℕ → ℕ → List Rec
 after rs i a b = map (renamed a b) (set (set rs b (absorbed (at rs b) (at rs i))) i (emptied (at rs i)))
 
 renamed-id : (a b : ℕ) (r : Rec) → (a ≡ 0 → ⊥) → renamed a b r .id ≡ ren a b (r .id)
@@ -263,6 +264,10 @@ renamed-list a b r Q z h =
     (λ _. if-ind (All Q) (has (r .list) a)
     (λ _. tidy-all Q (map (λ x. if eqb x a then b else x) (r .list)) (map-all (λ x. Q (ren a b x)) Q (λ x. if eqb x a then b else x) (r .list) (λ x k. k) h))
     (λ e. All-map (r .list) (λ x k. subst Q (ren-miss a b x (λ q. eqb-false _ _ (k .0) (sym q))) (k .1)) (All-both (λ x. eqb a x ≡ false) (λ x. Q (ren a b x)) (r .list) (any-none (eqb a) (r .list) e) h)))
+
+set-empty : (rs : List Rec) (i : ℕ) (r : Rec) → i < length rs → at (set rs i (emptied r)) i .count ≡ 0
+unfolding at emptied
+set-empty rs i r h = ap (λ (x : Rec). x .count) (getD-set-same rs i (emptied r) (fresh 0) h)
 
 module _ (rs : List Rec) (i a b : ℕ) (az : a ≡ 0 → ⊥) where
   mid : List Rec
@@ -297,8 +302,22 @@ module _ (rs : List Rec) (i a b : ℕ) (az : a ≡ 0 → ⊥) where
   unfolding mid
   after-is j = at-map (renamed a b) (renamed-fresh a b) (set (set rs b (absorbed (at rs b) (at rs i))) i (emptied (at rs i))) j
 
-  after-id : (j : ℕ) → at (after rs i a b) j .id ≡ ren a b (at rs j .id)
+  pub after-id : (j : ℕ) → at (after rs i a b) j .id ≡ ren a b (at rs j .id)
   after-id j = ap (λ (x : Rec). x .id) (after-is j) ∙ renamed-id a b (at mid j) az ∙ ap (ren a b) (mid-id j)
+
+  pub after-count : (j : ℕ) (P : ℕ → Type 0) → P (at rs j .count) → (j ≡ b → P (at rs b .count + at rs i .count)) → (j ≡ i → P 0) → P (at (after rs i a b) j .count)
+  unfolding mid absorbed emptied
+  after-count j P p q z =
+      rw (ap (λ (x : Rec). x .count) (after-is j) ∙ renamed-count a b (at mid j))
+      (at-set (set rs b (absorbed (at rs b) (at rs i))) i (emptied (at rs i)) j (λ (x : Rec). P (x .count)) z
+      (at-set rs b (absorbed (at rs b) (at rs i)) j (λ (x : Rec). P (x .count)) q p))
+
+  pub after-empty : i < length rs → at (after rs i a b) i .count ≡ 0
+  unfolding mid
+  after-empty h = ap (λ (x : Rec). x .count) (after-is i) ∙ renamed-count a b (at mid i) ∙ emptied-at
+    where
+      emptied-at : at (set (set rs b (absorbed (at rs b) (at rs i))) i (emptied (at rs i))) i .count ≡ 0
+      emptied-at = set-empty (set rs b (absorbed (at rs b) (at rs i))) i (at rs i) (rw length-set h)
 
   after-area : (j : ℕ) → at (after rs i a b) j .area ≡ at rs j .area
   after-area j = ap (λ (x : Rec). x .area) (after-is j) ∙ renamed-area a b (at mid j) ∙ mid-area j

@@ -18,6 +18,7 @@ pub mod Listing
 pub mod Open
 pub mod Mend
 pub mod Refresh
+pub mod Reasons
 pub mod Plain
 pub mod Load
 pub mod Stored

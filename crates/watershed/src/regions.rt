@@ -4,6 +4,7 @@ use crate::form::give_form;
 use checker::Refusal;
 use checker::Verdict;
 use checker::check;
+use field::place::NO_SPAN;
 use growth::grow::grow;
 use growth::turns::GOES_ON;
 use growth::turns::Growth;
@@ -142,6 +143,7 @@ fn grow_regions(
         table,
         max_distance,
         border_size,
+        NO_SPAN,
     );
     if g.stop != GOES_ON {
         put_back(ws, kept, ids);

@@ -66,6 +66,27 @@ pub fn compare(first: u64, count: u64) -> Tally {
     tally
 }
 
+/// More spans than these a field has that `compare_full` takes: at most so many never run out of ids or source distances.
+const MEDIUM: usize = 32_000;
+
+/// Compares so many fields of more than 32,000 spans, of the seeds from the first on.
+pub fn compare_full(first: u64, count: u64) -> Tally {
+    let mut tally = Tally::default();
+    let mut seed = first;
+    while (tally.fields as u64) < count && !tally.is_enough() {
+        if make(seed, &mut Rng::new(!seed)).1.field.spans() > MEDIUM {
+            let compared = catch_unwind(AssertUnwindSafe(|| compare_field(seed, &mut tally)));
+            if compared.is_err() {
+                differs(seed, "the comparison panics", &mut tally);
+            }
+            tally.fields += 1;
+            tally.tell_progress("full", count);
+        }
+        seed += 1;
+    }
+    tally
+}
+
 fn differs(seed: u64, what: &str, tally: &mut Tally) {
     tally.differs(&format!(
         "large field of seed {seed}: {what}\nagain: {} --seed {seed}",

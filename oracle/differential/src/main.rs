@@ -27,6 +27,7 @@ struct Order {
     program: PathBuf,
     small: u64,
     large: u64,
+    full: u64,
     edited: u64,
     edges: u64,
     doors: u64,
@@ -59,6 +60,10 @@ fn run() -> Result<bool, String> {
     let large = large::compare(seed, order.large);
     if large.fields > 0 {
         print!("calls on large fields by kind, and their answers:\n{large}");
+    }
+    let full = large::compare_full(seed, order.full);
+    if full.fields > 0 {
+        print!("calls on fields of more than 32,000 spans by kind, and their answers:\n{full}");
     }
     let winding = if order.large > 0 {
         winding::compare()
@@ -102,7 +107,7 @@ fn run() -> Result<bool, String> {
         print!("conversions of stored results by kind, and their answers:\n{results}");
     }
     let parts = [
-        &small, &large, &winding, &stops, &edited, &files, &doors, &rooms, &sizes, &pieces,
+        &small, &large, &full, &winding, &stops, &edited, &files, &doors, &rooms, &sizes, &pieces,
         &results,
     ];
     if parts.iter().any(|tally| tally.is_enough()) {
@@ -112,7 +117,7 @@ fn run() -> Result<bool, String> {
     println!(
         "compared {} small, {} large, {} edited fields, {} files mended, {} fields with doors, {} with plain rooms, {} with sizes, {} files in pieces, {} stored results: {differences} differences",
         small.fields,
-        large.fields + winding.fields + stops.fields,
+        large.fields + full.fields + winding.fields + stops.fields,
         edited.fields,
         files.fields,
         doors.fields,
@@ -132,6 +137,7 @@ fn order() -> Result<Order, String> {
         program: program.into(),
         small: 20_000,
         large: 38,
+        full: 0,
         edited: 7_000,
         edges: 2,
         doors: 3_000,
@@ -151,6 +157,7 @@ fn order() -> Result<Order, String> {
         match option.as_str() {
             "--small" => order.small = number,
             "--large" => order.large = number,
+            "--full" => order.full = number,
             "--edited" => order.edited = number,
             "--edges" => order.edges = number,
             "--doors" => order.doors = number,

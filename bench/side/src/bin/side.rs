@@ -1,17 +1,18 @@
 //! side levels|growing|full FOLDER: writes the levels. side gussetraft|checker|rust distance|regions FILE: runs the distance entry, or both, on one.
 //! side time FILE [LIBRARY]: the least times of all on one, C++ Recast being in that library. side door build|refresh|checks|time N: a door in buildings of some N spans.
-//! side plain rooms|time FILE: plain rooms of one.
+//! side plain rooms|time FILE: plain rooms of one. side stored time FILE: its result stored.
 
 use side::{
     door, level,
     measured::{compare, mark, read_level, write_levels},
     rooms,
     run::{self, Entries},
+    stored,
     timed::{self, Recast},
 };
 use std::env;
 
-const USAGE: &str = "side levels|growing|full FOLDER, side gussetraft|checker|rust distance|regions FILE, side time FILE [LIBRARY], side door build|refresh|checks|time N, or side plain rooms|time FILE";
+const USAGE: &str = "side levels|growing|full FOLDER, side gussetraft|checker|rust distance|regions FILE, side time FILE [LIBRARY], side door build|refresh|checks|time N, side plain rooms|time FILE, or side stored time FILE";
 
 fn main() {
     let words: Vec<_> = env::args().skip(1).collect();
@@ -43,6 +44,7 @@ fn main() {
         }
         ["plain", "rooms", path] => rooms::counted(&read_level(path), mark),
         ["plain", "time", path] => println!("{}", rooms::timed(&read_level(path))),
+        ["stored", "time", path] => println!("{}", stored::timed(&read_level(path))),
         [who, entries, path] => {
             let entries = match entries {
                 "distance" => Entries::Distance,
@@ -51,8 +53,8 @@ fn main() {
             };
             let case = read_level(path);
             match who {
-                "gussetraft" => compare(path, &run::gussetraft(&case, entries, mark)),
-                "rust" => compare(path, &run::rust(&case, entries, mark)),
+                "gussetraft" => compare(path, "dense", &run::gussetraft(&case, entries, mark)),
+                "rust" => compare(path, "answer", &run::rust(&case, entries, mark)),
                 "checker" => run::checker(&case, entries, mark),
                 _ => panic!("{USAGE}"),
             }

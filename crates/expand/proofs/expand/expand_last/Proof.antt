@@ -1,7 +1,7 @@
 -- The stack holds the rule's list, is expanded at level 0, and is cleared; so past the source distances all is as it was (Blanks).
 -- Assumes nothing.
 use borrow.Author.Needs.{needs}
-use Rattle.expand.proofs.Blanks.{filled-mutual, filled-given, last-view, last-strays, last-kept}
+use Rattle.expand.proofs.Blanks.{filled-mutual, filled-given, last-view, last-strays, last-kept, last-told}
 use Rattle.expand.proofs.expand.expand_last.Statement.{statement}
 use Rattle.expand.proofs.expand.expand_last.Tie as tie
 
@@ -36,7 +36,10 @@ returns c =
       last-view _ _ _ _ _ _ _ v (s .pre .1) _ _ (q .1 .1 .0) _ z (k .0) (k .1) (q .0),
       (
         last-strays _ _ _ _ _ _ _ v (s .pre .1) _ (q .1 .0),
-        last-kept _ _ _ _ _ _ _ v (s .pre .1) (r .expand-regions .last .1 .0) _ (q .1 .1 .0) _ z (k .0) (k .1),
+        (
+          last-kept _ _ _ _ _ _ _ v (s .pre .1) (r .expand-regions .last .1 .0) _ (q .1 .1 .0) _ z (k .0) (k .1),
+          last-told _ _ _ _ _ _ _ v (s .pre .1) _ _ (q .1 .1 .1 .1),
+        ),
       ),
     )
 

@@ -2,7 +2,7 @@
 -- Assumes nothing.
 use borrow.Author.Needs.{needs}
 use denote.Ref.{now}
-use Rattle.expand.proofs.Ends.{given-part, given-entries, used-above, used-apart, used-entries, lit-mutual, lit-all, most-some, gone-idents, gone-below, gone-above, gone-entries, expanded, expanded-strays, expanded-kept, expanded-given}
+use Rattle.expand.proofs.Ends.{given-part, given-entries, used-above, used-apart, used-entries, lit-mutual, lit-all, most-some, gone-idents, gone-below, gone-above, gone-entries, expanded, expanded-strays, expanded-kept, expanded-given, expanded-told}
 use Rattle.expand.proofs.expand.expand_regions.Statement.{statement}
 use Rattle.expand.proofs.expand.expand_regions.Tie as tie
 
@@ -55,7 +55,7 @@ settle-requires c κs =
     let y = u .use-up .ensures in
     let v = f .flag-all .ensures in
     let e = p .most-rounds .ensures in
-    let g = r .rounds .ensures in (
+    let g = r .rounds .ensures .0 in (
       (gone-idents _ _ _ _ _ (s .args .level) _ _ _ _ q y (s .pre .1) _ v _ e _ _ _ _ g, q, s .pre .1 .sizes .apart, g .few),
       (
         (gone-below _ _ _ _ _ (s .args .level) _ _ _ _ q y (s .pre .1) _ v _ e _ _ _ _ g, gone-above _ _ _ _ _ (s .args .level) _ _ _ _ q y (s .pre .1) _ v _ e _ _ _ _ g),
@@ -71,7 +71,7 @@ same-length-2 c = search needs
 
 returns : tie.Need-returns
 returns c =
-    let t = c .before .before in
+    let t = c .before .before .before in
     let r = t .before .before .before .before .before .before .before in
     let p = M r in
     let f = F p in
@@ -81,13 +81,16 @@ returns c =
     let y = u .use-up .ensures in
     let v = f .flag-all .ensures in
     let e = p .most-rounds .ensures in
-    let g = r .rounds .ensures in (
+    let g = r .rounds .ensures .0 in (
       expanded _ _ _ _ _ (s .args .level) _ _ _ _ q y (s .pre .1) _ v _ e _ _ _ _ g _ (t .settle .ensures),
       (
         expanded-strays _ _ _ _ _ (s .args .level) _ _ _ _ q y (s .pre .1) _ v _ e _ _ _ _ g,
         (
           expanded-kept _ _ _ _ _ (s .args .level) _ _ _ _ q y (s .pre .1) _ v _ e _ _ _ _ g _ (t .settle .ensures),
-          expanded-given _ _ _ _ _ (s .args .level) _ _ _ _ q y (s .pre .1) _ v _ e _ _ _ _ g _ (t .settle .ensures),
+          (
+            expanded-given _ _ _ _ _ (s .args .level) _ _ _ _ q y (s .pre .1) _ v _ e _ _ _ _ g _ (t .settle .ensures),
+            expanded-told _ _ _ _ _ (s .args .level) _ _ _ _ q y (s .pre .1) _ v _ e _ _ _ _ g _ _ (r .rounds .ensures .1),
+          ),
         ),
       ),
     )

@@ -4,9 +4,6 @@ use borrow.Author.Needs.{needs}
 use Rattle.filter.proofs.remove.small.Statement.{statement}
 use Rattle.filter.proofs.remove.small.Tie as tie
 
-total-requires : tie.Need-total-requires
-total-requires c κs = search needs
-
 returns : tie.Need-returns
 returns c = search large
 
@@ -20,4 +17,4 @@ returns-3 : tie.Need-returns-3
 returns-3 c = search small-yes
 
 pub small-spec : {M : Type 1} → statement M
-small-spec = tie.close (tie.spec total-requires returns any-flagged-requires returns-2 returns-3)
+small-spec = tie.close (tie.spec returns any-flagged-requires returns-2 returns-3)

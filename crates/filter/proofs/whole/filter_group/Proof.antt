@@ -1,8 +1,25 @@
--- `filter::whole::filter_group` meets its contract. Four calls in a row: `group-done` puts their promises together, `turn-frame` what they leave alone.
-use Rattle.filter.proofs.FilterLaws.{group-done, turn-frame, found-after, blank-after}
+-- `filter::whole::filter_group` meets its contract. Five calls in a row: `group-done` puts their promises together, `group-count` gives the count, `turn-frame`
+-- what they leave alone.
+use Rattle.filter.proofs.FilterLaws.{group-done, group-count, turn-frame, found-after, blank-after}
 use borrow.Author.Needs.{needs}
 use Rattle.filter.proofs.whole.filter_group.Statement.{statement}
 use Rattle.filter.proofs.whole.filter_group.Tie as tie
+
+-- the calls, from the last
+abbrev R : tie.After-forget → tie.After-remove-small
+R c = c .before .before .before .before
+
+abbrev T : tie.After-remove-small → tie.After-total
+T c = c .before .before
+
+abbrev G : tie.After-total → tie.After-gather
+G c = c .before .before .before .before
+
+abbrev E : tie.After-gather → tie.After-enter
+E c = c .before .before .before .before
+
+abbrev S : tie.After-enter → tie.Start
+S c = c .before .before .before
 
 enter-requires : tie.Need-enter-requires
 enter-requires c κs = search needs
@@ -10,24 +27,40 @@ enter-requires c κs = search needs
 gather-requires : tie.Need-gather-requires
 gather-requires c κs = search needs
 
+total-requires : tie.Need-total-requires
+total-requires c κs = search needs
+
 remove-small-requires : tie.Need-remove-small-requires
 remove-small-requires c κs = search needs
 
 forget-requires : tie.Need-forget-requires
-forget-requires c κs = (search needs, (found-after _ _ _ _ (c .before .before .before .before .before .before .before .gather .ensures .1 .1 .1 .0) (c .before .before .before .remove-small .ensures .1 .1), (search needs, blank-after _ _ _ (c .before .before .before .remove-small .ensures .1 .1) (c .before .before .before .before .before .before .before .gather .ensures .1 .1 .0))))
+forget-requires c κs =
+    let r = c .before .before .before in
+    let g = G (T r) .gather in
+    (search needs, (found-after _ _ _ _ (g .ensures .1 .1 .1 .0) (r .remove-small .ensures .1 .1), (search needs, blank-after _ _ _ (r .remove-small .ensures .1 .1) (g .ensures .1 .1 .0))))
 
 same-length : tie.Need-same-length
 same-length c = search needs
 
 returns : tie.Need-returns
-returns c = let e = c .before .before .before .before .before .before .before .before .before .before .before .before .before .before .enter in
-    let g = c .before .before .before .before .before .before .before .before .before .before .gather in
-    let r = c .before .before .before .before .before .before .remove-small in
-    let f = c .before .before .forget in (
-      group-done _ _ _ _ _ _ _ _ _ (c .before .before .before .before .before .before .before .before .before .before .before .before .before .before .before .before .before .pre .0) (e .kept .0) (g .kept .0) (e .ensures .1 .1 .1) (g .ensures .1 .1 .1 .1) (e .ensures .1 .1 .0) (g .ensures .0) (r .ensures .0) (f .ensures .0),
+returns c =
+    let z = c .before .before in
+    let y = R z in
+    let t = T y in
+    let x = G t in
+    let w = E x in
+    let s = S w in
+    let e = w .enter in
+    let g = x .gather in
+    let r = y .remove-small in
+    let f = z .forget in (
+      group-done _ _ _ _ _ _ _ _ _ (s .pre .0) (e .kept .0) (g .kept .0) (e .ensures .1 .1 .1) (g .ensures .1 .1 .1 .1) (e .ensures .1 .1 .0) (g .ensures .0) (r .ensures .0) (f .ensures .0),
       (
         search needs,
-        turn-frame _ _ _ _ _ _ (c .before .before .before .before .before .before .before .before .before .before .before .before .before .before .before .before .before .pre .0) (f .ensures .1 .0) (e .kept .0) (g .kept .0) (r .kept .0) (f .kept .0) (e .ensures .1 .1 .1) (g .ensures .1 .1 .1 .1) (r .ensures .1 .1) (f .ensures .1 .1),
+        (
+          turn-frame _ _ _ _ _ _ (s .pre .0) (f .ensures .1 .0) (e .kept .0) (g .kept .0) (r .kept .0) (f .kept .0) (e .ensures .1 .1 .1) (g .ensures .1 .1 .1 .1) (r .ensures .1 .1) (f .ensures .1 .1),
+          group-count _ _ _ _ _ _ _ _ _ (s .pre .0) (e .kept .0) (g .kept .0) (e .ensures .1 .1 .1) (g .ensures .1 .1 .1 .1) (e .ensures .1 .1 .0) (g .ensures .0) (r .ensures .0) (f .ensures .0) _ (t .total .ensures),
+        ),
       ),
     )
 
@@ -37,6 +70,7 @@ filter-group-spec =
     (tie.spec
     enter-requires
     gather-requires
+    total-requires
     remove-small-requires
     forget-requires
     same-length

@@ -1,4 +1,4 @@
--- The loop's invariant: what is left to run gives what the whole run gives (`Running`). The measure is 5 for each span that does not count yet
+-- The loop's invariant: what is left to run, and to tell, gives what the whole gives (`Telling`). The measure is 5 for each span that does not count yet
 -- and 1 for each on the stack. Assumes nothing.
 use mathlib.Core.Path.{_≡_, _∙_}
 use Prim.Native.Nat.{_+_, _-_, _*_, _<_, _≤_}
@@ -11,17 +11,20 @@ use Rattle.net.specs.Table.{netAt}
 use Rattle.net.proofs.Tables.{lent-same, net-few}
 use Rattle.flood.specs.Looks.{seedOf}
 use Rattle.flood.specs.Stack.{Kept}
+use Rattle.flood.specs.Stories.{storyOf}
 use Rattle.flood.proofs.Pushes.{placed-kept, lent-stack-in, net-kept, kept-then}
 use Rattle.flood.proofs.Visits.{good-held}
-use Rattle.flood.proofs.Floods.{begun, start-kept, start-flooding, Running, running-start, running-done, running-falls, running-on, flooded-past, flooded-is}
+use Rattle.flood.proofs.Floods.{begun, start-kept, start-flooding, running-done, running-falls, flooded-past, flooded-is}
+use Rattle.flood.proofs.Stories.{Telling, telling-start, telling-done, telling-on, told-is}
 use Rattle.flood.proofs.flow.flood_region.Statement.{statement}
 use Rattle.flood.proofs.flow.flood_region.Tie as tie
 
 abbrev Inv-loop : tie.InvT-loop
-Inv-loop area con dist ids₀ ws₀ at level id s stack seed height₀ ids ws height = Running area con dist at (seedOf seed) ids₀ ws₀ ids ws height
+Inv-loop area con dist ids₀ ws₀ at level id s stack seed height₀ told₀ ids ws height told =
+    Telling area con dist at (seedOf seed) ids₀ ws₀ (storyOf told₀) ids ws height (storyOf told)
 
 abbrev μ-loop : tie.MeasureT-loop
-μ-loop area con dist ids₀ ws₀ at level id s stack seed height₀ ids ws height = 5 * (length area - height .count) + height .top
+μ-loop area con dist ids₀ ws₀ at level id s stack seed height₀ told₀ ids ws height told = 5 * (length area - height .count) + height .top
 
 -- ---------------------------------------------------------------- what the entry tells
 
@@ -51,7 +54,10 @@ S c = c .before .before .before .before .before .before .before
 abbrev C : tie.After-slice-known4 Inv-loop μ-loop → tie.After-visit Inv-loop μ-loop
 C c = c .before .before .before .before
 
-abbrev T : tie.After-visit-arg2 Inv-loop μ-loop → tie.Then1 Inv-loop μ-loop
+abbrev W : tie.After-visit-arg2 Inv-loop μ-loop → tie.After-tell-visit Inv-loop μ-loop
+W c = c .before .before
+
+abbrev T : tie.After-tell-visit-arg2 Inv-loop μ-loop → tie.Then1 Inv-loop μ-loop
 T c = c .before .before
 
 abbrev L : tie.Then1 Inv-loop μ-loop → tie.At-loop Inv-loop μ-loop
@@ -63,8 +69,8 @@ byte c = omega (arith, c .before .shared-slice-known4 .given (S c .args .from .0
 
 -- ---------------------------------------------------------------- the needs
 
-shared-slice-read-t15 : tie.Need-shared-slice-read-t15 Inv-loop μ-loop
-shared-slice-read-t15 c = from-in (c .before .before .before .before .before .before)
+shared-slice-read-t17 : tie.Need-shared-slice-read-t17 Inv-loop μ-loop
+shared-slice-read-t17 c = from-in (c .before .before .before .before .before .before)
 
 below-requires : tie.Need-below-requires Inv-loop μ-loop
 below-requires c κs = search needs
@@ -94,36 +100,43 @@ loop-holds : tie.Need-loop-holds Inv-loop μ-loop
 loop-holds c =
     let s = S c in
     let p = s .pre .0 .1 in
-    running-start _ _ _ _ _ _ _ (lent-same _ _ _ _ _ (kept s .size) (net s) (s .pre .0 .0)) (placed-kept _ p (simp length-set))
+    telling-start _ _ _ _ _ _ _ _ (lent-same _ _ _ _ _ (kept s .size) (net s) (s .pre .0 .0)) (placed-kept _ p (simp length-set))
     (start-flooding _ _ _ _ _ _ (p .idents) (p .low) (room s) (s .pre .1 .0) (s .pre .1 .1))
+
+tell-visit-requires : tie.Need-tell-visit-requires Inv-loop μ-loop
+tell-visit-requires c κs =
+    let t = T c in
+    let v = L t .loop .inv .running in
+    let e = L t .before in
+    ((v .lent, v .placed .idents, v .placed .apart), (v .flooding, t .if1 .taken, S e .pre .1 .0 .some, byte e))
 
 visit-requires : tie.Need-visit-requires Inv-loop μ-loop
 visit-requires c κs =
-    let t = T c in
-    let v = L t .loop .inv in
+    let t = T (W c .before) in
+    let v = L t .loop .inv .running in
     let e = L t .before in
     ((v .lent, v .placed), ((v .flooding, t .if1 .taken), (S e .pre .1 .0 .some, byte e)))
 
 loop-less : tie.Need-loop-less Inv-loop μ-loop
 loop-less c =
     let v = C c in
-    let t = T (v .before) in
+    let t = T (W (v .before) .before) in
     let e = L t .before in
-    running-falls _ _ _ _ _ _ _ _ _ _ (L t .loop .inv) (S e .pre .1 .0 .some) (byte e) (t .if1 .taken) _ _ _ (v .visit .ensures .0)
+    running-falls _ _ _ _ _ _ _ _ _ _ (L t .loop .inv .running) (S e .pre .1 .0 .some) (byte e) (t .if1 .taken) _ _ _ (v .visit .ensures .0)
 
 loop-again : tie.Need-loop-again Inv-loop μ-loop
 loop-again c =
     let v = C c in
-    let t = T (v .before) in
+    let t = T (W (v .before) .before) in
     let e = L t .before in
-    running-on _ _ _ _ _ _ _ _ _ _ (L t .loop .inv) (S e .pre .1 .0 .some) (byte e) (t .if1 .taken) _ _ _ (v .visit .ensures .0)
-    (v .visit .kept .1 .1 .1 .0) (v .visit .ensures .1 .0) (v .visit .ensures .1 .1)
+    telling-on _ _ _ _ _ _ _ _ _ _ _ _ (L t .loop .inv) (S e .pre .1 .0 .some) (byte e) (t .if1 .taken) _ _ _ (v .visit .ensures .0)
+    (v .visit .kept .1 .1 .1 .0) (v .visit .ensures .1 .0) (v .visit .ensures .1 .1) _ (W (v .before) .tell-visit .ensures)
 
 same-length : tie.Need-same-length Inv-loop μ-loop
-same-length c = c .before .before .loop .inv .size ∙ simp length-set
+same-length c = c .before .before .loop .inv .running .size ∙ simp length-set
 
 same-length-2 : tie.Need-same-length-2 Inv-loop μ-loop
-same-length-2 c = c .before .before .loop .inv .kept .size ∙ simp length-set
+same-length-2 c = c .before .before .loop .inv .running .kept .size ∙ simp length-set
 
 returns : tie.Need-returns Inv-loop μ-loop
 returns c =
@@ -131,12 +144,15 @@ returns c =
     let e = l .before in
     let s = S e in
     let p = s .pre .0 .1 in
-    let v = l .loop .inv in
+    let v = l .loop .inv .running in
     let z : l .loop .height .top ≡ 0 = omega (arith, c .if1 .left) in (
       flooded-is _ _ (s .args .at) _ _ _ _ _ _ _ (p .idents) (p .low) (room s) (s .pre .1 .0) (e .below .ensures) (net s) (running-done _ _ _ _ _ _ _ _ _ _ v z),
       (
-        flooded-past _ _ _ _ (p .low) (kept-then (kept s) (v .kept)) (s .pre .1 .1) (rw z at (v .flooding .blank)),
-        omega (arith, good-held _ _ _ _ _ _ (v .flooding .good) .0),
+        (
+          flooded-past _ _ _ _ (p .low) (kept-then (kept s) (v .kept)) (s .pre .1 .1) (rw z at (v .flooding .blank)),
+          omega (arith, good-held _ _ _ _ _ _ (v .flooding .good) .0),
+        ),
+        told-is _ _ (s .args .at) _ _ _ _ _ _ _ _ (p .idents) (p .low) (room s) (s .pre .1 .0) (e .below .ensures) (net s) (telling-done _ _ _ _ _ _ _ _ _ _ _ _ (l .loop .inv) z),
       ),
     )
 
@@ -146,7 +162,7 @@ flood-region-spec =
     (tie.spec
     Inv-loop
     μ-loop
-    shared-slice-read-t15
+    shared-slice-read-t17
     below-requires
     mul-ids
     slice-write-ids
@@ -156,6 +172,7 @@ flood-region-spec =
     mul-ws-2
     slice-write-ws-2
     loop-holds
+    tell-visit-requires
     visit-requires
     loop-less
     loop-again

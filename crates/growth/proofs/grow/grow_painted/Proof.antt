@@ -5,7 +5,7 @@ use native.Mathlib.Omega.{arith}
 use borrow.Author.Needs.{needs}
 use Rattle.growth.specs.Grow.{turnsFor}
 use Rattle.growth.proofs.KeptLaws.{flags-at}
-use Rattle.growth.proofs.GrowLaws.{grew-stopped, last-mutual, last-ready, grew-strayed, grew}
+use Rattle.growth.proofs.GrowLaws.{grew-stopped, last-mutual, last-ready, grew-strayed, grew, grew-told}
 use Rattle.growth.proofs.grow.grow_painted.Statement.{statement}
 use Rattle.growth.proofs.grow.grow_painted.Tie as tie
 
@@ -34,14 +34,14 @@ clear-part-requires c κs =
 
 expand-last-requires : tie.Need-expand-last-requires
 expand-last-requires c κs =
-    let k = c .before .before .before .before in
+    let k = c .before .before .before .before .before in
     let t = T k in
     let s = S t in
     let v = s .pre .0 in
     let z = t .turns .kept .1 .1 .1 .1 .0 in
     let p = k .clear-part .ensures in (
-      (last-mutual _ _ _ _ _ _ _ _ v _ (counted s) _ _ _ _ z (t .turns .ensures) (k .before .before .if1 .left) _ (k .clear-part .kept .0) (p .0) (p .1), flags-at _ _ _ _ _ _ _ _ v),
-      last-ready _ _ _ _ _ _ _ _ v _ (counted s) _ _ _ _ z (t .turns .ensures) (k .before .before .if1 .left) _ (k .clear-part .kept .0) (p .0) (p .1),
+      (last-mutual _ _ _ _ _ _ _ _ v _ (counted s) _ _ _ _ z (t .turns .ensures .0) (k .before .before .if1 .left) _ (k .clear-part .kept .0) (p .0) (p .1), flags-at _ _ _ _ _ _ _ _ v),
+      last-ready _ _ _ _ _ _ _ _ v _ (counted s) _ _ _ _ z (t .turns .ensures .0) (k .before .before .if1 .left) _ (k .clear-part .kept .0) (p .0) (p .1),
     )
 
 same-length : tie.Need-same-length
@@ -53,7 +53,7 @@ same-length-2 c = search needs
 returns : tie.Need-returns
 returns c =
     let t = c .before .before .before .before .before .before in
-    grew-stopped _ _ _ _ _ _ _ _ (counted (S t)) _ _ _ _ (t .turns .ensures) (c .if1 .taken)
+    (grew-stopped _ _ _ _ _ _ _ _ (counted (S t)) _ _ _ _ (t .turns .ensures .0) (c .if1 .taken), λ z. absurd (c .if1 .taken z))
 
 same-length-3 : tie.Need-same-length-3
 same-length-3 c = search needs
@@ -64,13 +64,15 @@ same-length-4 c = search needs
 returns-2 : tie.Need-returns-2
 returns-2 c =
     let x = c .before .before .before .before .before in
-    let k = x .before .before .before .before .before in
+    let k = x .before .before .before .before .before .before in
     let t = T k in
     let s = S t in
     let p = k .clear-part .ensures in
-    let q = x .expand-last .ensures in
-    grew-strayed _ _ _ _ _ _ _ _ (s .pre .0) _ (counted s) _ _ _ _ (t .turns .kept .1 .1 .1 .1 .0) (t .turns .ensures) (k .before .before .if1 .left) _ (k .clear-part .kept .0) (p .0) (p .1)
-    _ _ (q .0) _ (q .1 .0) (q .1 .1) _ (c .if2 .taken)
+    let q = x .expand-last .ensures in (
+      grew-strayed _ _ _ _ _ _ _ _ (s .pre .0) _ (counted s) _ _ _ _ (t .turns .kept .1 .1 .1 .1 .0) (t .turns .ensures .0) (k .before .before .if1 .left) _ (k .clear-part .kept .0) (p .0) (p .1)
+          _ _ (q .0) _ (q .1 .0) (q .1 .1 .0) _ (c .if2 .taken),
+      λ z. absurd (omega arith),
+    )
 
 same-length-5 : tie.Need-same-length-5
 same-length-5 c = search needs
@@ -80,14 +82,19 @@ same-length-6 c = search needs
 
 returns-3 : tie.Need-returns-3
 returns-3 c =
-    let x = c .before .before .before .before .before in
-    let k = x .before .before .before .before .before in
+    let d = c .before in
+    let x = d .before .before .before .before .before in
+    let k = x .before .before .before .before .before .before in
     let t = T k in
     let s = S t in
     let p = k .clear-part .ensures in
     let q = x .expand-last .ensures in
-    grew _ _ _ _ _ _ _ _ (s .pre .0) _ (counted s) _ _ _ _ (t .turns .kept .1 .1 .1 .1 .0) (t .turns .ensures) (k .before .before .if1 .left) _ (k .clear-part .kept .0) (p .0) (p .1)
-    _ _ (q .0) _ (q .1 .0) (q .1 .1) (c .if2 .left)
+    let g = k .before .before .if1 .left in (
+      grew _ _ _ _ _ _ _ _ (s .pre .0) _ (counted s) _ _ _ _ (t .turns .kept .1 .1 .1 .1 .0) (t .turns .ensures .0) g _ (k .clear-part .kept .0) (p .0) (p .1)
+          _ _ (q .0) _ (q .1 .0) (q .1 .1 .0) (d .if2 .left),
+      λ _. grew-told _ _ _ _ _ _ _ _ (s .pre .0) _ (counted s) _ _ _ _ (t .turns .kept .1 .1 .1 .1 .0) (t .turns .ensures .0) g _ (k .clear-part .kept .0) (p .0) (p .1)
+          _ _ _ (t .turns .ensures .1 g) (q .1 .1 .1),
+    )
 
 pub grow-painted-spec : {M : Type 1} → statement M
 grow-painted-spec =

@@ -1,10 +1,13 @@
 -- Loading leaves what the expansion asks, that what the floods ask, and the three together are the rule's turn, or what stops it (WholeTurn). Assumes nothing.
+use mathlib.Core.Path.{_≡_, _∙_}
 use native.Mathlib.Omega.{arith}
+use denote.Ref.{now}
+use lib.ListN.{length}
 use borrow.Author.Needs.{needs}
 use Rattle.growth.proofs.KeptLaws.{few-spans, flags-at}
-use Rattle.growth.proofs.ExpandTurn.{given-as, expanded-as, strays-as, held-as}
+use Rattle.growth.proofs.ExpandTurn.{given-as, expanded-as, strays-as, held-as, told-as}
 use Rattle.growth.proofs.FloodTurn.{between-placed, flooded}
-use Rattle.growth.proofs.WholeTurn.{ready-turn, turn-strayed, turn-out, turned}
+use Rattle.growth.proofs.WholeTurn.{ready-turn, turn-strayed, turn-out, turned, turn-told, stopped-told}
 use Rattle.growth.proofs.turns.turn.Statement.{statement}
 use Rattle.growth.proofs.turns.turn.Tie as tie
 
@@ -19,7 +22,11 @@ abbrev T : tie.After-expand-regions → tie.After-turn-stack
 T c = c .before .before .before
 
 abbrev X : tie.After-flood-all → tie.After-expand-regions
-X c = c .before .before .before .before .before .before .before .before
+X c = c .before .before .before .before .before .before .before .before .before
+
+-- no call changes the workspace's length
+ws-kept : (y : tie.After-flood-all) → length (y .flood-all .last .1 .1 .1 .1 .0) ≡ length (now (S (L (T (X y)) .before) .args .ws))
+ws-kept y = let x = X y in y .flood-all .kept .1 .1 .1 .1 .0 ∙ x .expand-regions .kept .1 .1 .0 ∙ L (T x) .load .kept .1 .1 .1 .0
 
 load-requires : tie.Need-load-requires
 load-requires c κs =
@@ -44,7 +51,7 @@ expand-regions-requires c κs =
 
 flood-all-requires : tie.Need-flood-all-requires
 flood-all-requires c κs =
-    let x = c .before .before .before .before .before .before .before in
+    let x = c .before .before .before .before .before .before .before .before in
     let t = T x in
     let l = L t in
     let s = S (l .before) in
@@ -74,19 +81,21 @@ returns c =
     let r = ready-turn _ _ _ _ _ _ _ _ _ _ v _ _ _ k (l .load .ensures) in
     let a = t .turn-stack .ensures .0 in
     let f = t .turn-stack .ensures .1 in
-    let q = x .expand-regions .ensures in
-    turn-strayed _ _ _ _ _ _ _ _ _ _ v _ _ _ k (l .load .ensures) _ _ (expanded-as _ _ _ _ _ _ _ _ r _ _ a f _ _ _ (q .0) (q .1 .1 .0))
-    _ (strays-as _ _ _ _ _ _ _ _ r _ _ a f _ _ (q .1 .0)) (c .if1 .taken)
+    let q = x .expand-regions .ensures in (
+      turn-strayed _ _ _ _ _ _ _ _ _ _ v _ _ _ k (l .load .ensures) _ _ (expanded-as _ _ _ _ _ _ _ _ r _ _ a f _ _ _ (q .0) (q .1 .1 .0))
+          _ (strays-as _ _ _ _ _ _ _ _ r _ _ a f _ _ (q .1 .0)) (c .if1 .taken),
+      stopped-told _ _ _ _ _ _ _ _ _ _ _ _ (omega arith),
+    )
 
 same-length-3 : tie.Need-same-length-3
 same-length-3 c = search needs
 
 same-length-4 : tie.Need-same-length-4
-same-length-4 c = search needs
+same-length-4 c = let y = c .before .before .before .before .before .before .before in ws-kept y
 
 returns-2 : tie.Need-returns-2
 returns-2 c =
-    let y = c .before .before .before .before .before .before in
+    let y = c .before .before .before .before .before .before .before in
     let x = X y in
     let t = T x in
     let l = L t in
@@ -97,19 +106,22 @@ returns-2 c =
     let a = t .turn-stack .ensures .0 in
     let f = t .turn-stack .ensures .1 in
     let q = x .expand-regions .ensures in
-    let e = expanded-as _ _ _ _ _ _ _ _ r _ _ a f _ _ _ (q .0) (q .1 .1 .0) in
-    turn-out _ _ _ _ _ _ _ _ _ _ v _ _ _ k (l .load .ensures) _ _ e _ (strays-as _ _ _ _ _ _ _ _ r _ _ a f _ _ (q .1 .0)) (y .before .before .before .if1 .left)
-    _ _ _ (flooded _ _ _ _ _ _ _ _ _ (e .ready) _ _ a f _ _ _ _ (y .flood-all .ensures) (y .flood-all .kept .1 .1 .1 .1 .0)) (c .if2 .taken)
+    let e = expanded-as _ _ _ _ _ _ _ _ r _ _ a f _ _ _ (q .0) (q .1 .1 .0) in (
+      turn-out _ _ _ _ _ _ _ _ _ _ v _ _ _ k (l .load .ensures) _ _ e _ (strays-as _ _ _ _ _ _ _ _ r _ _ a f _ _ (q .1 .0)) (y .before .before .before .before .if1 .left)
+          _ _ _ (flooded _ _ _ _ _ _ _ _ _ (e .ready) _ _ a f _ _ _ _ (y .flood-all .ensures .0) (y .flood-all .kept .1 .1 .1 .1 .0)) (c .if2 .taken),
+      stopped-told _ _ _ _ _ _ _ _ _ _ _ _ (omega arith),
+    )
 
 same-length-5 : tie.Need-same-length-5
 same-length-5 c = search needs
 
 same-length-6 : tie.Need-same-length-6
-same-length-6 c = search needs
+same-length-6 c = let y = c .before .before .before .before .before .before .before .before in ws-kept y
 
 returns-3 : tie.Need-returns-3
 returns-3 c =
-    let y = c .before .before .before .before .before .before in
+    let d = c .before in
+    let y = d .before .before .before .before .before .before .before in
     let x = X y in
     let t = T x in
     let l = L t in
@@ -121,8 +133,13 @@ returns-3 c =
     let f = t .turn-stack .ensures .1 in
     let q = x .expand-regions .ensures in
     let e = expanded-as _ _ _ _ _ _ _ _ r _ _ a f _ _ _ (q .0) (q .1 .1 .0) in
-    turned _ _ _ _ _ _ _ _ _ _ v _ _ _ k (l .load .ensures) _ _ e _ (strays-as _ _ _ _ _ _ _ _ r _ _ a f _ _ (q .1 .0)) (y .before .before .before .if1 .left)
-    _ _ _ (flooded _ _ _ _ _ _ _ _ _ (e .ready) _ _ a f _ _ _ _ (y .flood-all .ensures) (y .flood-all .kept .1 .1 .1 .1 .0)) (c .if2 .left)
+    let n = strays-as _ _ _ _ _ _ _ _ r _ _ a f _ _ (q .1 .0) in
+    let w = y .before .before .before .before .if1 .left in
+    let m = flooded _ _ _ _ _ _ _ _ _ (e .ready) _ _ a f _ _ _ _ (y .flood-all .ensures .0) (y .flood-all .kept .1 .1 .1 .1 .0) in (
+      turned _ _ _ _ _ _ _ _ _ _ v _ _ _ k (l .load .ensures) _ _ e _ n w _ _ _ m (d .if2 .left),
+      turn-told _ _ _ _ _ _ _ _ _ _ v _ _ _ k (l .load .ensures) _ _ e _ n w _ _ _ m (d .if2 .left) _ _ a f _ _ _
+          (told-as _ _ _ _ _ _ _ _ r _ _ a f _ _ _ (q .1 .1 .1 .1)) (y .flood-all .ensures .1 (d .if2 .left)),
+    )
 
 pub turn-spec : {M : Type 1} → statement M
 turn-spec =

@@ -68,7 +68,10 @@ put-back-requires c κs =
     )
 
 same-length : tie.Need-same-length
-same-length c = search needs
+same-length c =
+    let g = G (c .before .before .before .before .before .before) in
+    let p = P g in
+    g .grow .kept .1 .1 .1 .1 .1 .1 .1 .1 .0 ∙ p .clear-part .kept .0 ∙ C (I p) .copy-part .kept .1 .0
 
 same-length-2 : tie.Need-same-length-2
 same-length-2 c = search needs
@@ -84,7 +87,7 @@ returns c =
     let s = S (k .before) in
     let size = g .grow .kept .1 .1 .1 .1 .1 .1 .1 .0 ∙ i .clear .kept .0 in
     put-back _ _ _ _ _ _ _ _ _ (s .pre .0) _ (s .pre .1) _ refl _ (k .copy-part .kept .1 .0) (k .copy-part .ensures .0) _ (p .clear-part .kept .0) (p .clear-part .ensures .1)
-    _ _ _ _ _ _ (g .grow .ensures) (g .grow .kept .1 .1 .1 .1 .1 .1 .1 .1 .0) _ _ size (b .put-back .ensures) (y .if1 .taken)
+    _ _ _ _ _ _ (g .grow .ensures .0) (g .grow .kept .1 .1 .1 .1 .1 .1 .1 .1 .0) _ _ size (b .put-back .ensures) (y .if1 .taken)
 
 same-length-3 : tie.Need-same-length-3
 same-length-3 c = search needs
@@ -100,7 +103,7 @@ returns-2 c =
     let k = C i in
     let s = S (k .before) in
     raised _ _ _ _ _ _ _ _ _ (s .pre .0) _ (s .pre .1) _ refl _ (k .copy-part .kept .1 .0) (k .copy-part .ensures .0) _ (p .clear-part .kept .0) (p .clear-part .ensures .1)
-    _ _ _ _ _ _ (g .grow .ensures) (g .grow .kept .1 .1 .1 .1 .1 .1 .1 .1 .0) (c .if1 .left)
+    _ _ _ _ _ _ (g .grow .ensures .0) (g .grow .kept .1 .1 .1 .1 .1 .1 .1 .1 .0) (c .if1 .left)
 
 pub grow-regions-spec : {M : Type 1} → statement M
 grow-regions-spec =

@@ -1,0 +1,134 @@
+// Merges noted in their order: "the trail of merges from the flood's id to the last". The records lie before `end` in the workspace, what is noted
+// from there on, two numbers a merge: the id that was absorbed, and the one that absorbed it.
+use crate::merge::Round;
+use crate::merge::merge_one;
+ghost use mathlib.Core.Path.{_≡_};
+ghost use Prim.Native.Nat.{suc, _+_, _*_, _≤_, _<_};
+ghost use lib.ListN.{length, take, set};
+ghost use Rattle.table.specs.View.{recsOf};
+ghost use Rattle.filter.specs.Group.{Calm};
+ghost use Rattle.pool.specs.Alike.{Reps, Joined};
+ghost use Rattle.pool.specs.Fixed.{mergedF};
+ghost use Rattle.pool.specs.Pool.{Pool, Laid};
+ghost use Rattle.pool.proofs.MergeLaws.{owners};
+ghost use Rattle.merge.specs.Told.{mergingsAt, mergingsF, MergedIn, NotedOne, NotedRound, NotedAll};
+
+// A round under way, and how many merges are noted.
+pub struct Noted {
+    pub round: Round,
+    pub count: usize,
+}
+
+// Record i of a round, over the records before `end`.
+fn merge_in(ws: &mut [u16], end: usize, m: usize, p: usize, area: u16, i: usize, g: Round) -> Round
+    requires { ⌜ (end ≤ length (now ws)) × Pool m p (g .now) (g .other) (take end (now ws)) × Laid m p (g .now) (g .other) (g .top) (take end (now ws)) ⌝ }
+    requires { ⌜ Reps (recsOf (take end (now ws)) m) × (i < m) × (g .merges < 65536) ⌝ }
+    ensures { λ r. ⌜ MergedIn area i m p end (now (ws .entry)) (g .merges) (now (ws .exit)) r ⌝ }
+{
+    merge_one(&mut ws[..end], m, p, area, i, g)
+}
+
+// A merge is noted at place b.
+fn note_merge(ws: &mut [u16], b: usize, old: u16, new: u16)
+    requires { ⌜ b + 1 < length (now ws) ⌝ }
+    ensures { λ _. ⌜ now (ws .exit) ≡ set (set (now (ws .entry)) b old) (b + 1) new ⌝ }
+{
+    ws[b] = old;
+    ws[b + 1] = new;
+}
+
+// Record i of a round; if it merges, that is noted.
+fn merge_one_noted(
+    ws: &mut [u16],
+    end: usize,
+    m: usize,
+    p: usize,
+    area: u16,
+    i: usize,
+    g: Noted,
+) -> Noted
+    requires { ⌜ (end + 2 * m ≤ length (now ws)) × Pool m p (g .round .now) (g .round .other) (take end (now ws))
+        × Laid m p (g .round .now) (g .round .other) (g .round .top) (take end (now ws)) ⌝ }
+    requires { ⌜ Joined (recsOf (take end (now ws)) m) × (i < m) × (g .round .merges < 65536)
+        × (g .count + owners m (recsOf (take end (now ws)) m) ≤ m) ⌝ }
+    ensures { λ r. ⌜ NotedOne area i m p end (now (ws .entry)) g (now (ws .exit)) r ⌝ }
+{
+    let old = ws[i];
+    let before = g.round;
+    let r = merge_in(ws, end, m, p, area, i, before);
+    if r.merges == before.merges {
+        return Noted {
+            round: r,
+            count: g.count,
+        };
+    }
+    let new = ws[i];
+    note_merge(ws, end + 2 * g.count, old, new);
+    Noted {
+        round: r,
+        count: g.count + 1,
+    }
+}
+
+// A round: all records, in order.
+fn merge_round_noted(
+    ws: &mut [u16],
+    end: usize,
+    m: usize,
+    p: usize,
+    area: u16,
+    h: usize,
+    o: usize,
+    top: usize,
+    count: usize,
+) -> Noted
+    requires { ⌜ (end + 2 * m ≤ length (now ws)) × Pool m p h o (take end (now ws)) × Laid m p h o top (take end (now ws)) ⌝ }
+    requires { ⌜ Joined (recsOf (take end (now ws)) m) × (count + owners m (recsOf (take end (now ws)) m) ≤ m) ⌝ }
+    ensures { λ r. ⌜ NotedRound area m m p end (now (ws .entry)) count (now (ws .exit)) r ⌝ }
+{
+    let mut g = Noted {
+        round: Round {
+            now: h,
+            other: o,
+            top,
+            merges: 0,
+        },
+        count,
+    };
+    let mut i = 0;
+    while i < m {
+        g = merge_one_noted(ws, end, m, p, area, i, g);
+        i += 1;
+    }
+    g
+}
+
+// Rounds until one merges nothing. Gives how many merges are noted.
+pub(crate) fn merge_all_noted(
+    ws: &mut [u16],
+    end: usize,
+    m: usize,
+    p: usize,
+    area: u16,
+    h: usize,
+    o: usize,
+) -> usize
+    requires { ⌜ (end + 2 * m ≤ length (now ws)) × Pool m p h o (take end (now ws)) × Joined (recsOf (take end (now ws)) m) ⌝ }
+    ensures { λ r. ⌜ NotedAll area m end (now (ws .entry)) (now (ws .exit)) r ⌝ }
+{
+    let mut now = h;
+    let mut other = o;
+    let mut top = h + p;
+    let mut count = 0;
+    loop {
+        let g = merge_round_noted(ws, end, m, p, area, now, other, top, count);
+        let r = g.round;
+        if r.merges == 0 {
+            return g.count;
+        }
+        now = r.now;
+        other = r.other;
+        top = r.top;
+        count = g.count;
+    }
+}

@@ -1,0 +1,3 @@
+-- Reasons, as theorems about the rules alone.
+pub mod Shadow
+pub mod Trails

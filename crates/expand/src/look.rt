@@ -143,11 +143,11 @@ fn gives(
     if at8(area, a) != own {
         return false;
     }
-    let r = id_at(ids, a);
-    if r == RegionId::NONE.0 {
+    let id = id_at(ids, a);
+    if id == RegionId::NONE.0 {
         return false;
     }
-    if RegionId(r).is_border() {
+    if RegionId(id).is_border() {
         return false;
     }
     if source_at(ws, a) as usize + 2 == far {

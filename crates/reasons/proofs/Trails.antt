@@ -33,11 +33,11 @@ ren-miss : (a b x : ℕ) → (x ≡ a → ⊥) → ren a b x ≡ x
 unfolding if_then_else_
 ren-miss a b x n = rw (ne-eqb x a n)
 
-trail-hit : (x : Merging) (xs : List Merging) (r : ℕ) → x .old ≡ r → trail (x ∷ xs) r ≡ r ∷ trail xs (x .new)
+pub trail-hit : (x : Merging) (xs : List Merging) (r : ℕ) → x .old ≡ r → trail (x ∷ xs) r ≡ r ∷ trail xs (x .new)
 unfolding trail if_then_else_
 trail-hit x xs r e = rw (eq-eqb (x .old) r e)
 
-trail-miss : (x : Merging) (xs : List Merging) (r : ℕ) → (x .old ≡ r → ⊥) → trail (x ∷ xs) r ≡ trail xs r
+pub trail-miss : (x : Merging) (xs : List Merging) (r : ℕ) → (x .old ≡ r → ⊥) → trail (x ∷ xs) r ≡ trail xs r
 unfolding trail if_then_else_
 trail-miss x xs r n = rw (ne-eqb (x .old) r n)
 

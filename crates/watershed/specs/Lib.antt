@@ -1,3 +1,4 @@
 pub mod Form
 pub mod Answer
 pub mod Stages
+pub mod Explain

@@ -1,3 +1,4 @@
 -- Reasons, as theorems about the rules alone.
 pub mod Shadow
 pub mod Trails
+pub mod Groups

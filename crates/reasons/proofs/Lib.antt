@@ -2,3 +2,4 @@
 pub mod Shadow
 pub mod Trails
 pub mod Groups
+pub mod Small

@@ -3,3 +3,4 @@ pub mod Shadow
 pub mod Trails
 pub mod Groups
 pub mod Small
+pub mod Room

@@ -173,7 +173,7 @@ all-told area (suc k) rs l R =
 pub record Owns (rs : List Rec) : Type 0 where
   pub own : (x : ℕ) → Live rs x → (at rs x .count ≡ 0 → ⊥) → at rs x .id ≡ x
 
-some-spanned : (rs : List Rec) (x : ℕ) → (at rs x .count ≡ 0 → ⊥) → 0 < tally spanned rs
+pub some-spanned : (rs : List Rec) (x : ℕ) → (at rs x .count ≡ 0 → ⊥) → 0 < tally spanned rs
 unfolding at fresh tally if_then_else_
 some-spanned [] x h = absurd (h refl)
 some-spanned (r ∷ rs) zero h = rw (spanned-yes r h) (omega arith)

@@ -4,3 +4,5 @@ pub mod Trails
 pub mod Groups
 pub mod Small
 pub mod Room
+pub mod Finals
+pub mod Reasons

@@ -25,11 +25,11 @@ became : List Merging → ℕ → ℕ
 became [] r = r
 became (x ∷ xs) r = became xs (ren (x .old) (x .new) r)
 
-ren-hit : (a b x : ℕ) → x ≡ a → ren a b x ≡ b
+pub ren-hit : (a b x : ℕ) → x ≡ a → ren a b x ≡ b
 unfolding if_then_else_
 ren-hit a b x e = rw (eq-eqb x a e)
 
-ren-miss : (a b x : ℕ) → (x ≡ a → ⊥) → ren a b x ≡ x
+pub ren-miss : (a b x : ℕ) → (x ≡ a → ⊥) → ren a b x ≡ x
 unfolding if_then_else_
 ren-miss a b x n = rw (ne-eqb x a n)
 

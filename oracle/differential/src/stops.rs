@@ -4,6 +4,7 @@
 use crate::{
     calls::Call,
     tally::{Tally, only},
+    why,
 };
 use oracle::{
     field::Settings,
@@ -70,7 +71,11 @@ pub fn compare(count: u64) -> Tally {
         tally.fields += 1;
         match edge.compare() {
             Ok(answer) => tally.count(edge.name, &answer),
-            Err(what) => tally.differs(&format!("{}: {what}\nagain: {}", edge.name, only("edges", 6))),
+            Err(what) => tally.differs(&format!(
+                "{}: {what}\nagain: {}",
+                edge.name,
+                only("edges", 6)
+            )),
         }
     }
     tally
@@ -81,7 +86,15 @@ impl Edge {
         let call = (self.make)();
         let refusal = call.regions().err().map(|refusal| refusal as u16);
         if refusal != self.refusal {
-            return Err(format!("the model tells {refusal:?}, not {:?}", self.refusal));
+            return Err(format!(
+                "the model tells {refusal:?}, not {:?}",
+                self.refusal
+            ));
+        }
+        // "12 and 13 follow as there": the first span and the last
+        let build = why::reasons(&call);
+        for span in [0, call.field.spans() - 1] {
+            why::Asked::new(&call, span as u32).compare(&build)?;
         }
         call.compare_regions()
     }

@@ -46,10 +46,34 @@ const WINDINGS: [Winding; 10] = [
     winding("39,996 steps, removed", 9_999, None, (20_000, 0), 0),
     winding("40,004 steps, removed", 10_001, None, (20_000, 0), 1),
     winding("two cut short", 20_100, Some(10_050), (0, 0), 2),
-    winding("two cut short, merged", 20_100, Some(10_050), (0, 65_535), 1),
-    winding("absorbed by one that is not", 14_000, Some(10_050), (0, 65_535), 1),
-    winding("absorbs one that is not", 14_000, Some(2_050), (0, 65_535), 1),
-    winding("two that are not, merged", 14_000, Some(7_050), (0, 65_535), 0),
+    winding(
+        "two cut short, merged",
+        20_100,
+        Some(10_050),
+        (0, 65_535),
+        1,
+    ),
+    winding(
+        "absorbed by one that is not",
+        14_000,
+        Some(10_050),
+        (0, 65_535),
+        1,
+    ),
+    winding(
+        "absorbs one that is not",
+        14_000,
+        Some(2_050),
+        (0, 65_535),
+        1,
+    ),
+    winding(
+        "two that are not, merged",
+        14_000,
+        Some(7_050),
+        (0, 65_535),
+        0,
+    ),
 ];
 
 /// Compares all of them.
@@ -59,7 +83,11 @@ pub fn compare() -> Tally {
         tally.fields += 1;
         match winding.compare() {
             Ok(answer) => tally.count(winding.name, &answer),
-            Err(what) => tally.differs(&format!("winding corridor, {}: {what}\nagain: {}", winding.name, only("large", 1))),
+            Err(what) => tally.differs(&format!(
+                "winding corridor, {}: {what}\nagain: {}",
+                winding.name,
+                only("large", 1)
+            )),
         }
     }
     tally

@@ -18,7 +18,7 @@ use Rattle.rules.specs.Filter.{filtered}
 use Rattle.rules.specs.Numbering.{dense, regions, formed}
 use Rattle.rules.specs.Outcomes.{Sizes}
 use Rattle.rules.specs.Reasons.{Story, story, goneWith, mergings, trail, Reason, notWalkable, paintedBy, neverReached, filteredOut, flooded, expanded, reasonOf, explainRefusal, ExplainOutcome, unexplained, explains, explainOutcome}
-use Rattle.laws.proofs.Basics.{if-ind}
+use Rattle.laws.proofs.Basics.{if-ind, getD-any}
 use Rattle.checker.specs.Answer.{numberOf, verdictNumber}
 use Rattle.checker.specs.declared.Refusal.{Refusal}
 use Rattle.checker.specs.declared.Verdict.{Verdict}
@@ -27,7 +27,7 @@ use Rattle.checker.proofs.Numbers.{number-pos}
 use Rattle.records.specs.Stock.{Built}
 use Rattle.merge.proofs.ToldLaws.{part-length}
 use Rattle.watershed.specs.declared.explain.Explanation.{Explanation}
-use Rattle.watershed.specs.Explain.{explained, withoutRoom, withRoom, roomReason, Explains}
+use Rattle.watershed.specs.Explain.{explained, withoutRoom, withRoom, roomReason, Living, Explains}
 
 -- ---------------------------------------------------------------- the refusal
 
@@ -93,7 +93,49 @@ module _ (F : Field) (dist : List ℕ) (most : ℕ) (z : Sizes) (s : ℕ) where
         unfolding reasonOf roomReason if_then_else_
         has-room k = rw (ne-eqb _ _ a, lt-leb 0x8000 grownId p, ne-eqb _ _ r, ne-eqb _ _ k)
 
+-- the same of the grown ids as the code has them
+module _ (F : Field) (dist : List ℕ) (most : ℕ) (z : Sizes) (s : ℕ) (ids : List ℕ) (g : ids ≡ grown F dist most (z .border) .ids) (h : s < length (F .area)) where
+  walkable : (getD (F .area) s 0 ≡ 0 → ⊥) → getD (F .area) s 256 ≡ 0 → ⊥
+  walkable a e = a (sym (getD-any (F .area) s 256 0 h) ∙ e)
+
+  pub not-walkable-at : getD (F .area) s 0 ≡ 0 → reasonOf F dist most z s ≡ notWalkable
+  not-walkable-at a = not-walkable F dist most z s (getD-any (F .area) s 256 0 h ∙ a)
+
+  pub painted-at : (getD (F .area) s 0 ≡ 0 → ⊥) → 0x8000 ≤ getD ids s 0 → reasonOf F dist most z s ≡ paintedBy (getD ids s 0 - 0x8000)
+  painted-at a p = rw g (painted F dist most z s (walkable a) (rw (← g) p))
+
+  pub never-reached-at : (getD (F .area) s 0 ≡ 0 → ⊥) → getD ids s 0 < 0x8000 → getD ids s 0 ≡ 0 → reasonOf F dist most z s ≡ neverReached
+  never-reached-at a p r = never-reached F dist most z s (walkable a) (rw (← g) p) (rw (← g) r)
+
+  module _ (L : Living (F .area) ids s) where
+    some : grownId F dist most z s ≡ 0 → ⊥
+    some e = L .some (ap (λ (l : List ℕ). getD l s 0) g ∙ e)
+
+    plain : grownId F dist most z s < 0x8000
+    plain = rw (← g) (L .plain)
+
+    pub filtered-out-at : (id group : ℕ) → id ≡ at (kept F dist most z s) (grownId F dist most z s) .id → id ≡ 0
+        → group ≡ goneWith (z .least) (grownId F dist most z s) (length (recs F dist most z s)) (recs F dist most z s)
+        → reasonOf F dist most z s ≡ filteredOut group (z .least)
+    filtered-out-at id group e k q = rw q (filtered-out F dist most z s (walkable (L .walkable)) plain some (sym e ∙ k))
+
+    pub has-room-at : (id r a k : ℕ) (t : List ℕ) → id ≡ at (kept F dist most z s) (grownId F dist most z s) .id → (id ≡ 0 → ⊥) → r ≡ getD ids s 0
+        → a ≡ story F dist most (z .border) s .from
+        → t ≡ trail (mergings (z .merge) (suc (length (kept F dist most z s))) (kept F dist most z s) []) (grownId F dist most z s) → k ≡ number F dist most z s
+        → reasonOf F dist most z s ≡ roomReason r a t k
+    has-room-at id r a k t e o u v q n = rw (u, v, q, n, g) (has-room F dist most z s (walkable (L .walkable)) plain some (λ i. o (e ∙ i)))
+
 -- ---------------------------------------------------------------- the numbers of a reason
+
+-- reasons 1 to 4 leave zeros
+pub no-room-told : (x : Explanation) (n k : ℕ) (y : Story) (c c′ : Reason) (f : List ℕ → ExplainOutcome) (l : List ℕ) → ((m : List ℕ) → explained x [] m ≡ f m) → l ≡ replicate k 0 → k ≡ n
+    → f (replicate n 0) ≡ explains n c y 0 → c′ ≡ c → explained x [] l ≡ explains n c′ y 0
+no-room-told x n k y c c′ f l u e h t q = u l ∙ rw (e, h, q) t
+
+-- reasons 5 and 6 leave the trail
+pub room-told : (x : Explanation) (n k : ℕ) (y : Story) (c c′ : Reason) (t l : List ℕ) → l ≡ t ++ replicate (k - length t) 0 → k ≡ n
+    → explained x [] (t ++ replicate (n - length t) 0) ≡ explains n c y 0 → c′ ≡ c → explained x [] l ≡ explains n c′ y 0
+room-told x n k y c c′ t l e h u q = rw (e, h, q) u
 
 module _ (n : ℕ) (y : Story) where
   all : n - 0 ≡ n
@@ -161,6 +203,10 @@ module _ (F : Field) (dist : List ℕ) (most : ℕ) (z : Sizes) (s : ℕ) (ws l 
   abbrev refusal : ℕ
   refusal = explainRefusal F (length l) (length ws) dist most s
 
+  -- 1 to 8 come before 14
+  abbrev before : ℕ
+  before = regionRefusal F (length dist ∷ length l ∷ []) (length ws) dist most
+
   pub outcome-refused : (k : ℕ) → k ≡ refusal → (k ≡ 0 → ⊥) → (o : ExplainOutcome) → o ≡ unexplained k ws l → o ≡ explainOutcome F dist most z s ws l
   unfolding explainOutcome if_then_else_
   outcome-refused k e h o u =
@@ -188,12 +234,9 @@ module _ (F : Field) (dist : List ℕ) (most : ℕ) (z : Sizes) (s : ℕ) (ws l 
   pub none-refused : (k : ℕ) → k ≡ refusal → k ≡ 0 → (regionRefusal F (length dist ∷ length l ∷ []) (length ws) dist most ≡ 0) × (s < spans F)
   unfolding explainRefusal
   none-refused k e h =
-      if-ind (λ (x : ℕ). x ≡ 0 → (first′ ≡ 0) × (s < spans F)) (not (eqb first′ 0)) (λ t x. absurd (eqb-false _ _ (not-true _ t) x))
-      (λ t. if-ind (λ (x : ℕ). x ≡ 0 → (first′ ≡ 0) × (s < spans F)) (ltb s (spans F)) (λ u _. (eqb-true _ _ (not-false _ t), ltb-true _ _ u)) (λ _ x. absurd (omega arith)))
+      if-ind (λ (x : ℕ). x ≡ 0 → (before ≡ 0) × (s < spans F)) (not (eqb before 0)) (λ t x. absurd (eqb-false _ _ (not-true _ t) x))
+      (λ t. if-ind (λ (x : ℕ). x ≡ 0 → (before ≡ 0) × (s < spans F)) (ltb s (spans F)) (λ u _. (eqb-true _ _ (not-false _ t), ltb-true _ _ u)) (λ _ x. absurd (omega arith)))
       (sym e ∙ h)
-    where
-      abbrev first′ : ℕ
-      first′ = regionRefusal F (length dist ∷ length l ∷ []) (length ws) dist most
 
 -- ---------------------------------------------------------------- parts
 
@@ -202,7 +245,7 @@ pub built-in : (F : Field) (ids : List ℕ) (next end : ℕ) (ws ys : List ℕ) 
     → Built F ids next (take end ws) (take end (ys ++ drop end ws))
 built-in F ids next end ws ys h n B = rw (take-at ys (drop end ws) end (n ∙ part-length end ws h)) B
 
-zeros-past : (n k : ℕ) → drop k (replicate n 0) ≡ replicate (n - k) 0
+zeros-past : (n k : ℕ) → drop k (replicate {A = ℕ} n 0) ≡ replicate (n - k) 0
 zeros-past n zero = let e : n - 0 ≡ n = omega arith in rw e refl
 zeros-past zero (suc k) = let e : 0 - suc k ≡ 0 = omega arith in rw e refl
 zeros-past (suc n) (suc k) = let e : suc n - suc k ≡ n - k = omega arith in rw e (zeros-past n k)

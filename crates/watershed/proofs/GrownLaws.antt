@@ -4,22 +4,25 @@ use Prim.Native.Nat.{ℕ, zero, suc, _+_, _-_, _*_, _≤_, _<_}
 use native.Mathlib.Omega.{arith}
 use mathlib.Core.Path.{_≡_, refl, sym, ap, _∙_}
 use mathlib.Core.List.{List, [], _∷_, _++_}
-use lib.ListN.{length, getD, take, drop, List·getD-map}
+use lib.ListN.{length, getD, take}
 use lib.Seq.{getD-take}
-use Rattle.rules.specs.Field.{Field, none, Bytes}
+use Rattle.rules.specs.Field.{Field, spans}
 use Rattle.rules.specs.Growth.{grown, firstId}
 use Rattle.rules.specs.Records.{Rec, at, records}
 use Rattle.rules.specs.Filter.{filtered}
 use Rattle.rules.specs.Merge.{merged}
 use Rattle.rules.specs.Numbering.{dense, Regions, numbered, regions, formed}
 use Rattle.rules.specs.Outcomes.{Sizes}
-use Rattle.rules.specs.Refusals.{mostSpans}
+use Rattle.rules.specs.Refusals.{mostSpans, regionRefusal}
 use Rattle.rules.specs.Reasons.{Story, story, Merging, goneWith, mergings, trail}
 use Rattle.laws.proofs.Lengths.{records-length, filtered-length}
 use Rattle.rooms.specs.Dense.{lower, lowered, shifted}
-use Rattle.rooms.proofs.Dense.{formed-is}
-use Rattle.rooms.proofs.Rooms.{entry-rooms}
+use Rattle.rooms.proofs.Dense.{lower-at, formed-is}
+use Rattle.rooms.proofs.Rooms.{accepted, entry-rooms}
 use Rattle.rooms.proofs.Entry.{first-some}
+use Rattle.reasons.proofs.Groups.{gone-fits}
+use Rattle.reasons.proofs.Small.{story-fits}
+use Rattle.reasons.proofs.Room.{trail-room}
 use Rattle.field.specs.Lent.{lent}
 use Rattle.space.proofs.Laws.{sec-take}
 use Rattle.net.specs.Table.{netAt}
@@ -50,6 +53,22 @@ noted-from ws b zero = refl
 noted-from ws b (suc k) = ap (λ (l : List Merging). record { old = getD ws b 0; new = getD ws (b + 1) 0 } ∷ l) (noted-from ws (b + 2) k) ∙ sym (noted-first ws b k)
 
 -- ---------------------------------------------------------------- after growth
+
+pub grown-of : (F : Field) (dist : List ℕ) (most border table s next stop : ℕ) (y : Story) (ids₀ ws₀ ids ws : List ℕ)
+    → regionRefusal F (length dist ∷ length ids₀ ∷ []) (length ws₀) dist most ≡ 0 → table ≡ tableAt (spans F) → s < spans F → length ids ≡ length ids₀ → length ws ≡ length ws₀
+    → Raised F dist most border table ids₀ next stop ids ws → stop ≡ 0 → (stop ≡ 0 → y ≡ story F dist most border s)
+    → Grown F dist most border table s next y ids ws
+grown-of F dist most border table s next stop y ids₀ ws₀ ids ws p t h n m R o u = record {
+  passes = rw (n, m) p;
+  placed = t;
+  span = h;
+  goes = sym (R .stops) ∙ o;
+  grew = R .ids o;
+  id = R .id o;
+  clear = R .clear o;
+  net = R .net o;
+  told = u o;
+}
 
 module _ (w h : ℕ) (is ks ar cs dist : List ℕ) (most border table s next : ℕ) (y : Story) (ids ws : List ℕ)
     (G : Grown (lent w h is ks ar cs) dist most border table s next y ids ws) (bytes : (i : ℕ) → getD ar i 0 < 256) where
@@ -158,10 +177,28 @@ module _ (w h : ℕ) (is ks ar cs dist : List ℕ) (most border table s next : �
 
         pub told-number : (d x : ℕ) → d ≡ firstId border - 1 → x ≡ lower d (getD (found .ids) s 0)
             → x ≡ getD (formed dense (regions F least area grownIds (grown F dist most border .next)) .ids) s 0
-        told-number d x k v = ?
+        unfolding shifted lowered
+        told-number d x k v =
+            let rooms = entry-rooms F (length dist ∷ length ids ∷ []) (length ws) dist most (G .passes) (areas-are-bytes w h is ks ar cs bytes) border least area (G .goes) in
+            let f = ap (λ (g : Regions). getD (g .ids) s 0) (formed-is dense F (firstId border) _ rooms (first-some border)) in
+            v ∙ rw (regions-is, k) (sym (f ∙ lower-at (firstId border - 1) (regions F least area grownIds (grown F dist most border .next) .ids) s))
+
+        -- a list of one number a span holds the trail
+        trail-short : (id ≡ 0 → ⊥) → length (trail (mergings area (suc (length kept)) kept []) (getD grownIds s 0)) ≤ length ar
+        trail-short z = trail-room F dist most border (areas-are-bytes w h is ks ar cs bytes) (G .goes) least area s (G .span) (λ e. z (told-id ∙ e))
+
+        pub told-trail : trail (mergingsFrom ws₄ end merges) r ≡ trail (mergings area (suc (length kept)) kept []) (getD grownIds s 0)
+        told-trail = rw (told-merges, o, G .grew) refl
+
+        pub laid-room : (id ≡ 0 → ⊥) → length (trail (mergingsFrom ws₄ end merges) r) ≤ length ar
+        laid-room z = rw told-trail (trail-short z)
+
+        -- a group is under the least area
+        pub group-small : group ≤ least
+        group-small = rw told-group (gone-fits least (getD grownIds s 0) (length recs) recs)
 
         pub noted-room : end + 2 * merges ≤ length ws
         noted-room = omega (arith, T .few, past-room)
 
   pub story-small : Fits y
-  story-small = ?
+  story-small = let f = story-fits F (length dist ∷ length ids ∷ []) (accepted F _ (length ws) dist most (G .passes)) dist most border s in rw (G .told) (record { from = f .0; objecting = f .1 })

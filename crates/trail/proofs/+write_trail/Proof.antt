@@ -2,7 +2,7 @@
 -- Assumes nothing.
 use borrow.Author.Needs.{needs}
 use native.Mathlib.Omega.{arith}
-use mathlib.Core.Path.{refl, sym, ap, _∙_}
+use mathlib.Core.Path.{refl, ap, _∙_}
 use Prim.Native.Nat.{ℕ, _<_}
 use lib.ListN.{length, length-set}
 use denote.Ref.{now}
@@ -26,35 +26,30 @@ abbrev write-trail-below : ℕ → In 2 write-trail-kinds.ps
 write-trail-below t =
     and 2 write-trail-kinds.ps (falls 2 write-trail-kinds.ps _<_ μ-write-trail t) write-trail.Pre
 
--- src/lib.rt:24:9
 write-trail-mul-list : (t : ℕ) → write-trail-lts.Need-mul-list (
   write-trail-below t,
   write-trail.Post,
 ) (write-trail-at t) write-trail.Post
 write-trail-mul-list t c = search needs
 
--- src/lib.rt:24:9
 write-trail-slice-write-list : (t : ℕ) → write-trail-lts.Need-slice-write-list (
   write-trail-below t,
   write-trail.Post,
 ) (write-trail-at t) write-trail.Post
 write-trail-slice-write-list t c = let s = c .before .before .before in omega (arith, s .pre .1 .1, some (now (s .args .ws)) (s .args .b) (s .args .left) (s .args .id))
 
--- src/lib.rt:25:16
 write-trail-add-result : (t : ℕ) → write-trail-lts.Need-add-result (
   write-trail-below t,
   write-trail.Post,
 ) (write-trail-at t) write-trail.Post
 write-trail-add-result t c = search needs
 
--- src/lib.rt:25:9
 write-trail-same-length : (t : ℕ) → write-trail-lts.Need-same-length (
   write-trail-below t,
   write-trail.Post,
 ) (write-trail-at t) write-trail.Post
 write-trail-same-length t c = search needs
 
--- src/lib.rt:25:9
 write-trail-returns : (t : ℕ) → write-trail-lts.Need-returns (
   write-trail-below t,
   write-trail.Post,
@@ -64,35 +59,30 @@ write-trail-returns t c =
     let e = ends (now (s .args .ws)) (s .args .b) (s .args .left) (s .args .id) (c .if1 .taken) in
     (omega (arith, ap length e), wrote-last (now (s .args .list)) _ (s .args .k) _ _ e (omega (arith, s .pre .1 .1, ap length e)) refl)
 
--- src/lib.rt:27:8
 write-trail-mul-if2 : (t : ℕ) → write-trail-lts.Need-mul-if2 (
   write-trail-below t,
   write-trail.Post,
 ) (write-trail-at t) write-trail.Post
 write-trail-mul-if2 t c = search needs
 
--- src/lib.rt:27:8
 write-trail-shared-slice-read-if2 : (t : ℕ) → write-trail-lts.Need-shared-slice-read-if2 (
   write-trail-below t,
   write-trail.Post,
 ) (write-trail-at t) write-trail.Post
 write-trail-shared-slice-read-if2 t c = search needs
 
--- src/lib.rt:28:32
 write-trail-add-write-trail : (t : ℕ) → write-trail-lts.Need-add-write-trail (
   write-trail-below t,
   write-trail.Post,
 ) (write-trail-at t) write-trail.Post
 write-trail-add-write-trail t c = search needs
 
--- src/lib.rt:28:39
 write-trail-sub-write-trail : (t : ℕ) → write-trail-lts.Need-sub-write-trail (
   write-trail-below t,
   write-trail.Post,
 ) (write-trail-at t) write-trail.Post
 write-trail-sub-write-trail t c = search needs
 
--- src/lib.rt:28:9
 write-trail-write-trail-requires : (t : ℕ) → write-trail-lts.Need-write-trail-requires (
   write-trail-below t,
   write-trail.Post,
@@ -103,14 +93,12 @@ write-trail-write-trail-requires t c κs =
     let e = passes (now (s .args .ws)) (s .args .b) (s .args .left) (s .args .id) z (c .before .if2 .taken) in
     (omega (arith, s .pre .0, z), (omega (arith, s .pre .1 .0, z), omega (arith, s .pre .1 .1, ap length e)))
 
--- src/lib.rt:28:9
 write-trail-same-length-2 : (t : ℕ) → write-trail-lts.Need-same-length-2 (
   write-trail-below t,
   write-trail.Post,
 ) (write-trail-at t) write-trail.Post
 write-trail-same-length-2 t c = search needs
 
--- src/lib.rt:28:9
 write-trail-returns-2 : (t : ℕ) → write-trail-lts.Need-returns-2 (
   write-trail-below t,
   write-trail.Post,
@@ -121,49 +109,42 @@ write-trail-returns-2 t c =
     let r = c .before .before .write-trail .ensures in
     (omega (arith, r .0, ap length e), r .1 ∙ rw e refl)
 
--- src/lib.rt:30:5
 write-trail-mul-list-2 : (t : ℕ) → write-trail-lts.Need-mul-list-2 (
   write-trail-below t,
   write-trail.Post,
 ) (write-trail-at t) write-trail.Post
 write-trail-mul-list-2 t c = search needs
 
--- src/lib.rt:30:5
 write-trail-slice-write-list-2 : (t : ℕ) → write-trail-lts.Need-slice-write-list-2 (
   write-trail-below t,
   write-trail.Post,
 ) (write-trail-at t) write-trail.Post
 write-trail-slice-write-list-2 t c = let s = c .before .before .before .before .before in omega (arith, s .pre .1 .1, some (now (s .args .ws)) (s .args .b) (s .args .left) (s .args .id))
 
--- src/lib.rt:31:21
 write-trail-add-write-trail-2 : (t : ℕ) → write-trail-lts.Need-add-write-trail-2 (
   write-trail-below t,
   write-trail.Post,
 ) (write-trail-at t) write-trail.Post
 write-trail-add-write-trail-2 t c = search needs
 
--- src/lib.rt:31:28
 write-trail-sub-write-trail-2 : (t : ℕ) → write-trail-lts.Need-sub-write-trail-2 (
   write-trail-below t,
   write-trail.Post,
 ) (write-trail-at t) write-trail.Post
 write-trail-sub-write-trail-2 t c = search needs
 
--- src/lib.rt:31:41
 write-trail-add-write-trail-3 : (t : ℕ) → write-trail-lts.Need-add-write-trail-3 (
   write-trail-below t,
   write-trail.Post,
 ) (write-trail-at t) write-trail.Post
 write-trail-add-write-trail-3 t c = search needs
 
--- src/lib.rt:31:38
 write-trail-mul-write-trail : (t : ℕ) → write-trail-lts.Need-mul-write-trail (
   write-trail-below t,
   write-trail.Post,
 ) (write-trail-at t) write-trail.Post
 write-trail-mul-write-trail t c = search needs
 
--- src/lib.rt:31:38
 write-trail-shared-slice-read-write-trail :
     (t : ℕ) → write-trail-lts.Need-shared-slice-read-write-trail (
       write-trail-below t,
@@ -171,14 +152,12 @@ write-trail-shared-slice-read-write-trail :
     ) (write-trail-at t) write-trail.Post
 write-trail-shared-slice-read-write-trail t c = search needs
 
--- src/lib.rt:31:55
 write-trail-add-write-trail-4 : (t : ℕ) → write-trail-lts.Need-add-write-trail-4 (
   write-trail-below t,
   write-trail.Post,
 ) (write-trail-at t) write-trail.Post
 write-trail-add-write-trail-4 t c = search needs
 
--- src/lib.rt:31:5
 write-trail-write-trail-requires-2 : (t : ℕ) → write-trail-lts.Need-write-trail-requires-2 (
   write-trail-below t,
   write-trail.Post,
@@ -190,7 +169,6 @@ write-trail-write-trail-requires-2 t c κs =
     let n = length-set (now (s .args .list)) (s .args .k) (s .args .id) in
     (omega (arith, s .pre .0, z), (omega (arith, s .pre .1 .0, z), omega (arith, s .pre .1 .1, ap length e, n)))
 
--- src/lib.rt:10:1
 write-trail-same-length-3 : (t : ℕ) → write-trail-lts.Need-same-length-3 (
   write-trail-below t,
   write-trail.Post,
@@ -199,7 +177,6 @@ write-trail-same-length-3 t c =
     let s = c .before .before .before .before .before .before .before .before .before .before in
     c .before .before .write-trail2 .kept .1 .1 .1 .1 .0 ∙ length-set (now (s .args .list)) (s .args .k) (s .args .id)
 
--- src/lib.rt:10:1
 write-trail-returns-3 : (t : ℕ) → write-trail-lts.Need-returns-3 (
   write-trail-below t,
   write-trail.Post,

@@ -1,30 +1,28 @@
-use native.Mathlib.Omega.{arith}
+-- The records lie in the part that is lent, and come back in it (`built-in`). Assumes nothing.
 use borrow.Author.Needs.{needs}
+use mathlib.Core.Path.{sym}
+use Rattle.merge.proofs.ToldLaws.{part-length}
+use Rattle.watershed.proofs.ExplainLaws.{built-in}
 use Rattle.watershed.proofs.explain.build_in.Statement.{statement}
 use Rattle.watershed.proofs.explain.build_in.Tie as tie
-use Rattle.watershed.proofs.explain.build_in.Reads as reads
-use Rattle.watershed.proofs.explain.build_in.Lts as lts
-use Rattle.records.proofs.build.build_records.Reads as build-records-reads
 
--- src/explain.rt:187:9
 slice-relend-prefix-build-records : tie.Need-slice-relend-prefix-build-records
 slice-relend-prefix-build-records c = search needs
 
--- src/explain.rt:187:9
 slice-aggregate-build-records : tie.Need-slice-aggregate-build-records
-slice-aggregate-build-records c = search needs
+slice-aggregate-build-records c = sym (part-length _ _ (c .before .before .before .before .before .before .before .pre .0))
 
--- src/explain.rt:179:5
 build-records-requires : tie.Need-build-records-requires
 build-records-requires c κs = search needs
 
--- src/explain.rt:160:1
 same-length : tie.Need-same-length
 same-length c = search needs
 
--- src/explain.rt:160:1
 returns : tie.Need-returns
-returns c = search needs
+returns c =
+    let o = c .before .before in
+    let s = o .before .before .before .before .before .before .before .before in
+    built-in _ _ _ _ _ _ (s .pre .0) (o .build-records .kept .1 .1 .1 .1 .1 .1 .1 .0) (o .build-records .ensures)
 
 pub build-in-spec : {M : Type 1} → statement M
 build-in-spec =

@@ -1,13 +1,12 @@
-use borrow.Author.Needs.{needs}
-use native.Mathlib.Omega.{arith}
+-- Each number is the rule's. Assumes nothing.
+use mathlib.Core.Path.{refl}
+use Rattle.rules.specs.Reasons.{unexplained}
 use Rattle.watershed.proofs.explain.refused.Statement.{statement}
 use Rattle.watershed.proofs.explain.refused.Tie as tie
-use Rattle.watershed.proofs.explain.refused.Reads as reads
-use Rattle.watershed.proofs.explain.refused.Lts as lts
 
--- src/explain.rt:94:1
 returns : tie.Need-returns
-returns c = search needs
+unfolding unexplained
+returns c = λ ws l. refl
 
 pub refused-spec : {M : Type 1} → statement M
 refused-spec = tie.close (tie.spec returns)

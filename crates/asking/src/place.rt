@@ -1,6 +1,5 @@
 // From a column, a row and a layer to a span's number, and back.
 use field::read::at8;
-use field::read::at32;
 ghost use mathlib.Core.Path.{_≡_};
 ghost use Prim.Native.Nat.{_+_, _≤_};
 ghost use lib.ListN.{length};
@@ -62,15 +61,8 @@ fn layer_of(first: u32, layers: u8, layer: u32) -> Found
     Found::Span(first + layer)
 }
 
-// The span asked for, of a field whose indices are right.
-pub(crate) fn find(asked: Asked, w: u16, h: u16, index: &[u32], count: &[u8]) -> Found {
-    if w as u32 <= asked.x {
-        return Found::NoCell;
-    }
-    if h as u32 <= asked.z {
-        return Found::NoCell;
-    }
-    let cell = asked.x as usize + asked.z as usize * w as usize;
+// A layer of a cell, of a field whose indices are right.
+fn find_in(cell: usize, layer: u32, index: &[u32], count: &[u8]) -> Found {
     if count.len() <= cell {
         return Found::NoCell;
     }
@@ -78,11 +70,35 @@ pub(crate) fn find(asked: Asked, w: u16, h: u16, index: &[u32], count: &[u8]) ->
     if layers == 0 {
         return Found::NoLayer(0);
     }
-    let first = at32(index, cell);
+    if index.len() <= cell {
+        return Found::NoCell;
+    }
+    let first = index[cell];
     if 65535 < first {
         return Found::NoCell;
     }
-    layer_of(first as u32, layers, asked.layer)
+    layer_of(first, layers, layer)
+}
+
+// The cell of a column and a row.
+fn cell_of(x: u16, z: u16, w: u16) -> usize {
+    x as usize + z as usize * w as usize
+}
+
+// The span asked for.
+pub(crate) fn find(asked: Asked, w: u16, h: u16, index: &[u32], count: &[u8]) -> Found {
+    if w as u32 <= asked.x {
+        return Found::NoCell;
+    }
+    if h as u32 <= asked.z {
+        return Found::NoCell;
+    }
+    find_in(
+        cell_of(asked.x as u16, asked.z as u16, w),
+        asked.layer,
+        index,
+        count,
+    )
 }
 
 // The place of span s.

@@ -1,5 +1,6 @@
 // What was told of a span, a word and its numbers a line.
 use crate::place::spot_of;
+use field::read::at16;
 use libc::STDOUT_FILENO;
 use watershed::Explanation;
 ghost use Prim.Native.Nat.{_≤_};
@@ -52,7 +53,7 @@ fn print_trail(trail: &[u16], long: u16) {
         if (long as usize) <= k {
             break;
         }
-        print_more(trail[k] as u64);
+        print_more(at16(trail, k) as u64);
         k += 1;
     }
     io::write_all(STDOUT_FILENO, b"\n");

@@ -101,7 +101,16 @@ fn tell_field(
         DistanceAnswer::Done(m) => {
             let found = find(asked, head.w, head.h, index, count);
             tell_found(
-                head, found, index, count, area, con, blurred, m, workspace, trail,
+                head,
+                found,
+                index,
+                count,
+                area,
+                con,
+                blurred,
+                m,
+                workspace,
+                trail,
             )
         }
     }

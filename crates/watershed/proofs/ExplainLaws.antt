@@ -11,7 +11,7 @@ use lib.Dec.{ltb, eqb}
 use borrow.Author.Tests.{eq-eqb, ne-eqb, eqb-true, eqb-false, ltb-true, lt-ltb, le-ltb, le-leb, lt-leb, not-true, not-false}
 use Rattle.rules.specs.Base.{if_then_else_}
 use Rattle.rules.specs.Field.{Field, none, spans}
-use Rattle.rules.specs.Refusals.{regionRefusal}
+use Rattle.rules.specs.Refusals.{refusal, regionRefusal}
 use Rattle.rules.specs.Growth.{grown, stops}
 use Rattle.rules.specs.Records.{Rec, at, records}
 use Rattle.rules.specs.Filter.{filtered}
@@ -27,6 +27,7 @@ use Rattle.checker.proofs.Numbers.{number-pos}
 use Rattle.records.specs.Stock.{Built}
 use Rattle.merge.proofs.ToldLaws.{part-length}
 use Rattle.watershed.specs.declared.explain.Explanation.{Explanation}
+use Rattle.watershed.specs.Into.{numbersOf, ExplainsInto}
 use Rattle.watershed.specs.Explain.{explained, withoutRoom, withRoom, roomReason, Living, Explains}
 
 -- ---------------------------------------------------------------- the refusal
@@ -200,23 +201,23 @@ module _ (F : Field) (dist : List ℕ) (most : ℕ) (z : Sizes) (s work : ℕ) (
   }
 
 module _ (F : Field) (dist : List ℕ) (most : ℕ) (z : Sizes) (s : ℕ) (ws l : List ℕ) where
-  abbrev refusal : ℕ
-  refusal = explainRefusal F (length l) (length ws) dist most s
+  abbrev own : ℕ
+  own = explainRefusal F (length l) (length ws) dist most s
 
   -- 1 to 8 come before 14
   abbrev before : ℕ
   before = regionRefusal F (length dist ∷ length l ∷ []) (length ws) dist most
 
-  pub outcome-refused : (k : ℕ) → k ≡ refusal → (k ≡ 0 → ⊥) → (o : ExplainOutcome) → o ≡ unexplained k ws l → o ≡ explainOutcome F dist most z s ws l
+  pub outcome-refused : (k : ℕ) → k ≡ own → (k ≡ 0 → ⊥) → (o : ExplainOutcome) → o ≡ unexplained k ws l → o ≡ explainOutcome F dist most z s ws l
   unfolding explainOutcome if_then_else_
   outcome-refused k e h o u =
-      let f : not (eqb refusal 0) ≡ true = rw (ne-eqb refusal 0 (λ y. h (e ∙ y))) refl in
+      let f : not (eqb own 0) ≡ true = rw (ne-eqb own 0 (λ y. h (e ∙ y))) refl in
       rw f (u ∙ rw e refl)
 
-  pub outcome-told : (k : ℕ) → k ≡ refusal → k ≡ 0 → (o : ExplainOutcome) → Explains F dist most z s (length ws) l o → o ≡ explainOutcome F dist most z s ws l
+  pub outcome-told : (k : ℕ) → k ≡ own → k ≡ 0 → (o : ExplainOutcome) → Explains F dist most z s (length ws) l o → o ≡ explainOutcome F dist most z s ws l
   unfolding explainOutcome if_then_else_
   outcome-told k e h o u =
-      let f : not (eqb refusal 0) ≡ false = rw (eq-eqb refusal 0 (sym e ∙ h)) refl in
+      let f : not (eqb own 0) ≡ false = rw (eq-eqb own 0 (sym e ∙ h)) refl in
       rw f (either (stops F dist most (z .border)) refl)
     where
       either : (stop : ℕ) → stop ≡ stops F dist most (z .border)
@@ -231,7 +232,7 @@ module _ (F : Field) (dist : List ℕ) (most : ℕ) (z : Sizes) (s : ℕ) (ws l 
           rw g (u .stopped c)
 
   -- nothing is refused
-  pub none-refused : (k : ℕ) → k ≡ refusal → k ≡ 0 → (regionRefusal F (length dist ∷ length l ∷ []) (length ws) dist most ≡ 0) × (s < spans F)
+  pub none-refused : (k : ℕ) → k ≡ own → k ≡ 0 → (regionRefusal F (length dist ∷ length l ∷ []) (length ws) dist most ≡ 0) × (s < spans F)
   unfolding explainRefusal
   none-refused k e h =
       if-ind (λ (x : ℕ). x ≡ 0 → (before ≡ 0) × (s < spans F)) (not (eqb before 0)) (λ t x. absurd (eqb-false _ _ (not-true _ t) x))
@@ -256,3 +257,27 @@ pub trail-laid : (t l m : List ℕ) (r : ℕ) → m ≡ replicate (length l) 0 �
 trail-laid t l m r e q x w h =
     let k : r ≡ length t = omega (arith, q) in
     (k, w ∙ rw (e, k, zeros-past (length l) (length t)) refl)
+
+-- ---------------------------------------------------------------- with the numbers in a list
+
+module _ (F : Field) (dist : List ℕ) (most : ℕ) (z : Sizes) (s : ℕ) (w₀ t₀ a₀ : List ℕ) where
+  pub into-other : (k : ℕ) → (length a₀ ≡ 11 → ⊥) → k ≡ refusal F ((spans F + 1) ∷ (spans F + 1) ∷ []) → ExplainsInto F dist most z s w₀ t₀ a₀ k w₀ t₀ a₀
+  into-other k n e = record {
+    refused = λ h. absurd (n h);
+    numbers = λ h. absurd (n h);
+    workspace = λ h. absurd (n h);
+    trail = λ h. absurd (n h);
+    other = λ _. e;
+    as-was = λ _. (refl, refl, refl);
+  }
+
+  pub into-told : (x : Explanation) (w t a : List ℕ) → length a₀ ≡ 11 → explained x w t ≡ explainOutcome F dist most z s w₀ t₀ → a ≡ numbersOf (explained x [] [])
+      → ExplainsInto F dist most z s w₀ t₀ a₀ (x .refusal) w t a
+  into-told x w t a n e f = record {
+    refused = λ _. ap (λ (o : ExplainOutcome). o .refused) e;
+    numbers = λ _. f ∙ ap numbersOf e;
+    workspace = λ _. ap (λ (o : ExplainOutcome). o .workspace) e;
+    trail = λ _. ap (λ (o : ExplainOutcome). o .trail) e;
+    other = λ h. absurd (h n);
+    as-was = λ h. absurd (h n);
+  }

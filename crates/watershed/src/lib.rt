@@ -1,6 +1,7 @@
 // The public entries.
 mod explain;
 mod form;
+pub mod into;
 mod regions;
 
 pub use crate::explain::Explanation;

@@ -71,11 +71,7 @@ pub fn compare(count: u64) -> Tally {
         tally.fields += 1;
         match edge.compare() {
             Ok(answer) => tally.count(edge.name, &answer),
-            Err(what) => tally.differs(&format!(
-                "{}: {what}\nagain: {}",
-                edge.name,
-                only("edges", 6)
-            )),
+            Err(what) => tally.differs(&format!("{}: {what}\nagain: {}", edge.name, only("edges", 6))),
         }
     }
     tally
@@ -86,15 +82,14 @@ impl Edge {
         let call = (self.make)();
         let refusal = call.regions().err().map(|refusal| refusal as u16);
         if refusal != self.refusal {
-            return Err(format!(
-                "the model tells {refusal:?}, not {:?}",
-                self.refusal
-            ));
+            return Err(format!("the model tells {refusal:?}, not {:?}", self.refusal));
         }
         // "12 and 13 follow as there": the first span and the last
         let build = why::reasons(&call);
         for span in [0, call.field.spans() - 1] {
-            why::Asked::new(&call, span as u32).compare(&build)?;
+            why::Asked::new(&call, span as u32)
+                .compare(&build)
+                .map_err(|what| format!("why, span {span}: {what}"))?;
         }
         call.compare_regions()
     }

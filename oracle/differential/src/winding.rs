@@ -4,8 +4,9 @@
 use crate::{
     calls::Call,
     tally::{Tally, only},
+    why,
 };
-use oracle::{field::Settings, levels::long_corridor};
+use oracle::{field::Settings, levels::long_corridor, rng::Rng};
 
 /// The distance of every span but the gap: so great that a flood of it stops at the gap.
 const MOST: u16 = 10;
@@ -46,34 +47,10 @@ const WINDINGS: [Winding; 10] = [
     winding("39,996 steps, removed", 9_999, None, (20_000, 0), 0),
     winding("40,004 steps, removed", 10_001, None, (20_000, 0), 1),
     winding("two cut short", 20_100, Some(10_050), (0, 0), 2),
-    winding(
-        "two cut short, merged",
-        20_100,
-        Some(10_050),
-        (0, 65_535),
-        1,
-    ),
-    winding(
-        "absorbed by one that is not",
-        14_000,
-        Some(10_050),
-        (0, 65_535),
-        1,
-    ),
-    winding(
-        "absorbs one that is not",
-        14_000,
-        Some(2_050),
-        (0, 65_535),
-        1,
-    ),
-    winding(
-        "two that are not, merged",
-        14_000,
-        Some(7_050),
-        (0, 65_535),
-        0,
-    ),
+    winding("two cut short, merged", 20_100, Some(10_050), (0, 65_535), 1),
+    winding("absorbed by one that is not", 14_000, Some(10_050), (0, 65_535), 1),
+    winding("absorbs one that is not", 14_000, Some(2_050), (0, 65_535), 1),
+    winding("two that are not, merged", 14_000, Some(7_050), (0, 65_535), 0),
 ];
 
 /// Compares all of them.
@@ -83,11 +60,7 @@ pub fn compare() -> Tally {
         tally.fields += 1;
         match winding.compare() {
             Ok(answer) => tally.count(winding.name, &answer),
-            Err(what) => tally.differs(&format!(
-                "winding corridor, {}: {what}\nagain: {}",
-                winding.name,
-                only("large", 1)
-            )),
+            Err(what) => tally.differs(&format!("winding corridor, {}: {what}\nagain: {}", winding.name, only("large", 1))),
         }
     }
     tally
@@ -109,6 +82,13 @@ impl Winding {
         let cut = call.regions().map_err(|refusal| refusal.to_string())?.cut;
         if cut != self.cut {
             return Err(format!("the model tells {cut} cut short, not {}", self.cut));
+        }
+        // why its spans have their numbers: the partial list of neighbours decides what is gathered and merged
+        let build = why::reasons(&call);
+        for span in why::asked(&call, &build, &mut Rng::new(0)) {
+            why::Asked::new(&call, span)
+                .compare(&build)
+                .map_err(|what| format!("why, span {span}: {what}"))?;
         }
         call.compare_regions()
     }

@@ -33,11 +33,11 @@ pub ren-miss : (a b x : ℕ) → (x ≡ a → ⊥) → ren a b x ≡ x
 unfolding if_then_else_
 ren-miss a b x n = rw (ne-eqb x a n)
 
-pub trail-hit : (x : Merging) (xs : List Merging) (r : ℕ) → x .old ≡ r → trail (x ∷ xs) r ≡ r ∷ trail xs (x .new)
+trail-hit : (x : Merging) (xs : List Merging) (r : ℕ) → x .old ≡ r → trail (x ∷ xs) r ≡ r ∷ trail xs (x .new)
 unfolding trail if_then_else_
 trail-hit x xs r e = rw (eq-eqb (x .old) r e)
 
-pub trail-miss : (x : Merging) (xs : List Merging) (r : ℕ) → (x .old ≡ r → ⊥) → trail (x ∷ xs) r ≡ trail xs r
+trail-miss : (x : Merging) (xs : List Merging) (r : ℕ) → (x .old ≡ r → ⊥) → trail (x ∷ xs) r ≡ trail xs r
 unfolding trail if_then_else_
 trail-miss x xs r n = rw (ne-eqb (x .old) r n)
 
@@ -48,7 +48,7 @@ trail-first [] r = refl
 trail-first (x ∷ xs) r =
     elim (ℕ-discrete (x .old) r) [ yes e ↦ ap (λ (l : List ℕ). getD l 0 0) (trail-hit x xs r e) | no n ↦ ap (λ (l : List ℕ). getD l 0 0) (trail-miss x xs r n) ∙ trail-first xs r ]
 
-pub trail-some : (ms : List Merging) (r : ℕ) → 0 < length (trail ms r)
+trail-some : (ms : List Merging) (r : ℕ) → 0 < length (trail ms r)
 unfolding trail
 trail-some [] r = omega arith
 trail-some (x ∷ xs) r =

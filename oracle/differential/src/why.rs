@@ -19,7 +19,7 @@ use oracle::{
 use std::panic::{AssertUnwindSafe, catch_unwind};
 
 /// A large field every so many seeds.
-const LARGE_EVERY: u64 = 200;
+const LARGE_EVERY: u64 = 50;
 
 /// How many numbers an answer has.
 const NUMBERS: usize = 11;
@@ -170,12 +170,13 @@ fn make(seed: u64, rng: &mut Rng) -> (&'static str, Call) {
         };
         own_distances(field, settings)
     };
-    match rng.within(0..=6) {
-        0 => ("at limits", open(at_limits::largest_open(rng))),
-        1 => ("at limits", open(at_limits::whole_grid(rng))),
-        2 => ("at limits", open(at_limits::highest(rng))),
-        3 => ("winding", winding(rng)),
-        4 => ("apart", apart(rng.pick(&[32_766, 32_767]))),
+    match seed / LARGE_EVERY % 8 {
+        0 => ("chain", chain(rng.pick(&[500, 2_000, 8_000]))),
+        1 => ("at limits", open(at_limits::largest_open(rng))),
+        2 => ("at limits", open(at_limits::whole_grid(rng))),
+        3 => ("at limits", open(at_limits::highest(rng))),
+        4 => ("winding", winding(rng)),
+        5 => ("apart", apart(rng.pick(&[32_766, 32_767]))),
         _ => ("large", own(rng.pick(&KINDS).make(Size::Large, seed))),
     }
 }
@@ -229,6 +230,20 @@ fn winding(rng: &mut Rng) -> Call {
         merge_area: rng.pick(&[0, 65_535]),
     };
     Call::fitting(field, distances, 10, settings)
+}
+
+/// A path on which every second span is a flood of its own, and each region merges with the next: the first one's trail has as many ids as there are floods.
+fn chain(length: usize) -> Call {
+    let (field, spans) = edges::path(length);
+    let mut distances = vec![0; field.spans()];
+    for &span in spans.iter().step_by(2) {
+        distances[span] = 6;
+    }
+    let settings = Settings {
+        merge_area: u16::MAX,
+        ..Settings::default()
+    };
+    Call::fitting(field, distances, 6, settings)
 }
 
 /// Spans apart, each of distance 2: as many floods as there are ids, and one more.

@@ -34,10 +34,10 @@ extern "C" {
 #define GUSSETRAFT_WORKSPACE_LEN(n) ((size_t)128 * (size_t)(n) + (size_t)4096)
 
 /* Refusals, looked for in this order, but 12 and 13 last; the first that applies is given. 7, 8, 12 and 13 are given by the two region functions and by
- * gussetraft_explain_span alone, but for gussetraft_build_rooms, which gives 1 to 7 and 12; 14 by gussetraft_explain_span alone; 9 and 10 by gussetraft_measure_room alone, which gives 1 to 6 beside them; 11 and 31 by
- * gussetraft_refresh_distance_field alone, 27 by gussetraft_mend alone, which gives 1 to 4 beside it; 20 and 21 by the loading of a file alone, which
- * gives 3 beside them. A refused call changes nothing that was lent, but 12 and 13 leave a workspace of zeros, and a refused file leaves the field as
- * far as it was read. */
+ * gussetraft_explain_span alone, but for gussetraft_build_rooms, which gives 1 to 7 and 12; 14 by gussetraft_explain_span alone; 9 and 10 by
+ * gussetraft_measure_room alone, which gives 1 to 6 beside them; 11 and 31 by gussetraft_refresh_distance_field alone, 27 by gussetraft_mend alone,
+ * which gives 1 to 4 beside it; 20 and 21 by the loading of a file alone, which gives 3 beside them. A refused call changes nothing that was lent, but
+ * 12 and 13 leave a workspace of zeros, and a refused file leaves the field as far as it was read. */
 enum {
     GUSSETRAFT_TOO_WIDE = 1,     /* w or h above 256 */
     GUSSETRAFT_TOO_MANY = 2,     /* n above 65,000 */

@@ -33,15 +33,15 @@ extern "C" {
 /* The least number of elements of the workspace, for n spans. */
 #define GUSSETRAFT_WORKSPACE_LEN(n) ((size_t)128 * (size_t)(n) + (size_t)4096)
 
-/* Refusals, looked for in this order; the first that applies is given. 7, 8, 12 and 13 are given by the two region functions alone, but for
- * gussetraft_build_rooms, which gives 1 to 7 and 12; 9 and 10 by gussetraft_measure_room alone, which gives 1 to 6 beside them; 11 and 31 by
- * gussetraft_refresh_distance_field alone, 27 by gussetraft_mend alone, which gives 1 to 4 beside it; 20 and 21 by the loading of a file alone, which
- * gives 3 beside them. A refused call changes nothing that was lent, but 12 and 13 leave a workspace of zeros, and a refused file leaves the field as
- * far as it was read. */
+/* Refusals, looked for in this order, but 12 and 13 last; the first that applies is given. 7, 8, 12 and 13 are given by the two region functions and by
+ * gussetraft_explain_span alone, but for gussetraft_build_rooms, which gives 1 to 7 and 12; 14 by gussetraft_explain_span alone; 9 and 10 by
+ * gussetraft_measure_room alone, which gives 1 to 6 beside them; 11 and 31 by gussetraft_refresh_distance_field alone, 27 by gussetraft_mend alone,
+ * which gives 1 to 4 beside it; 20 and 21 by the loading of a file alone, which gives 3 beside them. A refused call changes nothing that was lent, but
+ * 12 and 13 leave a workspace of zeros, and a refused file leaves the field as far as it was read. */
 enum {
     GUSSETRAFT_TOO_WIDE = 1,     /* w or h above 256 */
     GUSSETRAFT_TOO_MANY = 2,     /* n above 65,000 */
-    GUSSETRAFT_WRONG_LENGTH = 3, /* a list has the wrong length: w*h (index, count), n (pass1, raw, blurred, dist, ids) or 4*n (con) */
+    GUSSETRAFT_WRONG_LENGTH = 3, /* a list has the wrong length: w*h (index, count), n (pass1, raw, blurred, dist, ids, trail) or 4*n (con) */
     GUSSETRAFT_WRONG_CELLS = 4,  /* a cell's count is above 63, a nonempty cell's index is wrong, or the counts do not sum to n */
     GUSSETRAFT_WRONG_REACH = 5,  /* a connection leaves the grid or names a layer that the cell lacks */
     GUSSETRAFT_WRONG_BACK = 6,   /* a connection is not answered from the other side */
@@ -53,6 +53,7 @@ enum {
     GUSSETRAFT_NO_IDS = 12,      /* a successful flood would make the next id 0x8000, or there are more than 32,767 plain rooms; never with at most
                                   * 32,000 spans */
     GUSSETRAFT_NO_SUM = 13,      /* a source distance in expansion would exceed 65,535; never with at most 32,000 spans */
+    GUSSETRAFT_NO_SUCH_SPAN = 14, /* the span's number is not below n */
     GUSSETRAFT_MALFORMED = 20,   /* a file: unknown kind, a record out of place, cut short, bytes after the end */
     GUSSETRAFT_TOO_LARGE = 21,   /* a file: more cells (at the header) or spans (at the cell that passes it) than the loader takes */
     GUSSETRAFT_NO_ROOM = 27,     /* there are more changes than places in their list */
@@ -85,6 +86,7 @@ static inline const char *gussetraft_refusal_text(uint16_t refusal) {
     case GUSSETRAFT_WRONG_RECT: return "the rectangle is empty or not in the field";
     case GUSSETRAFT_NO_IDS: return "ids run out: the next would be 0x8000";
     case GUSSETRAFT_NO_SUM: return "a source distance in expansion would exceed 65,535";
+    case GUSSETRAFT_NO_SUCH_SPAN: return "there is no span of this number";
     case GUSSETRAFT_MALFORMED: return "the file is malformed: unknown kind, a record out of place, cut short, or bytes after the end";
     case GUSSETRAFT_TOO_LARGE: return "the file's field has more cells or spans than the loader takes";
     case GUSSETRAFT_WRONG_STORED: return "a stored pass 1 or raw value is above 510";
@@ -221,6 +223,85 @@ gussetraft_region_answer gussetraft_build_regions_compared(
     uint16_t border_size, uint16_t min_region_area, uint16_t merge_region_area,
     uint16_t *workspace, size_t workspace_len,
     uint16_t *ids, size_t ids_len);
+
+/* Why a span has its number, or none: the first of these that applies. */
+enum {
+    GUSSETRAFT_NOT_WALKABLE = 1,  /* its area is 0 */
+    GUSSETRAFT_PAINTED = 2,       /* the border paints it: strip */
+    GUSSETRAFT_NEVER_REACHED = 3, /* no flood kept it, and no expansion reached it */
+    GUSSETRAFT_FILTERED_OUT = 4,  /* the filter removed its region: group_count, least_area */
+    GUSSETRAFT_FLOODED = 5,       /* a flood gave it its id: grown_id, trail, number */
+    GUSSETRAFT_EXPANDED = 6       /* it took a neighbour's id: grown_id, from_span, trail, number */
+};
+
+/* What gussetraft_explain_span tells. Numbers that a reason does not have are 0, and all but the first where refused. */
+typedef struct {
+    uint16_t refusal;        /* 0, or the number of the refusal */
+    uint16_t reason;         /* one of the six above */
+    uint16_t strip;          /* 1 left columns, 2 right columns, 3 low rows, 4 high rows */
+    uint16_t group_count;    /* how many spans the regions have that were gathered and held against the least area */
+    uint16_t least_area;     /* min_region_area */
+    uint16_t grown_id;       /* the id of its flood, before any merge */
+    uint16_t from_span;      /* the span whose id it took */
+    uint16_t trail_length;   /* how many ids the trail has */
+    uint16_t number;         /* the id that gussetraft_build_regions gives it */
+    uint16_t gave_back_id;   /* the id of the last flood that reached the span and gave it back, 0 for none; told with every reason */
+    uint16_t objecting_span; /* the span whose other id made that flood give it back */
+} gussetraft_reason;
+
+/* gussetraft_explain_span with the answer's eleven numbers, in their order, written to a list of eleven; gives the refusal. A list of another length is
+ * refused 3 (or 1 or 2, where that applies), and every list then holds what it held. Most callers use the function below. */
+uint16_t gussetraft_explain_span_into(
+    uint16_t w, uint16_t h,
+    const uint32_t *index, size_t index_len,
+    const uint8_t *count, size_t count_len,
+    const uint8_t *area, size_t area_len,
+    const uint8_t *con, size_t con_len,
+    const uint16_t *dist, size_t dist_len,
+    uint16_t max_distance,
+    uint16_t border_size, uint16_t min_region_area, uint16_t merge_region_area,
+    uint16_t *workspace, size_t workspace_len,
+    uint32_t span,
+    uint16_t *trail, size_t trail_len,
+    uint16_t *answer, size_t answer_len);
+
+/* Why has this span no room, or which has it and how? Tells what the rules did to one span in the build that gussetraft_build_regions makes of the same
+ * lists and sizes; it takes as long as that build. trail has one number a span: the id of the span's flood, then each id that it became by a merge, to
+ * the last, which numbers as `number`; zeros after it, and all zeros for the first four reasons. A flood that failed is told too, and its id may be
+ * that of another flood afterwards.
+ *
+ * Refusals: 1 to 8, then 14, then 12 and 13. The workspace is that of gussetraft_build_regions; it holds zeros after an answer and after 12 and 13. Where
+ * refused, trail holds what it held. */
+static inline gussetraft_reason gussetraft_explain_span(
+    uint16_t w, uint16_t h,
+    const uint32_t *index, size_t index_len,
+    const uint8_t *count, size_t count_len,
+    const uint8_t *area, size_t area_len,
+    const uint8_t *con, size_t con_len,
+    const uint16_t *dist, size_t dist_len,
+    uint16_t max_distance,
+    uint16_t border_size, uint16_t min_region_area, uint16_t merge_region_area,
+    uint16_t *workspace, size_t workspace_len,
+    uint32_t span,
+    uint16_t *trail, size_t trail_len) {
+    uint16_t a[11] = {0, 0, 0, 0, 0, 0, 0, 0, 0, 0, 0};
+    gussetraft_reason answer;
+    gussetraft_explain_span_into(
+        w, h, index, index_len, count, count_len, area, area_len, con, con_len, dist, dist_len, max_distance, border_size, min_region_area,
+        merge_region_area, workspace, workspace_len, span, trail, trail_len, a, 11);
+    answer.refusal = a[0];
+    answer.reason = a[1];
+    answer.strip = a[2];
+    answer.group_count = a[3];
+    answer.least_area = a[4];
+    answer.grown_id = a[5];
+    answer.from_span = a[6];
+    answer.trail_length = a[7];
+    answer.number = a[8];
+    answer.gave_back_id = a[9];
+    answer.objecting_span = a[10];
+    return answer;
+}
 
 /* The most elements that a list of changes needs, for n spans: with so many gussetraft_mend never gives 27. */
 #define GUSSETRAFT_CHANGES_LEN(n) ((size_t)12 * (size_t)(n))

@@ -52,8 +52,10 @@
 mod load;
 pub mod results;
 mod sys;
+mod why;
 
 pub use load::{Lists, LoadRefusal, Loaded, Loader};
+pub use why::{explain_span, Explanation, GaveBack, Reason};
 
 use core::fmt;
 
@@ -144,6 +146,8 @@ pub enum Refusal {
     NoIds = 12,
     /// 13: a source distance in expansion would exceed 65,535. Never with at most 32,000 spans.
     NoSum = 13,
+    /// 14: there is no span of this number. It is looked for before 12 and 13.
+    NoSuchSpan = 14,
     /// 20: the file is malformed: unknown kind, a record out of place, cut short, or bytes after the end.
     Malformed = 20,
     /// 21: the file's field has more cells or spans than the loader takes.
@@ -156,7 +160,7 @@ pub enum Refusal {
 
 impl Refusal {
     /// Every refusal, in the order of the numbers.
-    pub const ALL: [Self; 17] = [
+    pub const ALL: [Self; 18] = [
         Self::TooWide,
         Self::TooMany,
         Self::WrongLength,
@@ -170,13 +174,14 @@ impl Refusal {
         Self::WrongRect,
         Self::NoIds,
         Self::NoSum,
+        Self::NoSuchSpan,
         Self::Malformed,
         Self::TooLarge,
         Self::NoRoom,
         Self::WrongStored,
     ];
 
-    /// The number, 1 to 13, 20, 21, 27 or 31.
+    /// The number, 1 to 14, 20, 21, 27 or 31.
     pub const fn number(self) -> u16 {
         self as u16
     }
@@ -184,7 +189,7 @@ impl Refusal {
     /// The refusal of a number.
     pub const fn from_number(number: u16) -> Option<Self> {
         match number {
-            1..=13 => Some(Self::ALL[number as usize - 1]),
+            1..=14 => Some(Self::ALL[number as usize - 1]),
             20 => Some(Self::Malformed),
             21 => Some(Self::TooLarge),
             27 => Some(Self::NoRoom),
@@ -215,6 +220,7 @@ impl Refusal {
             Self::WrongRect => "the rectangle is empty or not in the field",
             Self::NoIds => "ids run out: the next would be 0x8000",
             Self::NoSum => "a source distance in expansion would exceed 65,535",
+            Self::NoSuchSpan => "there is no span of this number",
             Self::Malformed => {
                 "the file is malformed: unknown kind, a record out of place, cut short, or bytes after the end"
             }

@@ -609,3 +609,73 @@ pub fn id_at_whole(file: &[u8], span: u32) -> [u32; 3] {
     }
     answer
 }
+
+extern "C" {
+    fn gussetraft_explain_span_into(
+        w: u16,
+        h: u16,
+        index: *const u32,
+        index_len: usize,
+        count: *const u8,
+        count_len: usize,
+        area: *const u8,
+        area_len: usize,
+        con: *const u8,
+        con_len: usize,
+        distances: *const u16,
+        distances_len: usize,
+        max_distance: u16,
+        border_size: u16,
+        min_region_area: u16,
+        merge_region_area: u16,
+        workspace: *mut u16,
+        workspace_len: usize,
+        span: u32,
+        trail: *mut u16,
+        trail_len: usize,
+        answer: *mut u16,
+        answer_len: usize,
+    ) -> u16;
+}
+
+/// The answer's eleven numbers, the refusal first.
+pub fn explain(
+    field: &Field<'_>,
+    distances: &[u16],
+    max_distance: u16,
+    sizes: &Sizes,
+    workspace: &mut [u16],
+    span: u32,
+    trail: &mut [u16],
+) -> [u16; 11] {
+    let mut answer = [0; 11];
+    // SAFETY: as above.
+    unsafe {
+        gussetraft_explain_span_into(
+            field.w,
+            field.h,
+            field.index.as_ptr(),
+            field.index.len(),
+            field.count.as_ptr(),
+            field.count.len(),
+            field.area.as_ptr(),
+            field.area.len(),
+            field.con.as_ptr(),
+            field.con.len(),
+            distances.as_ptr(),
+            distances.len(),
+            max_distance,
+            sizes.border_size,
+            sizes.min_region_area,
+            sizes.merge_region_area,
+            workspace.as_mut_ptr(),
+            workspace.len(),
+            span,
+            trail.as_mut_ptr(),
+            trail.len(),
+            answer.as_mut_ptr(),
+            answer.len(),
+        )
+    };
+    answer
+}

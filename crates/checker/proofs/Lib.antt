@@ -4,3 +4,4 @@ pub mod Refused
 pub mod Counted
 pub mod Halves
 pub mod Numbers
+pub mod Lengths

@@ -10,7 +10,7 @@ use crate::reach::reach_ok;
 ghost use mathlib.Core.Path.{_≡_};
 ghost use mathlib.Core.List.{[], _∷_};
 ghost use mathlib.Core.Bool.{not};
-ghost use Prim.Native.Nat.{_≤_};
+ghost use Prim.Native.Nat.{_+_, _≤_};
 ghost use lib.ListN.{length};
 ghost use Rattle.rules.specs.Refusals.{refusal, wrongLength, mostSpans};
 ghost use Rattle.field.specs.Lent.{lent};
@@ -126,4 +126,17 @@ pub fn check(
         return Verdict::Refused(Refusal::WrongReach);
     }
     Verdict::Refused(Refusal::WrongBack)
+}
+
+// 3 for a list of another length than an entry asks, or 1 or 2 where that applies; the list itself is not lent here.
+pub fn wrong_length(w: usize, h: usize, index: &[u32], count: &[u8], area: &[u8], con: &[u8]) -> u16
+    ensures { λ r. ⌜ (let F = lent w h (now (index .entry)) (now (count .entry)) (now (area .entry)) (now (con .entry)) in
+        let n = length (now (area .entry)) in
+        r ≡ refusal F ((n + 1) ∷ (n + 1) ∷ [])) ⌝ }
+{
+    let n = area.len() + 1;
+    match check(w, h, index, count, area, con, n, n) {
+        Verdict::Refused(r) => refusal_number(r),
+        Verdict::Sound => 0,
+    }
 }

@@ -3,6 +3,7 @@ mod pieces;
 mod results;
 pub mod roomids;
 pub mod roomsizes;
+pub mod why;
 
 use checker::refusal_number;
 use mend::MendAnswer;

@@ -1,3 +1,8 @@
 -- Reasons, as theorems about the rules alone.
 pub mod Shadow
 pub mod Trails
+pub mod Groups
+pub mod Small
+pub mod Room
+pub mod Finals
+pub mod Reasons

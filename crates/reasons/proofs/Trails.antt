@@ -25,11 +25,11 @@ became : List Merging → ℕ → ℕ
 became [] r = r
 became (x ∷ xs) r = became xs (ren (x .old) (x .new) r)
 
-ren-hit : (a b x : ℕ) → x ≡ a → ren a b x ≡ b
+pub ren-hit : (a b x : ℕ) → x ≡ a → ren a b x ≡ b
 unfolding if_then_else_
 ren-hit a b x e = rw (eq-eqb x a e)
 
-ren-miss : (a b x : ℕ) → (x ≡ a → ⊥) → ren a b x ≡ x
+pub ren-miss : (a b x : ℕ) → (x ≡ a → ⊥) → ren a b x ≡ x
 unfolding if_then_else_
 ren-miss a b x n = rw (ne-eqb x a n)
 
@@ -48,7 +48,7 @@ trail-first [] r = refl
 trail-first (x ∷ xs) r =
     elim (ℕ-discrete (x .old) r) [ yes e ↦ ap (λ (l : List ℕ). getD l 0 0) (trail-hit x xs r e) | no n ↦ ap (λ (l : List ℕ). getD l 0 0) (trail-miss x xs r n) ∙ trail-first xs r ]
 
-pub trail-some : (ms : List Merging) (r : ℕ) → 0 < length (trail ms r)
+trail-some : (ms : List Merging) (r : ℕ) → 0 < length (trail ms r)
 unfolding trail
 trail-some [] r = omega arith
 trail-some (x ∷ xs) r =
@@ -173,7 +173,7 @@ all-told area (suc k) rs l R =
 pub record Owns (rs : List Rec) : Type 0 where
   pub own : (x : ℕ) → Live rs x → (at rs x .count ≡ 0 → ⊥) → at rs x .id ≡ x
 
-some-spanned : (rs : List Rec) (x : ℕ) → (at rs x .count ≡ 0 → ⊥) → 0 < tally spanned rs
+pub some-spanned : (rs : List Rec) (x : ℕ) → (at rs x .count ≡ 0 → ⊥) → 0 < tally spanned rs
 unfolding at fresh tally if_then_else_
 some-spanned [] x h = absurd (h refl)
 some-spanned (r ∷ rs) zero h = rw (spanned-yes r h) (omega arith)

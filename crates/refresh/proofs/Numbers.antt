@@ -8,11 +8,9 @@ use lib.ListN.{length, set, length-set}
 use Rattle.rules.specs.Field.{Field, spans}
 use Rattle.rules.specs.Refusals.{refusal}
 use Rattle.rules.specs.Refresh.{Rect, RefreshOutcome, refreshOutcome}
-use Rattle.field.specs.Lent.{lent}
-use Rattle.checker.specs.Answer.{numberOf, verdictNumber}
+use Rattle.checker.specs.Answer.{numberOf}
 use Rattle.checker.specs.declared.Refusal.{Refusal}
 use Rattle.checker.specs.declared.Verdict.{Verdict}
-use Rattle.checker.specs.declared.Verdict.the-variants as verdict
 use Rattle.refresh.specs.Answer.{refreshRefusedBy, refreshGiven}
 use Rattle.refresh.specs.Into.{numbersOf, GivesInto}
 use Rattle.refresh.specs.declared.RefreshAnswer.{RefreshAnswer}
@@ -64,15 +62,6 @@ module _ (r : RefreshAnswer) (v : Refreshed) (z : r ≡ Done v) where
   pub list-done : (l : List ℕ) → l ≡ 0 ∷ v .«max_distance» ∷ v .«pass1_first» ∷ v .«pass1_last» ∷ v .«pass2_first» ∷ v .«pass2_last» ∷ v .«blur_first» ∷ v .«blur_last» ∷ []
       → l ≡ numbersOf (refreshGiven r [] [] [])
   list-done l f = f ∙ ap (λ (a : RefreshAnswer). numbersOf (refreshGiven a [] [] [])) (sym z)
-
--- ---------------------------------------------------------------- a list of another length
-
-module _ (w h : ℕ) (is ks ar cs : List ℕ) (v : Verdict) (e : verdictNumber v ≡ refusal (lent w h is ks ar cs) ((length ar + 1) ∷ (length ar + 1) ∷ [])) where
-  pub long-refused : (k : ℕ) (x : Refusal) → v ≡ verdict.Refused x → k ≡ numberOf x → k ≡ refusal (lent w h is ks ar cs) ((length ar + 1) ∷ (length ar + 1) ∷ [])
-  long-refused k x z f = f ∙ ap verdictNumber (sym z) ∙ e
-
-  pub long-sound : v ≡ verdict.Sound → 0 ≡ refusal (lent w h is ks ar cs) ((length ar + 1) ∷ (length ar + 1) ∷ [])
-  long-sound z = ap verdictNumber (sym z) ∙ e
 
 -- ---------------------------------------------------------------- with the numbers in a list
 

@@ -79,6 +79,13 @@ unfolding lower
 lower-forth d k p =
     if-ind (λ (n : ℕ). n ≡ k) (flagged (k + d)) (λ e. let h : 0x8000 ≤ k + d = leb-true 0x8000 (k + d) e in absurd (omega (arith, p .1))) (λ _. omega arith)
 
+lower-zero : (d : ℕ) → lower d 0 ≡ 0
+unfolding lower if_then_else_
+lower-zero d = omega arith
+
+pub lower-at : (d : ℕ) (ids : List ℕ) (s : ℕ) → getD (map (lower d) ids) s 0 ≡ lower d (getD ids s 0)
+lower-at d ids s = ap (getD (map (lower d) ids) s) (sym (lower-zero d)) ∙ List·getD-map (lower d) ids s 0
+
 joined-as : (F : Field) {C D : ℕ → Type 0} → ((u : ℕ) → C u → D u) → {s t : ℕ} → Joined F C s t → Joined F D s t
 joined-as F f (stay c) = stay (f _ c)
 joined-as F f (goes e l c j) = goes e l (f _ c) (joined-as F f j)
@@ -148,12 +155,8 @@ module _ (F : Field) (first : ℕ) (ids : List ℕ) (past : ℕ) (R : Rooms F fi
   abbrev ends : List ℕ
   ends = map (lower d) ids
 
-  lower-zero : lower d 0 ≡ 0
-  unfolding lower if_then_else_
-  lower-zero = omega arith
-
   ends-at : (s : ℕ) → getD ends s 0 ≡ lower d (getD ids s 0)
-  ends-at s = ap (getD ends s) (sym lower-zero) ∙ List·getD-map (lower d) ids s 0
+  ends-at s = lower-at d ids s
 
   -- a new id comes from the id that is d more
   back : (k s : ℕ) → Plain k → Bears ends k s → Plain (k + d) × Bears ids (k + d) s
@@ -168,7 +171,7 @@ module _ (F : Field) (first : ℕ) (ids : List ℕ) (past : ℕ) (R : Rooms F fi
   pub dense-rooms : 0 < first → Rooms F 1 ends (suc (past - first))
   dense-rooms pos = record {
     size = length-map ids (lower d) ∙ R .size;
-    bare = λ s a. ends-at s ∙ ap (lower d) (R .bare s a) ∙ lower-zero;
+    bare = λ s a. ends-at s ∙ ap (lower d) (R .bare s a) ∙ lower-zero d;
     one = λ k s t p x y. let a = back k s p x in let b = back k t p y in R .one (k + d) s t (a .0) (a .1) (b .1);
     join = λ k s t p x y.
         let a = back k s p x in

@@ -4,16 +4,13 @@ use native.Mathlib.Omega.{arith}
 use mathlib.Core.Path.{_≡_, refl, sym, ap, _∙_}
 use mathlib.Core.List.{List, [], _∷_}
 use lib.ListN.{length, set, length-set}
-use lib.IntN.{pos}
 use lib.Ieee.{Float, binary64, ofBits}
 use Rattle.rules.specs.Field.{Field, spans}
 use Rattle.rules.specs.Refusals.{refusal}
-use Rattle.rules.specs.Sizes.{RoomSize, MeasureOutcome, measureOutcome, zero64}
-use Rattle.field.specs.Lent.{lent}
-use Rattle.checker.specs.Answer.{numberOf, verdictNumber}
+use Rattle.rules.specs.Sizes.{MeasureOutcome, measureOutcome, zero64}
+use Rattle.checker.specs.Answer.{numberOf}
 use Rattle.checker.specs.declared.Refusal.{Refusal}
 use Rattle.checker.specs.declared.Verdict.{Verdict}
-use Rattle.checker.specs.declared.Verdict.the-variants as verdict
 use Rattle.sizes.specs.declared.metres.Room.{Room}
 use Rattle.sizes.specs.declared.RoomAnswer.{RoomAnswer}
 use Rattle.sizes.specs.declared.RoomAnswer.the-variants.{Refused, WrongScale, WrongIds, Measured}
@@ -97,13 +94,6 @@ module _ (r : RoomAnswer) (s : List Float) (m : List ℕ) where
     list-room f = f ∙ ap (λ (a : RoomAnswer). numbersOf (outcome a)) (sym z)
 
 -- ---------------------------------------------------------------- lists of another length
-
-module _ (F : Field) (n : ℕ) (v : Verdict) (e : verdictNumber v ≡ refusal F (n ∷ n ∷ [])) where
-  pub long-refused : (k : ℕ) (x : Refusal) → v ≡ verdict.Refused x → k ≡ numberOf x → k ≡ refusal F (n ∷ n ∷ [])
-  long-refused k x z f = f ∙ ap verdictNumber (sym z) ∙ e
-
-  pub long-sound : v ≡ verdict.Sound → 0 ≡ refusal F (n ∷ n ∷ [])
-  long-sound z = ap verdictNumber (sym z) ∙ e
 
 module _ (F : Field) (ids : List ℕ) (most k id : ℕ) (s₀ : List Float) (m₀ : List ℕ) where
   into-other : (Places s₀ m₀ → ⊥) → (g : ℕ) → g ≡ refusal F ((spans F + 1) ∷ (spans F + 1) ∷ []) → GivesInto F ids most k id s₀ m₀ g s₀ m₀

@@ -2,14 +2,11 @@
 use crate::RoomAnswer;
 use crate::measure_room;
 use crate::metres::Room;
-use checker::Verdict;
-use checker::check;
 use checker::refusal_number;
+use checker::wrong_length;
 ghost use mathlib.Core.Path.{_≡_};
 ghost use mathlib.Core.List.{[], _∷_};
-ghost use Prim.Native.Nat.{_+_};
 ghost use lib.ListN.{length};
-ghost use Rattle.rules.specs.Refusals.{refusal};
 ghost use Rattle.rules.specs.Sizes.{zero64};
 ghost use Rattle.field.specs.Lent.{lent};
 ghost use Rattle.sizes.specs.Answer.{roomOf, measureRefusedBy, roomIn, outcome};
@@ -89,19 +86,6 @@ fn put(sizes: &mut [f64], numbers: &mut [u16], r: RoomAnswer) -> u16
             put_room(sizes, numbers, m);
             0
         }
-    }
-}
-
-// 3 for a list of a wrong length, or 1 or 2 where that applies.
-fn wrong_length(w: usize, h: usize, index: &[u32], count: &[u8], area: &[u8], con: &[u8]) -> u16
-    ensures { λ r. ⌜ (let F = lent w h (now (index .entry)) (now (count .entry)) (now (area .entry)) (now (con .entry)) in
-        let n = length (now (area .entry)) in
-        r ≡ refusal F ((n + 1) ∷ (n + 1) ∷ [])) ⌝ }
-{
-    let n = area.len() + 1;
-    match check(w, h, index, count, area, con, n, n) {
-        Verdict::Refused(r) => refusal_number(r),
-        Verdict::Sound => 0,
     }
 }
 

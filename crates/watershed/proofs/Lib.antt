@@ -7,3 +7,5 @@ pub mod RegionOutcome
 pub mod Rooms
 pub mod StageLaws
 pub mod Cuts
+pub mod ExplainLaws
+pub mod GrownLaws

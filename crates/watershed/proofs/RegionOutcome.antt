@@ -40,6 +40,17 @@ roomy F lens work dist most e = elim (decLt work (128 * spans F + 4096)) [
   | no h ↦ omega (arith, h)
 ]
 
+pub admitted-by : (F : Field) (dist : List ℕ) (most : ℕ) (ws ids : List ℕ) → regionRefusal F (length dist ∷ length ids ∷ []) (length ws) dist most ≡ 0 → Admitted F dist ws ids
+admitted-by F dist most ws ids none =
+    let p = accepted F (length dist ∷ length ids ∷ []) (length ws) dist most none in
+    let l = own-lengths F (length dist) (length ids) p in
+    record {
+      sound = sound-of F (length dist ∷ length ids ∷ []) p;
+      distances = l .0;
+      idents = l .1;
+      room = roomy F (length dist ∷ length ids ∷ []) (length ws) dist most none;
+    }
+
 -- ---------------------------------------------------------------- the two ways out
 
 module _ (F : Field) (dist : List ℕ) (most : ℕ) (ws ids : List ℕ) (v : Verdict)
@@ -57,15 +68,7 @@ module _ (F : Field) (dist : List ℕ) (most : ℕ) (ws ids : List ℕ) (v : Ver
     none = sym e ∙ ap verdictNumber y
 
     pub admitted : Admitted F dist ws ids
-    admitted =
-        let p = accepted F (length dist ∷ length ids ∷ []) (length ws) dist most none in
-        let l = own-lengths F (length dist) (length ids) p in
-        record {
-          sound = sound-of F (length dist ∷ length ids ∷ []) p;
-          distances = l .0;
-          idents = l .1;
-          room = roomy F (length dist ∷ length ids ∷ []) (length ws) dist most none;
-        }
+    admitted = admitted-by F dist most ws ids none
 
     passes : not (eqb (regionRefusal F (length dist ∷ length ids ∷ []) (length ws) dist most) 0) ≡ false
     passes = rw (eq-eqb (regionRefusal F (length dist ∷ length ids ∷ []) (length ws) dist most) 0 none) refl

@@ -108,7 +108,7 @@ module _ (w h : ℕ) (is ks ar cs dist ws ids : List ℕ) (a : Admitted (lent w 
       grow : Grow (netOf (lent w h is ks ar cs)) (firstId border) (grown (lent w h is ks ar cs) dist most border .next) (grown (lent w h is ks ar cs) dist most border .ids)
       grow = grown-grow (lent w h is ks ar cs) dist most border byte goes
 
-      size : length ids₂ ≡ length ar
+      pub size : length ids₂ ≡ length ar
       size = ap length (f .ids o) ∙ grow .size
 
       pub next-few : next + 1 ≤ length ids₂ + 6
@@ -117,7 +117,7 @@ module _ (w h : ℕ) (is ks ar cs dist ws ids : List ℕ) (a : Admitted (lent w 
       next-plain : next < 0x8000
       next-plain = omega (arith, f .id o, grown-room (lent w h is ks ar cs) dist most border byte goes .0)
 
-      named : Spans (next + 1) ids₂
+      pub named : Spans (next + 1) ids₂
       named = record {
         below = λ x l. elim (ℕ-discrete (getD ids₂ x 0) 0) [
           | yes e ↦ omega (arith, e)

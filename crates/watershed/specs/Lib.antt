@@ -1,3 +1,5 @@
 pub mod Form
 pub mod Answer
 pub mod Stages
+pub mod Explain
+pub mod Into

@@ -19,7 +19,7 @@ const FIRST: u16 = 1;
 
 const FIRST_PAST_BORDER: u16 = 5;
 
-fn first_id(border_size: u16) -> u16
+pub(crate) fn first_id(border_size: u16) -> u16
     ensures { λ r. ⌜ r ≡ firstId «border_size» ⌝ }
 {
     if border_size == 0 {
@@ -29,7 +29,7 @@ fn first_id(border_size: u16) -> u16
 }
 
 // a less b, 0 where b is more.
-fn less(a: u16, b: u16) -> u16
+pub(crate) fn less(a: u16, b: u16) -> u16
     ensures { λ r. ⌜ r ≡ a - b ⌝ }
 {
     if a < b {
@@ -39,7 +39,7 @@ fn less(a: u16, b: u16) -> u16
 }
 
 // An id less d; a flagged one stays.
-fn lower(r: u16, d: u16) -> u16
+pub(crate) fn lower(r: u16, d: u16) -> u16
     ensures { λ x. ⌜ x ≡ lower d r ⌝ }
 {
     if RegionId::BORDER_REGION.0 <= r {

@@ -1,7 +1,11 @@
 // The public entries.
+mod explain;
 mod form;
+pub mod into;
 mod regions;
 
+pub use crate::explain::Explanation;
+pub use crate::explain::explain_span;
 pub use crate::regions::RegionAnswer;
 pub use crate::regions::build_regions;
 pub use crate::regions::build_regions_compared;

@@ -30,8 +30,10 @@ ghost use Rattle.rules.specs.Refusals.{tooFar, regionRefusal};
 ghost use Rattle.rules.specs.Numbering.{dense, compared};
 ghost use Rattle.rules.specs.Numbering as rules;
 ghost use Rattle.rules.specs.Outcomes.{Sizes, regionOutcome};
+ghost use Rattle.rules.specs.Reasons.{story};
 ghost use Rattle.space.specs.Space.{sec};
 ghost use Rattle.field.specs.Lent.{lent};
+ghost use Rattle.flood.specs.Stories.{storyOf};
 ghost use Rattle.checker.specs.Answer.{numberOf, verdictNumber};
 ghost use Rattle.watershed.specs.Answer.{AnswersRegions, GivesRooms};
 ghost use Rattle.watershed.specs.Form.{formOf};
@@ -67,7 +69,7 @@ fn own_refusal(short: bool, far: bool) -> Verdict
 }
 
 // The first of refusals 1 to 8 that applies; work and own are the lengths of the workspace and of the list of ids.
-fn check_regions(
+pub(crate) fn check_regions(
     w: usize,
     h: usize,
     index: &[u32],
@@ -93,7 +95,7 @@ fn check_regions(
 }
 
 // "Records run from 0 to the next id, both included", and the next id is at most n + 5: so many more than there are spans.
-const MORE_RECORDS: usize = 6;
+pub(crate) const MORE_RECORDS: usize = 6;
 
 // The ids that stand in the workspace from kept on are put back.
 fn put_back(ws: &[u16], kept: usize, ids: &mut [u16])
@@ -105,7 +107,8 @@ fn put_back(ws: &[u16], kept: usize, ids: &mut [u16])
 }
 
 // Growth from the ids of a field that is not refused. They stand past the table of neighbours until it is done, and are put back where it is stopped.
-fn grow_regions(
+// With the story of the watched span, if there is one (NO_SPAN where not).
+pub(crate) fn grow_regions(
     w: usize,
     h: usize,
     index: &[u32],
@@ -118,12 +121,15 @@ fn grow_regions(
     ws: &mut [u16],
     ids: &mut [u16],
     table: usize,
+    watched: usize,
 ) -> Growth
     requires { ⌜ Admitted (lent w h (now index) (now count) (now area) (now con)) (now dist) (now ws) (now ids)
         × (table ≡ tableAt (length (now area))) ⌝ }
     ensures { λ r. ⌜ (let F = lent w h (now (index .entry)) (now (count .entry)) (now (area .entry)) (now (con .entry)) in
         let ids₀ = now (ids .entry) in
         Raised F (now (dist .entry)) «max_distance» «border_size» table ids₀ (r .next) (r .stop) (now (ids .exit)) (now (ws .exit))) ⌝ }
+    ensures { λ r. ⌜ (let F = lent w h (now (index .entry)) (now (count .entry)) (now (area .entry)) (now (con .entry)) in
+        r .stop ≡ 0 → storyOf (r .story) ≡ story F (now (dist .entry)) «max_distance» «border_size» watched) ⌝ }
 {
     let n = area.len();
     let kept = table + 4 * n;
@@ -143,7 +149,7 @@ fn grow_regions(
         table,
         max_distance,
         border_size,
-        NO_SPAN,
+        watched,
     );
     if g.stop != GOES_ON {
         put_back(ws, kept, ids);
@@ -208,6 +214,7 @@ fn find_regions(
         ws,
         ids,
         table,
+        NO_SPAN,
     );
     let all = ws.len();
     if g.stop != GOES_ON {

@@ -436,3 +436,53 @@ pub fn id_at_whole(file: &[u8], span: u32) -> (u32, [u32; 3]) {
     let given = unsafe { gussetraft_id_at_whole_into(file.as_ptr(), file.len(), span, answer.as_mut_ptr(), answer.len()) };
     (given, answer)
 }
+
+#[rustfmt::skip]
+unsafe extern "C" {
+    fn gussetraft_explain_span_into(
+        w: u16, h: u16,
+        index: *const u32, index_len: usize,
+        count: *const u8, count_len: usize,
+        area: *const u8, area_len: usize,
+        con: *const u8, con_len: usize,
+        dist: *const u16, dist_len: usize,
+        max_distance: u16,
+        border_size: u16, min_region_area: u16, merge_region_area: u16,
+        workspace: *mut u16, workspace_len: usize,
+        span: u32,
+        trail: *mut u16, trail_len: usize,
+        answer: *mut u16, answer_len: usize,
+    ) -> u16;
+}
+
+/// Why a span has its number, or none: what is given; the trail and the answer's numbers are in lent lists.
+#[rustfmt::skip]
+#[expect(clippy::too_many_arguments, reason = "as the function has them")]
+pub fn explain(
+    field: &Field,
+    distances: &[u16],
+    max_distance: u16,
+    settings: Settings,
+    workspace: &mut [u16],
+    span: u32,
+    trail: &mut [u16],
+    answer: &mut [u16],
+) -> u16 {
+    // SAFETY: as above.
+    unsafe {
+        gussetraft_explain_span_into(
+            field.w, field.h,
+            field.index.as_ptr(), field.index.len(),
+            field.count.as_ptr(), field.count.len(),
+            field.area.as_ptr(), field.area.len(),
+            field.con.as_ptr(), field.con.len(),
+            distances.as_ptr(), distances.len(),
+            max_distance,
+            settings.border_size, settings.least_area, settings.merge_area,
+            workspace.as_mut_ptr(), workspace.len(),
+            span,
+            trail.as_mut_ptr(), trail.len(),
+            answer.as_mut_ptr(), answer.len(),
+        )
+    }
+}

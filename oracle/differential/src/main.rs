@@ -15,6 +15,7 @@ mod sizes;
 mod small;
 mod stops;
 mod tally;
+mod why;
 mod winding;
 
 use std::{env, path::PathBuf, process::ExitCode};
@@ -35,6 +36,7 @@ struct Order {
     sizes: u64,
     pieces: u64,
     results: u64,
+    why: u64,
     seed: u64,
 }
 
@@ -106,16 +108,20 @@ fn run() -> Result<bool, String> {
     if results.fields > 0 {
         print!("conversions of stored results by kind, and their answers:\n{results}");
     }
+    let why = why::compare(seed, order.why);
+    if why.fields > 0 {
+        print!("spans asked for by kind, and the reasons told:\n{why}");
+    }
     let parts = [
         &small, &large, &full, &winding, &stops, &edited, &files, &doors, &rooms, &sizes, &pieces,
-        &results,
+        &results, &why,
     ];
     if parts.iter().any(|tally| tally.is_enough()) {
         println!("{ended}");
     }
     let differences: usize = parts.iter().map(|tally| tally.differences).sum();
     println!(
-        "compared {} small, {} large, {} edited fields, {} files mended, {} fields with doors, {} with plain rooms, {} with sizes, {} files in pieces, {} stored results: {differences} differences",
+        "compared {} small, {} large, {} edited fields, {} files mended, {} fields with doors, {} with plain rooms, {} with sizes, {} files in pieces, {} stored results, {} fields asked why: {differences} differences",
         small.fields,
         large.fields + full.fields + winding.fields + stops.fields,
         edited.fields,
@@ -124,7 +130,8 @@ fn run() -> Result<bool, String> {
         rooms.fields,
         sizes.fields,
         pieces.fields,
-        results.fields
+        results.fields,
+        why.fields
     );
     Ok(differences == 0)
 }
@@ -145,6 +152,7 @@ fn order() -> Result<Order, String> {
         sizes: 2_000,
         pieces: 4_000,
         results: 3_500,
+        why: 400,
         seed: 0,
     };
     while let Some(option) = arguments.next() {
@@ -165,6 +173,7 @@ fn order() -> Result<Order, String> {
             "--sizes" => order.sizes = number,
             "--pieces" => order.pieces = number,
             "--results" => order.results = number,
+            "--why" => order.why = number,
             "--seed" => order.seed = number,
             _ => {
                 return Err(format!(

@@ -4,6 +4,7 @@
 use crate::{
     calls::Call,
     tally::{Tally, only},
+    why,
 };
 use oracle::{
     field::Settings,
@@ -82,6 +83,13 @@ impl Edge {
         let refusal = call.regions().err().map(|refusal| refusal as u16);
         if refusal != self.refusal {
             return Err(format!("the model tells {refusal:?}, not {:?}", self.refusal));
+        }
+        // "12 and 13 follow as there": the first span and the last
+        let build = why::reasons(&call);
+        for span in [0, call.field.spans() - 1] {
+            why::Asked::new(&call, span as u32)
+                .compare(&build)
+                .map_err(|what| format!("why, span {span}: {what}"))?;
         }
         call.compare_regions()
     }

@@ -7,8 +7,8 @@ use std::{
 };
 
 /// The parts of the comparison, as its options name them.
-const PARTS: [&str; 9] = [
-    "small", "large", "edited", "edges", "doors", "rooms", "sizes", "pieces", "results",
+const PARTS: [&str; 10] = [
+    "small", "large", "edited", "edges", "doors", "rooms", "sizes", "pieces", "results", "why",
 ];
 
 /// The command that runs so much of one part, and nothing of the others.

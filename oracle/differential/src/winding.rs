@@ -4,8 +4,9 @@
 use crate::{
     calls::Call,
     tally::{Tally, only},
+    why,
 };
-use oracle::{field::Settings, levels::long_corridor};
+use oracle::{field::Settings, levels::long_corridor, rng::Rng};
 
 /// The distance of every span but the gap: so great that a flood of it stops at the gap.
 const MOST: u16 = 10;
@@ -81,6 +82,13 @@ impl Winding {
         let cut = call.regions().map_err(|refusal| refusal.to_string())?.cut;
         if cut != self.cut {
             return Err(format!("the model tells {cut} cut short, not {}", self.cut));
+        }
+        // why its spans have their numbers: the partial list of neighbours decides what is gathered and merged
+        let build = why::reasons(&call);
+        for span in why::asked(&call, &build, &mut Rng::new(0)) {
+            why::Asked::new(&call, span)
+                .compare(&build)
+                .map_err(|what| format!("why, span {span}: {what}"))?;
         }
         call.compare_regions()
     }

@@ -11,11 +11,13 @@ mod mistake;
 mod records;
 mod refusals;
 mod spans;
+mod why;
 
 use crate::field::{Field, Settings};
-pub use growth::Stop;
+pub use growth::{GaveBack, Stop};
 pub use mistake::Mistake;
 use spans::Spans;
+pub use why::{Reason, Reasons};
 
 /// The bit that tells a painted id.
 const FLAG: u16 = 0x8000;
@@ -90,7 +92,23 @@ impl Model {
         let spans = Spans::new(self, field);
         let grown = growth::grow(self, &spans, distances, max_distance, settings.border_size)?;
         let built = records::build(self, &spans, &grown);
-        Ok(merge::finish(self, &spans, grown, built, settings))
+        Ok(merge::finish(self, &spans, &grown, built, settings).0)
+    }
+
+    /// The reasons of a build of all spans (request A7), where 1 to 8 let the call pass; or what stops growth.
+    pub fn reasons(
+        self,
+        field: &Field,
+        distances: &[u16],
+        max_distance: u16,
+        settings: Settings,
+    ) -> Result<Reasons, Stop> {
+        let spans = Spans::new(self, field);
+        let grown = growth::grow(self, &spans, distances, max_distance, settings.border_size)?;
+        let built = records::build(self, &spans, &grown);
+        let (regions, records) = merge::finish(self, &spans, &grown, built, settings);
+        let areas = field.area.clone();
+        Ok(Reasons::new(self, areas, grown, records, regions, settings))
     }
 
     /// What the program prints for a file.

@@ -32,6 +32,8 @@ pub enum Refusal {
     IdsRunOut = 12,
     /// A sum that expansion computes would exceed 65,535 (request A6).
     SumTooGreat = 13,
+    /// A span number not below n (request A7).
+    NoSuchSpan = 14,
     /// A file with an unknown or misplaced record, cut short, or with bytes after the end.
     BadFile = 20,
     /// A file with too many cells or spans for the program.
@@ -79,6 +81,20 @@ pub fn region_entry(
     let in_range = max_distance <= DISTANCE_LIMIT
         && distances.iter().all(|&distance| distance <= max_distance);
     require(in_range, Refusal::DistanceTooGreat)
+}
+
+/// Whether the entry that tells why (request A7) refuses before it builds, lent a trail of this length: "14 for a span number not below n, after 1
+/// to 8"; "a lent list of n numbers (another length is 3)".
+pub fn explain_entry(
+    field: &Field,
+    distances: &[u16],
+    max_distance: u16,
+    trail_len: usize,
+    workspace_len: usize,
+    span: u32,
+) -> Result<(), Refusal> {
+    region_entry(field, distances, max_distance, trail_len, workspace_len)?;
+    require((span as usize) < field.spans(), Refusal::NoSuchSpan)
 }
 
 /// Refusals 1 to 6. The lists beside the field's own have one entry a span.

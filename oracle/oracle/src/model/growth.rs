@@ -8,6 +8,33 @@ pub struct Grown {
     pub ids: Vec<u16>,
     /// The next id.
     pub next: u16,
+    /// What growth did to each span (request A7).
+    pub notes: Vec<Note>,
+}
+
+/// What growth did to a span.
+#[derive(Clone, Copy, Default)]
+pub struct Note {
+    /// "for expansion the span whose id it took".
+    pub from: Option<usize>,
+    /// "The last flood that gave the span back, if any".
+    pub gave_back: Option<GaveBack>,
+}
+
+/// A flood that gave a span back: with an objection the span returned to id 0.
+#[derive(Debug, Clone, Copy, PartialEq, Eq)]
+pub struct GaveBack {
+    /// The flood's id.
+    pub id: u16,
+    /// The objecting span.
+    pub objecting: usize,
+}
+
+/// The id that an expansion finds for a span.
+struct Found {
+    id: u16,
+    sum: u16,
+    from: usize,
 }
 
 /// What stops growth (request A6): the first met in the order of the rules.
@@ -39,6 +66,7 @@ struct Growth<'a> {
     ids: Vec<u16>,
     source_distances: Vec<u16>,
     next: u16,
+    notes: Vec<Note>,
 }
 
 pub fn grow(
@@ -55,6 +83,7 @@ pub fn grow(
         ids: vec![0; spans.number()],
         source_distances: vec![0; spans.number()],
         next: 1,
+        notes: vec![Note::default(); spans.number()],
     };
     if border_size > 0 {
         growth.paint(usize::from(border_size));
@@ -71,6 +100,7 @@ pub fn grow(
     Ok(Grown {
         ids: growth.ids,
         next: growth.next,
+        notes: growth.notes,
     })
 }
 
@@ -254,37 +284,38 @@ impl Growth<'_> {
             if entry.used && !again {
                 continue;
             }
-            let Some((id, sum)) = self.nearest(entry.span)? else {
+            let Some(found) = self.nearest(entry.span)? else {
                 continue;
             };
-            if again && sum >= self.source_distances[entry.span] {
+            if again && found.sum >= self.source_distances[entry.span] {
                 continue;
             }
             entry.used = true;
             changed = true;
             if self.has(Mistake::ExpandAtOnce) {
-                self.take(entry.span, id, sum);
+                self.take(entry.span, &found);
             } else {
-                changes.push((entry.span, id, sum));
+                changes.push((entry.span, found));
             }
         }
-        for (span, id, sum) in changes {
-            self.take(span, id, sum);
+        for (span, found) in changes {
+            self.take(span, &found);
         }
         Ok(changed)
     }
 
-    fn take(&mut self, span: usize, id: u16, sum: u16) {
-        self.ids[span] = id;
+    fn take(&mut self, span: usize, found: &Found) {
+        self.ids[span] = found.id;
         if !self.has(Mistake::ExpandNoSource) {
-            self.source_distances[span] = sum;
+            self.source_distances[span] = found.sum;
         }
+        self.notes[span].from = Some(found.from);
     }
 
     /// Among same-area neighbours of nonzero unflagged ids, in direction order, the id of the first with the least
     /// source distance plus 2, and that sum. A sum above 65,535 stops growth, whether or not it would be taken.
-    fn nearest(&self, span: usize) -> Result<Option<(u16, u16)>, Stop> {
-        let mut nearest: Option<(u16, u16)> = None;
+    fn nearest(&self, span: usize) -> Result<Option<Found>, Stop> {
+        let mut nearest: Option<Found> = None;
         for d in 0..4 {
             let neighbour = if self.has(Mistake::ExpandAcrossAreas) {
                 self.spans.neighbour(span, d)
@@ -307,15 +338,26 @@ impl Growth<'_> {
             let sum = self.source_distances[neighbour]
                 .checked_add(added)
                 .ok_or(Stop::Sum)?;
-            let is_better = nearest.is_none_or(|(_, least)| {
+            let is_better = nearest.as_ref().is_none_or(|found| {
                 if self.has(Mistake::ExpandTieToLast) {
-                    sum <= least
+                    sum <= found.sum
                 } else {
-                    sum < least && !self.has(Mistake::ExpandFirst)
+                    sum < found.sum && !self.has(Mistake::ExpandFirst)
                 }
             });
-            if is_better {
-                nearest = Some((id, sum));
+            if let Some(found) = &mut nearest {
+                let tie_named = self.has(Mistake::NamesLastSource) && sum == found.sum;
+                let first_named = self.has(Mistake::NamesFirstSource);
+                if tie_named {
+                    found.from = neighbour;
+                }
+                if is_better {
+                    let from = if first_named { found.from } else { neighbour };
+                    *found = Found { id, sum, from };
+                }
+            } else {
+                let from = neighbour;
+                nearest = Some(Found { id, sum, from });
             }
         }
         Ok(nearest)
@@ -335,7 +377,12 @@ impl Growth<'_> {
             if entry.used || self.ids[entry.span] != 0 {
                 continue;
             }
-            if self.flood(entry.span, level) || self.has(Mistake::FailedFloodTakesNumber) {
+            let before = (self.has(Mistake::FailedFloodsNotNamed)).then(|| self.notes.clone());
+            let succeeds = self.flood(entry.span, level);
+            if let Some(before) = before.filter(|_| !succeeds) {
+                self.notes = before;
+            }
+            if succeeds || self.has(Mistake::FailedFloodTakesNumber) {
                 self.next += 1;
                 if self.next == FLAG {
                     return Err(Stop::Ids);
@@ -366,9 +413,14 @@ impl Growth<'_> {
                 stack.len() - 1
             };
             let span = stack.remove(place);
-            if self.has_objection(span) {
+            if let Some(objecting) = self.objection(span) {
                 if !self.has(Mistake::ObjectionKeepsId) {
                     self.ids[span] = 0;
+                }
+                let id = self.next;
+                let gave_back = &mut self.notes[span].gave_back;
+                if gave_back.is_none() || !self.model.has(Mistake::NamesFirstFlood) {
+                    *gave_back = Some(GaveBack { id, objecting });
                 }
                 if self.has(Mistake::ObjectionEndsFlood) {
                     break;
@@ -409,11 +461,12 @@ impl Growth<'_> {
 
     /// Directions 0 to 3 over same-area neighbours: a flagged neighbour ends the looking with no objection; another
     /// nonzero id there is an objection; so is another nonzero id on its corner neighbour, if that has the area too,
-    /// flagged ids included.
-    fn has_objection(&self, span: usize) -> bool {
+    /// flagged ids included. Gives "the objecting span".
+    fn objection(&self, span: usize) -> Option<usize> {
         let is_other = |id| id != 0 && id != self.next;
         let area = self.spans.area(span);
-        let mut corner_objects = false;
+        let mut objecting_corner = None;
+        let unless_flagged = |objecting| (!self.sees_flagged(span)).then_some(objecting);
         for d in 0..4 {
             let Some(neighbour) = self.spans.neighbour(span, d) else {
                 continue;
@@ -424,15 +477,15 @@ impl Growth<'_> {
                 if is_flagged(id) {
                     match self.model.mistake {
                         Some(Mistake::FlaggedNeighbourPasses) => continue,
-                        Some(Mistake::FlaggedNeighbourObjects) => return true,
+                        Some(Mistake::FlaggedNeighbourObjects) => return Some(neighbour),
                         _ => break,
                     }
                 }
                 if is_other(id) && !self.has(Mistake::NoNeighbourObjection) {
                     if self.has(Mistake::FlaggedNeighbourCancels) {
-                        return !self.sees_flagged(span);
+                        return unless_flagged(neighbour);
                     }
-                    return true;
+                    return Some(neighbour);
                 }
             } else {
                 if is_flagged(id) && self.has(Mistake::FlaggedNeighbourOfAnyArea) {
@@ -462,12 +515,13 @@ impl Growth<'_> {
                 }
             }
             match self.model.mistake {
-                Some(Mistake::FlaggedNeighbourCancels) => return !self.sees_flagged(span),
-                Some(Mistake::CornersAfterNeighbours) => corner_objects = true,
-                _ => return true,
+                Some(Mistake::FlaggedNeighbourCancels) => return unless_flagged(corner),
+                Some(Mistake::CornersAfterNeighbours) => objecting_corner = Some(corner),
+                Some(Mistake::NamesNeighbourOfCorner) => return Some(neighbour),
+                _ => return Some(corner),
             }
         }
-        corner_objects && !self.sees_flagged(span)
+        objecting_corner.and_then(unless_flagged)
     }
 
     /// Whether any same-area neighbour is flagged.

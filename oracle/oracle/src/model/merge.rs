@@ -14,13 +14,14 @@ struct Table {
     records: Vec<Record>,
 }
 
+/// The regions, and the records after the merge.
 pub fn finish(
     model: Model,
     spans: &Spans,
-    grown: Grown,
+    grown: &Grown,
     built: Built,
     settings: Settings,
-) -> Regions {
+) -> (Regions, Vec<Record>) {
     let mut table = Table {
         model,
         records: built.records,
@@ -31,7 +32,7 @@ pub fn finish(
         Some(Mistake::OverlapsOfSpans) => built.overlapping_spans,
         _ => table.overlaps(),
     };
-    let (numbers, last) = table.number(spans, &grown);
+    let (numbers, last) = table.number(spans, grown);
     let ids: Vec<_> = grown
         .ids
         .iter()
@@ -52,12 +53,13 @@ pub fn finish(
         }
         _ => last,
     };
-    Regions {
+    let regions = Regions {
         ids,
         max_region,
         overlaps,
         cut: table.records.iter().filter(|record| record.cut).count(),
-    }
+    };
+    (regions, table.records)
 }
 
 /// "From now on an id that no span bears takes no number" (request A4): each id in use becomes the number of ids in use
@@ -124,6 +126,9 @@ impl Table {
                     &group[..]
                 };
                 for &i in removed {
+                    let count = self.records[i].count;
+                    let own = self.has(Mistake::TellsOwnCount);
+                    self.records[i].removed_with = Some(if own { count } else { size });
                     if !self.has(Mistake::FilterKeepsId) {
                         self.records[i].id = 0;
                     }
@@ -393,6 +398,9 @@ impl Table {
         let mut record = std::mem::take(&mut self.records[j]);
         if record.id == old && own {
             record.id = new;
+            if j == absorbed || !self.has(Mistake::TrailOfOwnMerges) {
+                record.became.push(new);
+            }
         }
         let mut renamed = self.has(Mistake::RenameDoublesAlways);
         if !self.has(Mistake::RenameNotNeighbours) {

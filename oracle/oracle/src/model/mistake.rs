@@ -1,21 +1,29 @@
 //! The mistakes that can be put into the model.
 
 macro_rules! mistakes {
-    ($(#[doc = $about:literal] $name:ident,)*) => {
-        /// A single mistake: one sentence of document 01 misread.
+    (
+        $(#[doc = $about:literal] $name:ident,)*
+        told: $(#[doc = $about_told:literal] $told:ident,)*
+    ) => {
+        /// A single mistake: one sentence of document 01, or of request A7, misread.
         #[derive(Debug, Clone, Copy, PartialEq, Eq, PartialOrd, Ord)]
         pub enum Mistake {
             $(#[doc = $about] $name,)*
+            $(#[doc = $about_told] $told,)*
         }
 
         impl Mistake {
-            /// Every mistake, in the order of document 01.
+            /// Every mistake about document 01, in its order.
             pub const ALL: &[Self] = &[$(Self::$name,)*];
+
+            /// Every mistake about the reasons of request A7: no id shows one.
+            pub const TOLD: &[Self] = &[$(Self::$told,)*];
 
             /// What is misread.
             pub fn about(self) -> &'static str {
                 match self {
                     $(Self::$name => $about.trim_ascii(),)*
+                    $(Self::$told => $about_told.trim_ascii(),)*
                 }
             }
         }
@@ -460,6 +468,39 @@ mistakes! {
     LayersDownward,
     /// flagged ids are printed without the flag
     FlagNotPrinted,
+
+    // The reasons of request A7.
+    told:
+    /// expansion names the first neighbour that has an id
+    NamesFirstSource,
+    /// expansion names the last neighbour with the least sum
+    NamesLastSource,
+    /// an expanded span is told as flooded
+    ExpandedIsFlooded,
+    /// the first flood that gave the span back is named
+    NamesFirstFlood,
+    /// a failed flood is not named
+    FailedFloodsNotNamed,
+    /// where a corner objects, the neighbour before it is named
+    NamesNeighbourOfCorner,
+    /// a flood that gave the span back is named only where the span has no room
+    FloodNamedWithoutRoom,
+    /// the count is that of the span's own region
+    TellsOwnCount,
+    /// a removed span tells its flood's id, too
+    RemovedTellsId,
+    /// a removed span is told as never reached
+    RemovedIsUnreached,
+    /// the trail ends with the merge of the flood's own record
+    TrailOfOwnMerges,
+    /// the trail begins with the first merge
+    TrailWithoutGrown,
+    /// the trail has the first and the last id alone
+    TrailOfEnds,
+    /// the number is that of the compared form
+    NumberCompared,
+    /// a painted span tells its id as its number
+    PaintedTellsNumber,
 }
 
 /// Why some mistakes can't be seen.
@@ -494,7 +535,7 @@ mod reason {
 impl Mistake {
     /// Whether it is a mistake about refusals or the file: one that fields that are not refused do not tell much of.
     pub fn is_of_files(self) -> bool {
-        self < Self::EdgeUnderThree || self >= Self::BigEndian
+        self < Self::EdgeUnderThree || (Self::BigEndian..=Self::FlagNotPrinted).contains(&self)
     }
 
     /// Why no field file of the program's size shows the mistake, if none does.

@@ -18,6 +18,10 @@ pub struct Record {
     pub floors: Vec<u16>,
     /// Whether its contour was cut short, or that of a record it absorbed (request A8).
     pub cut: bool,
+    /// The count of the group with which it was removed (request A7).
+    pub removed_with: Option<usize>,
+    /// Each id that it became by a merge (request A7).
+    pub became: Vec<u16>,
 }
 
 /// The records, from 0 to the next id.

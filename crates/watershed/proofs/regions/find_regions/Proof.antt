@@ -58,7 +58,7 @@ returns c =
     let x = c .before .before in
     let t = x .before .before in
     let g = G (t .before) in (
-      finds-stop _ _ _ _ _ _ _ _ _ _ (g .grow-regions .ensures) (t .if1 .taken) _ refl,
+      finds-stop _ _ _ _ _ _ _ _ _ _ (g .grow-regions .ensures .0) (t .if1 .taken) _ refl,
       (x .clear .ensures ∙ ap (λ (l : ℕ). replicate l 0) (g .grow-regions .kept .1 .1 .1 .1 .1 .1 .1 .1 .1 .0), areas-are-bytes _ _ _ _ _ _ (bytes (g .before))),
     )
 
@@ -70,7 +70,7 @@ build-records-requires c κs =
     let e = E c in
     let g = G (e .before) in
     let s = S (g .before) in
-    let r = g .grow-regions .ensures in
+    let r = g .grow-regions .ensures .0 in
     let z = g .grow-regions .kept .1 .1 .1 .1 .1 .1 .1 .1 .1 .0 in (
       given _ _ _ _ _ _ _ _ _ (s .pre) _ (N (g .before) .records-end .ensures) (bytes (g .before)) _ _ _ _ _ _ r (e .if1 .left) z,
       (
@@ -88,7 +88,7 @@ merge-and-filter-regions-requires c κs =
     let e = E (b .before) in
     let g = G (e .before) in
     let s = S (g .before) in
-    ready _ _ _ _ _ _ _ _ _ (s .pre) _ (N (g .before) .records-end .ensures) (bytes (g .before)) _ _ _ _ _ _ (g .grow-regions .ensures) (e .if1 .left) (g .grow-regions .kept .1 .1 .1 .1 .1 .1 .1 .1 .1 .0)
+    ready _ _ _ _ _ _ _ _ _ (s .pre) _ (N (g .before) .records-end .ensures) (bytes (g .before)) _ _ _ _ _ _ (g .grow-regions .ensures .0) (e .if1 .left) (g .grow-regions .kept .1 .1 .1 .1 .1 .1 .1 .1 .1 .0)
     _ (b .build-records .ensures)
 
 clear-part-requires : tie.Need-clear-part-requires
@@ -111,7 +111,7 @@ returns-2 c =
     let e = E (b .before) in
     let g = G (e .before) in
     let s = S (g .before) in
-    let r = g .grow-regions .ensures in
+    let r = g .grow-regions .ensures .0 in
     let z = g .grow-regions .kept .1 .1 .1 .1 .1 .1 .1 .1 .1 .0 in (
       finds-regions _ _ _ _ _ _ _ _ _ _ r (e .if1 .left) _
           (whole _ _ _ _ _ _ _ _ _ (s .pre) _ (N (g .before) .records-end .ensures) (bytes (g .before)) _ _ _ _ _ _ r (e .if1 .left) z _ (b .build-records .ensures) _ _ _

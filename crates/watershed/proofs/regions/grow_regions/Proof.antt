@@ -86,8 +86,11 @@ returns c =
     let k = C i in
     let s = S (k .before) in
     let size = g .grow .kept .1 .1 .1 .1 .1 .1 .1 .0 ∙ i .clear .kept .0 in
-    put-back _ _ _ _ _ _ _ _ _ (s .pre .0) _ (s .pre .1) _ refl _ (k .copy-part .kept .1 .0) (k .copy-part .ensures .0) _ (p .clear-part .kept .0) (p .clear-part .ensures .1)
-    _ _ _ _ _ _ (g .grow .ensures .0) (g .grow .kept .1 .1 .1 .1 .1 .1 .1 .1 .0) _ _ size (b .put-back .ensures) (y .if1 .taken)
+    let stopped = y .if1 .taken in (
+      put-back _ _ _ _ _ _ _ _ _ (s .pre .0) _ (s .pre .1) _ refl _ (k .copy-part .kept .1 .0) (k .copy-part .ensures .0) _ (p .clear-part .kept .0) (p .clear-part .ensures .1)
+          _ _ _ _ _ _ (g .grow .ensures .0) (g .grow .kept .1 .1 .1 .1 .1 .1 .1 .1 .0) _ _ size (b .put-back .ensures) stopped,
+      λ o. absurd (stopped o),
+    )
 
 same-length-3 : tie.Need-same-length-3
 same-length-3 c = search needs
@@ -101,9 +104,11 @@ returns-2 c =
     let p = P g in
     let i = I p in
     let k = C i in
-    let s = S (k .before) in
-    raised _ _ _ _ _ _ _ _ _ (s .pre .0) _ (s .pre .1) _ refl _ (k .copy-part .kept .1 .0) (k .copy-part .ensures .0) _ (p .clear-part .kept .0) (p .clear-part .ensures .1)
-    _ _ _ _ _ _ (g .grow .ensures .0) (g .grow .kept .1 .1 .1 .1 .1 .1 .1 .1 .0) (c .if1 .left)
+    let s = S (k .before) in (
+      raised _ _ _ _ _ _ _ _ _ (s .pre .0) _ (s .pre .1) _ refl _ (k .copy-part .kept .1 .0) (k .copy-part .ensures .0) _ (p .clear-part .kept .0) (p .clear-part .ensures .1)
+          _ _ _ _ _ _ (g .grow .ensures .0) (g .grow .kept .1 .1 .1 .1 .1 .1 .1 .1 .0) (c .if1 .left),
+      g .grow .ensures .1,
+    )
 
 pub grow-regions-spec : {M : Type 1} → statement M
 grow-regions-spec =

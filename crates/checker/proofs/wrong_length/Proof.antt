@@ -1,9 +1,9 @@
 -- The checker's verdict, with lists that are one too long. Assumes nothing.
-use Rattle.sizes.proofs.Numbers.{long-refused, long-sound}
+use Rattle.checker.proofs.Lengths.{long-refused, long-sound}
 use native.Mathlib.Omega.{arith}
 use borrow.Author.Needs.{needs}
-use Rattle.sizes.proofs.into.wrong_length.Statement.{statement}
-use Rattle.sizes.proofs.into.wrong_length.Tie as tie
+use Rattle.checker.proofs.wrong_length.Statement.{statement}
+use Rattle.checker.proofs.wrong_length.Tie as tie
 
 add-n : tie.Need-add-n
 add-n c = search needs

@@ -1,0 +1,2 @@
+-- What is proved of the trail's code.
+pub mod Steps

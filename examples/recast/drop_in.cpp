@@ -164,6 +164,8 @@ int beside(int seed, int border, int least, int merge, gussetraft::Workspace &wo
 
 // ---- what is refused
 
+int tried = 0;
+
 // Both calls, or those whose text is given, must fail, with this in the log, and leave the heightfield as it was.
 void refused(rcCompactHeightfield &chf, const char *distances, const char *regions, int border = 0, int least = 0, int merge = 0) {
     const Written before(chf);
@@ -172,16 +174,18 @@ void refused(rcCompactHeightfield &chf, const char *distances, const char *regio
         must(!gussetraft::buildDistanceField(&told, chf), std::string("not refused: ") + distances);
         must(told.errors == std::string("gussetraft::buildDistanceField: ") + distances + "\n", "logged: " + told.errors);
         must(before == Written(chf), std::string("the heightfield has changed: ") + distances);
+        tried++;
     }
     if (regions) {
         Told told;
         must(!gussetraft::buildRegions(&told, chf, border, least, merge), std::string("not refused: ") + regions);
         must(told.errors == std::string("gussetraft::buildRegions: ") + regions + "\n", "logged: " + told.errors);
         must(before == Written(chf), std::string("the heightfield has changed: ") + regions);
+        tried++;
     }
 }
 
-int refusals() {
+void refusals() {
     Told told;
     const char *const wide = "refused 1: the width or the height is above 256";
     refused(*open(257, 2), wide, wide);
@@ -232,7 +236,6 @@ int refusals() {
     Heightfield none = bare(0, 0, {});
     must(gussetraft::buildDistanceField(&told, *none) && gussetraft::buildRegions(&told, *none, 1, 1, 1), "no cells: " + told.errors);
     must(none->maxRegions == 5 && none->borderSize == 1, "no cells: maxRegions is another");
-    return 18;
 }
 
 // Each allocation fails once. What is left is what was there.
@@ -265,19 +268,18 @@ int memory() {
 int main() {
     rcAllocSetCustom(counted, given);
     const int fields = 400;
-    int differ = 0, bordered = 0;
+    int bordered = 0;
     {
         gussetraft::Workspace workspace;
         for (int seed = 0; seed < fields; seed++) {
             must(beside(seed, 0, seed % 5 * 8, seed % 7 * 30, workspace) == 0, "an id is another");
-            const bool apart = beside(seed, 1 + seed % 4, seed % 5 * 8, seed % 7 * 30, workspace) > 0;
-            bordered += apart;
-            differ++;
+            bordered += beside(seed, 1 + seed % 4, seed % 5 * 8, seed % 7 * 30, workspace) > 0;
         }
     }
     std::printf("%d fields without a border: distances, ids and maxRegions are Recast's\n", fields);
-    std::printf("%d fields with a border: distances and the border are Recast's; %d have an id that is not\n", differ, bordered);
-    std::printf("%d refusals and sizes at the edges\n", refusals());
+    std::printf("%d fields with a border: distances and the border are Recast's; %d have an id that is not\n", fields, bordered);
+    refusals();
+    std::printf("%d refused calls, and sizes at the edges\n", tried);
     std::printf("%d allocations failed one after the other\n", memory());
     must(blocks == 0, std::to_string(blocks) + " blocks were never given back");
     return 0;

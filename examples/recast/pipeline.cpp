@@ -237,7 +237,7 @@ int dump(Context &ctx, const Mesh &mesh, const Settings &s, const std::string &f
         files++;
         spans += chf->spanCount;
     }
-    std::printf("%d field files, %d spans\n", files, spans);
+    std::printf("%d field file%s, %d spans\n", files, files == 1 ? "" : "s", spans);
     return 0;
 }
 

@@ -6,10 +6,10 @@
  * Everything before and after stays Recast's: rasterising, compacting, eroding, contours, polygon mesh. The two can also be mixed, Recast's
  * distances with these regions or the other way round.
  *
- * What is refused: each function answers false, logs the number and its meaning through the context (RC_LOG_ERROR), and leaves the heightfield as
- * it was before the call, distances and regions of an earlier call included. (Recast's own functions have freed chf.dist by then.) The limits are the library's: 256 by 256
- * cells, 65,000 spans, 63 spans a cell; Recast's tiles are mostly smaller. A field of Recast's own is never refused for its connections where walkableClimb
- * is at most walkableHeight; where it is greater, a span may be joined to one that is not joined to it (refused 6).
+ * What is refused: each function answers false, logs the number and its meaning through the context (RC_LOG_ERROR), and leaves the heightfield as it was
+ * before the call, distances and regions of an earlier call included. (Recast's own functions have freed chf.dist by then.) The limits are the library's:
+ * 256 by 256 cells, 65,000 spans, 63 spans a cell. A heightfield of Recast's own is not refused for its connections where walkableClimb is at most
+ * walkableHeight; where it is greater, a span may be joined to one that is not joined to it, which is refused 6.
  *
  * Memory is Recast's: rcAlloc and rcFree, so a custom allocator sees it all. A context is needed, as Recast needs one (rcAssert). */
 #ifndef GUSSETRAFT_RECAST_HPP
@@ -175,8 +175,8 @@ inline bool buildDistanceField(rcContext *ctx, rcCompactHeightfield &chf) {
  * - With a border the painted spans are Recast's, and the other ids and maxRegions can differ: a flood that sees the border beside it looks no further in
  *   rerecast and here, and goes on looking in Recast (docs/DIFFERENCES.md).
  *
- * The two areas are numbers of spans, as in Recast; a size below 0, which Recast's own page rules out, is refused. Overlapping regions are logged as Recast logs them (RC_LOG_ERROR) and are
- * no failure; contours cut short after 40,000 steps, which Recast does not tell, are a warning. */
+ * The two areas are numbers of spans, as in Recast; a size below 0, which Recast's own page rules out, is refused. Overlapping regions are logged as
+ * Recast logs them (RC_LOG_ERROR) and are no failure; contours cut short after 40,000 steps, which Recast does not tell, are a warning. */
 inline bool buildRegions(rcContext *ctx, rcCompactHeightfield &chf, int borderSize, int minRegionArea, int mergeRegionArea, Workspace &workspace) {
     rcAssert(ctx);
     const char *const who = "gussetraft::buildRegions";

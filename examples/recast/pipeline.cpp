@@ -8,6 +8,7 @@
 #include <cstdio>
 #include <cstdlib>
 #include <cstring>
+#include <filesystem>
 #include <fstream>
 #include <map>
 #include <memory>
@@ -24,7 +25,7 @@ const char help[] = "usage: pipeline [OPTION..] MESH.obj\n"
                     "The mesh is rasterised, filtered, compacted and eroded by Recast; distances and regions come from Recast and from Gussetraft; contours and the\n"
                     "polygon mesh again from Recast. Both polygon meshes are counted, and where they differ is told.\n"
                     "\n"
-                    "--dump DIR  writes field files (document 01's records) to DIR, which must be there, in place of that: NAME.field, or NAME-X-Z.field for each tile\n"
+                    "--dump DIR  writes field files (document 01's records) to DIR, which is made if it is not there, in place of that: NAME.field, or NAME-X-Z.field for each tile\n"
                     "--tile N    tiles of N by N cells beside a border, in place of the whole level with none; N and the border on both sides are at most 256 together\n"
                     "\n"
                     "The level's units are the mesh's, mostly metres, y up:\n"
@@ -220,13 +221,36 @@ std::string fieldFile(const rcCompactHeightfield &chf, const Settings &s) {
     return out + '\4';
 }
 
+// Whether the library's loader reads from a file what Gussetraft is handed of the heightfield itself.
+bool readsBack(const std::string &file, const rcCompactHeightfield &chf, const Settings &s) {
+    const gussetraft::detail::Field field(chf);
+    if (!field.made()) throw Failed("out of memory");
+    const std::size_t cells = field.cells, n = field.spans;
+    std::vector<std::uint32_t> index(cells);
+    std::vector<std::uint8_t> count(cells), area(n), con(4 * n);
+    gussetraft_loader loader = gussetraft_load_begin(static_cast<std::uint32_t>(cells), static_cast<std::uint32_t>(n));
+    gussetraft_load_piece(&loader, reinterpret_cast<const std::uint8_t *>(file.data()), file.size(), index.data(), cells, count.data(), cells, area.data(), n, con.data(), 4 * n);
+    if (gussetraft_load_end(&loader).refusal != 0 || gussetraft_loaded_spans(&loader) != n) return false;
+    if (gussetraft_loaded_w(&loader) != chf.width || gussetraft_loaded_h(&loader) != chf.height || gussetraft_loaded_border_size(&loader) != s.border()) return false;
+    if (gussetraft_loaded_min_region_area(&loader) != s.least() || gussetraft_loaded_merge_region_area(&loader) != s.merged()) return false;
+    for (std::size_t c = 0; c < cells; c++) {
+        // an empty cell's index is not looked at
+        if (count[c] != field.count[c] || (count[c] > 0 && index[c] != field.index[c])) return false;
+    }
+    return std::equal(area.begin(), area.end(), field.area.at()) && std::equal(con.begin(), con.end(), field.con.at());
+}
+
 int dump(Context &ctx, const Mesh &mesh, const Settings &s, const std::string &folder, const std::string &name) {
     int files = 0, spans = 0;
+    std::error_code wrong;
+    std::filesystem::create_directories(folder, wrong);
+    if (wrong) throw Usage(folder + " can't be made: " + wrong.message());
     for (const Part &part : parts(mesh, s)) {
         const auto chf = compact(ctx, mesh, s, part);
         if (chf->spanCount == 0) continue; // a tile with nothing in it
         const std::string path = folder + "/" + name + part.name + ".field";
         const std::string bytes = fieldFile(*chf, s);
+        if (!readsBack(bytes, *chf, s)) throw Failed(path + " would not read back as the heightfield that it was made of");
         std::ofstream file(path, std::ios::binary);
         file.write(bytes.data(), static_cast<std::streamsize>(bytes.size()));
         file.close();

@@ -5,7 +5,44 @@ use oracle::{
     field::Case,
     file::{self, Limits},
 };
-use std::{env, fs, path::Path};
+use std::{env, ffi::OsStr, fs, path::Path};
+
+/// The field files *.field of a folder, by name, as [`write_levels`] writes levels. One that can't be measured is told and left out: it is no field file, the library refuses it,
+/// so that the unchanged Rust can't be asked, or it has no spans. Gives whether any is left.
+pub fn write_files(from: &str, folder: &str) -> bool {
+    let mut files: Vec<_> = (fs::read_dir(from).expect("can read the folder"))
+        .map(|entry| entry.expect("can read the folder").path())
+        .filter(|path| path.extension() == Some(OsStr::new("field")))
+        .collect();
+    files.sort();
+    let mut levels = Vec::new();
+    for path in files {
+        match measurable(&path) {
+            // the tables' columns are parted by this sign
+            Ok(case) => levels.push((name_of(&path).replace('|', "_"), case)),
+            Err(why) => eprintln!("bench: {} is left out: {why}", path.display()),
+        }
+    }
+    let any = !levels.is_empty();
+    write_levels(folder, levels);
+    any
+}
+
+fn name_of(path: &Path) -> String {
+    path.file_stem()
+        .unwrap_or_default()
+        .to_string_lossy()
+        .into_owned()
+}
+
+fn measurable(path: &Path) -> Result<Case, String> {
+    let bytes = fs::read(path).map_err(|error| error.to_string())?;
+    let case = file::read(&bytes, Limits::FORMAT).map_err(|refusal| refusal.to_string())?;
+    if case.field.spans() == 0 {
+        return Err("it has no spans".to_owned());
+    }
+    run::refused(&case).map_or(Ok(case), |refusal| Err(refusal.to_string()))
+}
 
 /// Writes NUMBER.field, NUMBER.answer (the Rust's numbers) and NUMBER.dense (the same answer in the dense form) for each level to a folder, and prints
 /// a line for each: its number, its number of spans, its name.

@@ -174,6 +174,26 @@ pub fn gussetraft(case: &Case, entries: Entries, mark: impl Fn(u64)) -> Answer {
     }
 }
 
+/// Whether either entry of Gussetraft refuses a level.
+pub fn refused(case: &Case) -> Option<Refusal> {
+    let n = case.field.spans();
+    let (field, sizes) = (lent(&case.field), sizes(case));
+    let (mut raw, mut distances, mut ids) = (vec![0; n], vec![0; n], vec![0; n]);
+    build_distance_field(&field, &mut raw, &mut distances)
+        .and_then(|max_distance| {
+            let mut workspace = vec![0; workspace_len(n)];
+            build_regions(
+                &field,
+                &distances,
+                max_distance,
+                &sizes,
+                &mut workspace,
+                &mut ids,
+            )
+        })
+        .err()
+}
+
 /// Gussetraft's region entry, refused at the last thing that a checker looks at: the workspace, which comes after all that the distance
 /// entry refuses too (7), or the last distance, which comes after all that the region entry refuses (8). So each call is an entry's checks
 /// and nothing else, on a field that passes them.

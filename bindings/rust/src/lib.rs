@@ -49,7 +49,12 @@
 
 #![no_std]
 
+#[cfg(feature = "alloc")]
+extern crate alloc;
+
 mod load;
+#[cfg(feature = "alloc")]
+pub mod rerecast;
 pub mod results;
 mod sys;
 mod why;

@@ -1,18 +1,18 @@
-//! side levels|growing|full FOLDER: writes the levels. side gussetraft|checker|rust distance|regions FILE: runs the distance entry, or both, on one.
+//! side levels|growing|full FOLDER: writes the levels. side real FROM FOLDER: the same of the field files in FROM. side gussetraft|checker|rust distance|regions FILE: runs the distance entry, or both, on one.
 //! side time FILE [LIBRARY]: the least times of all on one, C++ Recast being in that library. side door build|refresh|checks|time N: a door in buildings of some N spans.
 //! side plain rooms|time FILE: plain rooms of one. side stored time FILE: its result stored.
 
 use side::{
     door, level,
-    measured::{compare, mark, read_level, write_levels},
+    measured::{compare, mark, read_level, write_files, write_levels},
     rooms,
     run::{self, Entries},
     stored,
     timed::{self, Recast},
 };
-use std::env;
+use std::{env, process::exit};
 
-const USAGE: &str = "side levels|growing|full FOLDER, side gussetraft|checker|rust distance|regions FILE, side time FILE [LIBRARY], side door build|refresh|checks|time N, side plain rooms|time FILE, or side stored time FILE";
+const USAGE: &str = "side levels|growing|full FOLDER, side real FROM FOLDER, side gussetraft|checker|rust distance|regions FILE, side time FILE [LIBRARY], side door build|refresh|checks|time N, side plain rooms|time FILE, or side stored time FILE";
 
 fn main() {
     let words: Vec<_> = env::args().skip(1).collect();
@@ -21,6 +21,12 @@ fn main() {
         ["levels", folder] => write_levels(folder, level::large()),
         ["growing", folder] => write_levels(folder, level::growing()),
         ["full", folder] => write_levels(folder, level::full()),
+        ["real", from, folder] => {
+            if !write_files(from, folder) {
+                eprintln!("bench: {from} has no field file that can be measured");
+                exit(1);
+            }
+        }
         ["time", path] => println!(
             "{}",
             timed::line(&timed::times(&read_level(path), path, None))

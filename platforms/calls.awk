@@ -63,11 +63,11 @@ function declared(answer, name, parameters,    n, part, i, one, words, count, ty
     if (form == "names") print name
     if (form == "record") {
         print answer " recorded_" name "(" parameters ");"
-        print answer " " name "(" parameters ") {\n    " answer " answer;\n    call_begins(\"" name "\", \"" sig "\", sizeof answer);"
+        print answer " " name "(" parameters ") {\n    " answer " handed_back;\n    call_begins(\"" name "\", \"" sig "\", sizeof handed_back);"
         printf "%s", before
-        print "    answer = recorded_" name "(" substr(names, 3) ");"
+        print "    handed_back = recorded_" name "(" substr(names, 3) ");"
         printf "%s", after
-        print "    call_ends(&answer, sizeof answer);\n    return answer;\n}\n"
+        print "    call_ends(&handed_back, sizeof handed_back);\n    return handed_back;\n}\n"
     }
     if (form == "replay") {
         print "static void call_" name "(struct call *c) {"

@@ -58,6 +58,21 @@ static void *memory(size_t len) {
     return got;
 }
 
+/* A loop for each size: most of what is replayed are workspaces, and an emulator takes its time. A list is aligned as malloc aligns it. */
+static void progression(uint8_t *to, size_t count, size_t element, uint64_t first, uint64_t step) {
+    if (first == 0 && step == 0) {
+        memset(to, 0, count * element);
+    } else if (element == 1) {
+        for (size_t i = 0; i < count; i++) to[i] = (uint8_t)(first + i * step);
+    } else if (element == 2) {
+        for (size_t i = 0; i < count; i++) ((uint16_t *)to)[i] = (uint16_t)(first + i * step);
+    } else if (element == 4) {
+        for (size_t i = 0; i < count; i++) ((uint32_t *)to)[i] = (uint32_t)(first + i * step);
+    } else {
+        for (size_t i = 0; i < count; i++) ((uint64_t *)to)[i] = first + i * step;
+    }
+}
+
 /* Reads a list from here into a place for it; with none, goes past it. */
 static size_t read_list(uint8_t *to) {
     size_t element = (size_t)number(1), len = (size_t)number(4), done = 0;
@@ -69,8 +84,8 @@ static size_t read_list(uint8_t *to) {
             const uint8_t *from = take(count * element);
             if (to != NULL) memcpy(to + done * element, from, count * element);
         } else {
-            uint64_t value = number(element), step = number(element);
-            for (size_t i = 0; to != NULL && i < count; i++, value += step) memcpy(to + (done + i) * element, &value, element);
+            uint64_t first = number(element), step = number(element);
+            if (to != NULL) progression(to + done * element, count, element, first, step);
         }
         done += count;
     }

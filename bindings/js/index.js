@@ -31,7 +31,7 @@ export const supported = () => typeof WebAssembly === 'object' && WebAssembly.va
 export async function load(source) {
   if (!supported()) {
     throw new Error(
-      'gussetraft: this engine has no 64-bit WebAssembly memories, which gussetraft.wasm needs: node 20 to 23 take the flag --experimental-wasm-memory64, newer ones and the browsers of 2025 need none',
+      'gussetraft: this engine has no 64-bit WebAssembly memories, which gussetraft.wasm needs: node 20 to 23 have them with the flag --experimental-wasm-memory64, later ones without',
     );
   }
   const module = await compile(await (source ?? own()));

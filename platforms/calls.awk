@@ -3,6 +3,7 @@
 #   awk -f calls.awk -v form=record HEADER    functions of those names that keep a record of each call of recorded_NAME (record.c)
 #   awk -f calls.awk -v form=replay HEADER    a table of functions that make a call from its record (replay.c)
 #   awk -f calls.awk -v form=names HEADER     the names alone
+#   awk -f calls.awk -v form=answers HEADER   the type of each one's answer
 #
 # A signature has a letter for each parameter: h and w numbers of 16 and 32 bits; r and m a list to read and one to write, its length with it, after each
 # the number of bytes of an element.
@@ -61,6 +62,7 @@ function declared(answer, name, parameters,    n, part, i, one, words, count, ty
         }
     }
     if (form == "names") print name
+    if (form == "answers") print answer
     if (form == "record") {
         print answer " recorded_" name "(" parameters ");"
         print answer " " name "(" parameters ") {\n    " answer " handed_back;\n    call_begins(\"" name "\", \"" sig "\", sizeof handed_back);"

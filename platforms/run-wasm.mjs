@@ -1,4 +1,4 @@
-// run-wasm.mjs node|chromium MODULE VECTORS CASES: replay.mjs over gussetraft.wasm, in node or in Chromium without a window. try runs it.
+// run-wasm.mjs node|chromium MODULE VECTORS [CASES]: replay.mjs over gussetraft.wasm, in node or in Chromium without a window. try runs it.
 
 import { execFile } from 'node:child_process';
 import { mkdtemp, readFile, rm } from 'node:fs/promises';
@@ -31,7 +31,7 @@ const fetched = async (name) => {
   return new Uint8Array(await response.arrayBuffer());
 };
 const tell = (told) => fetch('told', { method: 'POST', body: JSON.stringify(told) });
-all(fetched, gussetraft, { rooms, door, pieces }, rows).then((line) => tell({ line }), (error) => tell({ error: String(error?.stack ?? error) }));
+all(fetched, ${cases !== undefined}, gussetraft, { rooms, door, pieces }, rows).then((line) => tell({ line }), (error) => tell({ error: String(error?.stack ?? error) }));
 </script>`;
 
 async function inNode() {
@@ -41,7 +41,7 @@ async function inNode() {
   const { default: pieces } = await import('../bindings/js/examples/pieces.js');
   const { all } = await import('./replay.mjs');
   const fetched = async (name) => new Uint8Array(await readFile(place(name)));
-  return `node ${process.versions.node}: ${await all(fetched, gussetraft, { rooms, door, pieces }, rows)}`;
+  return `node ${process.versions.node}: ${await all(fetched, cases !== undefined, gussetraft, { rooms, door, pieces }, rows)}`;
 }
 
 // The page posts what it found, so that its end is known.

@@ -23,13 +23,18 @@ export class Loader {
       this.#places.push(place);
       return list(Type, place.at, length);
     };
-    this.#numbers = keep(Uint32Array, NUMBERS);
-    this.#lists = {
-      index: keep(Uint32Array, mostCells),
-      count: keep(Uint8Array, mostCells),
-      area: keep(Uint8Array, mostSpans),
-      con: keep(Uint8Array, 4 * mostSpans),
-    };
+    try {
+      this.#numbers = keep(Uint32Array, NUMBERS);
+      this.#lists = {
+        index: keep(Uint32Array, mostCells),
+        count: keep(Uint8Array, mostCells),
+        area: keep(Uint8Array, mostSpans),
+        con: keep(Uint8Array, 4 * mostSpans),
+      };
+    } catch (error) {
+      this.release(); // no memory for so many
+      throw error;
+    }
     told(exports.gussetraft_load_begin_into(mostCells, mostSpans, ...this.#numbers.lent));
   }
 

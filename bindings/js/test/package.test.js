@@ -216,6 +216,7 @@ test('a loader refuses at the position in the file, and says the same again', ()
   loader.release();
   assert.throws(() => loader.end(), TypeError);
   assert.throws(() => g.loader(1, 64).piece(bad), (error) => refused(21)(error) && error.position === 0);
+  assert.throws(() => g.loader(0xffffffff, 0xffffffff), RangeError); // more than the module's memory can have
 });
 
 test('what was handed out stays when the memory grows', async () => {

@@ -1,5 +1,5 @@
-/* Gussetraft: the watershed part of a navigation library, proved. Link with libgussetraft.a (rt staticlib gussetraft), x86-64 Linux;
- * from outside it calls memset alone.
+/* Gussetraft: the watershed part of a navigation library, proved. Link with the archive of your target (tools/targets; for x86-64 Linux also
+ * rt staticlib gussetraft); from outside it calls memset alone, on macOS bzero.
  *
  * A field is w by h cells, row by row (x fastest), each an index and a count, and n spans, n being area_len: an area byte (0: not
  * walkable) and four connection bytes each, in direction order (-1,0), (0,1), (1,0), (0,-1); GUSSETRAFT_NO_CONNECTION is none,
@@ -549,6 +549,21 @@ static inline gussetraft_id_answer gussetraft_id_at_whole(const uint8_t *file, s
     answer.stretch = a[2];
     return answer;
 }
+
+/* Every machine's C hands back 4 or 8 bytes in the same way, and more, or 6, in ways of its own: a larger answer is written to a lent list, and the
+ * struct is made here, by an inline function. */
+#if defined(__cplusplus) && (__cplusplus >= 201103L || defined(_MSC_VER))
+#define GUSSETRAFT_BY_VALUE(type) static_assert(sizeof(type) == 4 || sizeof(type) == 8, "an answer by value has 4 or 8 bytes")
+#elif defined(__STDC_VERSION__) && __STDC_VERSION__ >= 201112L
+#define GUSSETRAFT_BY_VALUE(type) _Static_assert(sizeof(type) == 4 || sizeof(type) == 8, "an answer by value has 4 or 8 bytes")
+#endif
+#ifdef GUSSETRAFT_BY_VALUE
+GUSSETRAFT_BY_VALUE(gussetraft_distance_answer);
+GUSSETRAFT_BY_VALUE(gussetraft_region_answer);
+GUSSETRAFT_BY_VALUE(gussetraft_mend_answer);
+GUSSETRAFT_BY_VALUE(gussetraft_room_answer);
+GUSSETRAFT_BY_VALUE(gussetraft_load_answer);
+#endif
 
 #ifdef __cplusplus
 }

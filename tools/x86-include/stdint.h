@@ -4,4 +4,5 @@
 typedef unsigned char uint8_t;
 typedef unsigned short uint16_t;
 typedef unsigned int uint32_t;
+typedef __UINT64_TYPE__ uint64_t;
 #endif

@@ -137,7 +137,7 @@ test('a span is explained: the reason goes with the id that the build gives it',
   }
   for (const reason of ['notWalkable', 'painted', 'filteredOut', 'flooded', 'expanded']) assert.ok(seen.has(reason), reason);
   assert.throws(() => g.explainSpan(field, 108, { blurred, maxDistance }), refused(14));
-  assert.throws(() => g.explainSpan(field, -1, { blurred, maxDistance }), TypeError);
+  assert.throws(() => g.explainSpan(field, -1, { blurred, maxDistance }), RangeError);
 });
 
 test('refusals 1 to 8 come with number and text, and nothing changes', () => {

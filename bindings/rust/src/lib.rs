@@ -58,6 +58,8 @@ pub mod rerecast;
 pub mod results;
 mod sys;
 mod why;
+#[cfg(feature = "alloc")]
+pub mod workspace;
 
 pub use load::{Lists, LoadRefusal, Loaded, Loader};
 pub use why::{explain_span, Explanation, GaveBack, Reason};

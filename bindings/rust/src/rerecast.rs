@@ -21,7 +21,7 @@
 //! ```
 
 use crate::{
-    build_distance_field, build_regions_compared, workspace_len, Field, Refusal, Sizes,
+    build_distance_field, build_regions_compared, workspace::Workspace, Field, Refusal, Sizes,
     NO_CONNECTION,
 };
 use alloc::vec::Vec;
@@ -37,7 +37,7 @@ pub struct Watershed {
     raw: Vec<u16>,
     distances: Vec<u16>,
     regions: Vec<u16>,
-    workspace: Vec<u16>,
+    workspace: Workspace,
 }
 
 /// What `rerecast` writes into a heightfield.
@@ -104,16 +104,12 @@ impl Watershed {
         self.distances.resize(n, 0);
         self.regions.resize(n, 0);
         let max_distance = build_distance_field(&field, &mut self.raw, &mut self.distances)?;
-        // Only now is n known to be at most 65,000. No more of the workspace is lent than is needed: a call leaves zeros in all of it.
-        if self.workspace.len() < workspace_len(n) {
-            self.workspace.resize(workspace_len(n), 0);
-        }
         let answer = build_regions_compared(
             &field,
             &self.distances,
             max_distance,
             sizes,
-            &mut self.workspace[..workspace_len(n)],
+            self.workspace.lend(n),
             &mut self.regions,
         )?;
         Ok(Built {

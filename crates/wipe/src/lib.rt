@@ -35,8 +35,8 @@ fn wipe_part(ws: &mut [u16], from: usize, to: usize)
     wipe_block(&mut ws[from..to]);
 }
 
-// So many numbers are looked at, and then zeroed together: half a kilobyte.
-const BLOCK: usize = 256;
+// So many numbers are looked at, and then zeroed together: a page of memory, as most systems have it.
+const BLOCK: usize = 2048;
 
 // Zeros everywhere.
 pub fn wipe(ws: &mut [u16])

@@ -35,7 +35,7 @@ loop-again : tie.Need-loop-again Inv-loop μ-loop
 loop-again c =
     let p = c .before .before .wipe-part in
     let w = c .before .before .before .before .before .loop in
-    wiped-next _ (w .ws) _ (w .i) (w .i + 256) (w .inv) (omega arith) (omega arith) (p .kept .0) (p .ensures .0) (p .ensures .1)
+    wiped-next _ (w .ws) _ (w .i) (w .i + 2048) (w .inv) (omega arith) (omega arith) (p .kept .0) (p .ensures .0) (p .ensures .1)
 
 wipe-part-requires-2 : tie.Need-wipe-part-requires-2 Inv-loop μ-loop
 wipe-part-requires-2 c κs = search needs

@@ -15,11 +15,12 @@ ghost use Rattle.flood.specs.Stack.{marksAt};
 ghost use Rattle.expand.specs.Layout.{takenOf, Sight};
 ghost use Rattle.expand.specs.Told.{sourceAt};
 
-// An id, and the source distance that goes with it; and whether a sum exceeded what a source distance can be.
+// An id, and the source distance that goes with it; and whether a sum exceeded what a source distance can be. Filled up, as `Tries` is.
 pub struct Taken {
     pub id: u16,
     pub far: u16,
     pub strays: bool,
+    pub fill1: u8,
 }
 
 // Farther than any sum that is found.
@@ -81,6 +82,7 @@ fn look(
             id: t.id,
             far: t.far,
             strays: true,
+            fill1: 0,
         };
     }
     let far = f + 2;
@@ -89,6 +91,7 @@ fn look(
             id: r,
             far,
             strays: t.strays,
+            fill1: 0,
         };
     }
     t
@@ -113,6 +116,7 @@ pub(crate) fn takes(
         id: RegionId::NONE.0,
         far: FARTHEST,
         strays: strayed,
+        fill1: 0,
     };
     for d in 0..4 {
         t = look(area, ids, ws, table, span, own, d, t);

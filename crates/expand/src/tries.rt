@@ -16,10 +16,14 @@ ghost use Rattle.net.specs.Table.{netAt, lastPlace, Closed};
 ghost use Rattle.expand.specs.Layout.{noted, Sizes, Entries};
 ghost use Rattle.expand.specs.Front.{Board, Moved, Tried, Sides, Beside, Spans, Entered};
 
-// How many changes are noted, and whether a sum exceeded what a source distance can be.
+// How many changes are noted, and whether a sum exceeded what a source distance can be. Past the flag the struct is filled up: bytes that no field has are copied
+// with a struct too, by way of memory, and these copies took more than half of the time of an expansion (docs/PERFORMANCE.md).
 pub struct Tries {
     pub noted: usize,
     pub strays: bool,
+    pub fill1: u8,
+    pub fill2: u16,
+    pub fill4: u32,
 }
 
 // The flag at i falls, and the change of span s is noted at c.
@@ -52,12 +56,18 @@ fn try_span(area: &[u8], ids: &[u16], ws: &mut [u16], at: Sections, span: SpanIx
         return Tries {
             noted: k,
             strays: f.strays,
+            fill1: 0,
+            fill2: 0,
+            fill4: 0,
         };
     }
     note(ws, i, at.changes + 3 * k, x as u16, f.id, f.far);
     Tries {
         noted: k + 1,
         strays: f.strays,
+        fill1: 0,
+        fill2: 0,
+        fill4: 0,
     }
 }
 
@@ -125,7 +135,13 @@ pub(crate) fn try_beside(
         Moved (now (area .entry)) (at .changes) (at .table) (now (ids .entry)) ws₀ hi strays (now (ws .exit)) (r .noted) (r .strays)) ⌝ }
     ensures { λ r. ⌜ Beside (now (area .entry)) (at .changes) (at .table) (now (ids .entry)) (now (ws .entry)) (now (ws .exit)) (r .strays) lo hi ⌝ }
 {
-    let mut t = Tries { noted: hi, strays };
+    let mut t = Tries {
+        noted: hi,
+        strays,
+        fill1: 0,
+        fill2: 0,
+        fill4: 0,
+    };
     let mut i = lo;
     while i < hi {
         let s = at16(ws, at.changes + 3 * i);
@@ -172,6 +188,9 @@ pub(crate) fn try_all(
     let mut t = Tries {
         noted: 0,
         strays: false,
+        fill1: 0,
+        fill2: 0,
+        fill4: 0,
     };
     let mut j: usize = 0;
     while j < fill {

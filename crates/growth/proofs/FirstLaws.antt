@@ -27,7 +27,7 @@ use Rattle.net.proofs.Fills.{net-lent, mutual-of}
 use Rattle.flood.specs.Stack.{marksAt}
 use Rattle.growth.specs.Floods.{IdsBelowNext}
 use Rattle.growth.specs.Turns.{SectionsFor, Between, begun, turnsOf}
-use Rattle.growth.specs.Grow.{turnsFor, stopsOf, tellsOf, Grew, Poised, Full}
+use Rattle.growth.specs.Grow.{turnsFor, stopsOf, tellsOf, Grew, growthRoom, Poised, Full}
 
 marks-eq : {a a′ s s′ : List ℕ} → a ≡ a′ → s ≡ s′ → _≡_ {A = Marks} (record { ids = a; src = s }) (record { ids = a′; src = s′ })
 marks-eq p q = rw (p, q)
@@ -57,8 +57,8 @@ module _ (w h : ℕ) (is ks ar cs dist : List ℕ) (b most border : ℕ) (ids ws
   painted-ids : ids₁ ≡ painted G border .ids
   painted-ids = q G refl refl refl refl
 
-  zero₁ : (x : ℕ) → x < b → getD ws₁ x 0 ≡ 0
-  zero₁ x l = getD-before x f l ∙ p .clear .blank x (omega arith) l
+  zero₁ : (x : ℕ) → x < growthRoom (length ar) → getD ws₁ x 0 ≡ 0
+  zero₁ x l = getD-before x f (omega (arith, p .past)) ∙ p .clear .blank x (omega arith) l
 
   source₁ : take (length ar) ws₁ ≡ replicate (length ar) 0
   source₁ =

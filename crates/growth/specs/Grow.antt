@@ -39,20 +39,24 @@ pub record Grew (area dist : List ℕ) (table most next : ℕ) (ids ws : List �
       marksAt (length area) ids′ ws′ ≡ expand (netAt table area ws) 0 (t .marks) (blank area (t .marks .ids)) .marks
   pub id : stop ≡ 0 → next′ ≡ turnsOf (netAt table area ws) dist (turnsFor most) (length area) ids ws next (turnsFor most) .next
 
--- before growth: a field that is not refused, ids all 0, and a workspace with zeros before the place of the table
+-- what growth takes of the workspace before the table, of n spans: the source distances, the eight level stacks, the changes, the flood's stack
+abbrev pub growthRoom : ℕ → ℕ
+growthRoom n = 13 * n
+
+-- before growth: a field that is not refused, ids all 0, and zeros where growth works
 pub record Poised (w h : ℕ) (index count area con : List ℕ) (table : ℕ) (ids ws : List ℕ) : Type 0 where
   pub sound : Sound (lent w h index count area con)
-  pub past : 13 * length area ≤ table
+  pub past : growthRoom (length area) ≤ table
   pub close : table ≤ lastPlace
   pub room : table + 4 * length area ≤ length ws
   pub none : ids ≡ replicate (length area) 0
-  pub clear : Clear 0 table ws
+  pub clear : Clear 0 (growthRoom (length area)) ws
 
--- after growth, where nothing stops it: the rule's ids and next id, zeros before the table, and the field's net in it; past the table all is as it was
+-- after growth, where nothing stops it: the rule's ids and next id, zeros where it worked, and the field's net in the table; past the table all is as it was
 pub record Full (F : Field) (dist : List ℕ) (most border table : ℕ) (ws : List ℕ) (next stop : ℕ) (ids′ ws′ : List ℕ) : Type 0 where
   pub after : (x : ℕ) → table + 4 * spans F ≤ x → getD ws′ x 0 ≡ getD ws x 0
   pub stops : stop ≡ stops F dist most border
   pub ids : stop ≡ 0 → ids′ ≡ grown F dist most border .ids
   pub id : stop ≡ 0 → next ≡ grown F dist most border .next
-  pub clear : stop ≡ 0 → Clear 0 table ws′
+  pub clear : stop ≡ 0 → Clear 0 (growthRoom (spans F)) ws′
   pub net : stop ≡ 0 → netAt table (F .area) ws′ ≡ netOf F

@@ -22,6 +22,9 @@ ghost use Rattle.flood.specs.Stories.{storyOf};
 ghost use Rattle.growth.specs.Turns.{SectionsFor, Between, begun};
 ghost use Rattle.growth.specs.Grow.{turnsFor, tellsOf, Grew, Poised, Full};
 
+// What growth takes of the workspace before the table: numbers a span.
+pub const GROWTH_ROOM: usize = 13;
+
 // Where the sections begin, with n spans: past the source distances and the eight level stacks.
 fn sections(n: usize, table: usize) -> Sections
     requires { ⌜ (n ≤ mostSpans) × (13 * n ≤ table) ⌝ }

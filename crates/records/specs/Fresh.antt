@@ -7,7 +7,7 @@ use lib.ListN.{length, getD, set, take}
 use lib.Dec.{eqb, ltb}
 use Rattle.rules.specs.Base.{if_then_else_, many}
 use Rattle.table.specs.View.{startOf, endOf, marksAt}
-use Rattle.records.specs.Map.{listsAt, floorPartsAt, poolAt, recordsEnd}
+use Rattle.records.specs.Map.{listsAt, floorPartsAt, poolAt, floorsFrom, recordsEnd}
 use Rattle.records.specs.Rows.{floorsAt}
 
 -- one more span of id r, if that is below m
@@ -31,5 +31,5 @@ pub record Renewed (ids : List ℕ) (m i : ℕ) (ws₀ ws : List ℕ) : Type 0 w
   pub lists : (j : ℕ) → j < i → (startOf ws m (listsAt m) j ≡ poolAt m) × (endOf ws m (listsAt m) j ≡ poolAt m)
   pub floors : (j : ℕ) → j < i → (startOf ws m (floorPartsAt m) j ≡ floorsAt ids m j) × (endOf ws m (floorPartsAt m) j ≡ floorsAt ids m j)
   pub columns : (j : ℕ) → 2 * m ≤ j → j < listsAt m → getD ws j 0 ≡ 0
-  pub pool : (j : ℕ) → marksAt m ≤ j → j < recordsEnd m (length ids) → getD ws j 0 ≡ 0
+  pub pool : (j : ℕ) → marksAt m ≤ j → j < floorsFrom m (length ids) → getD ws j 0 ≡ 0
   pub after : (j : ℕ) → recordsEnd m (length ids) ≤ j → getD ws j 0 ≡ getD ws₀ j 0

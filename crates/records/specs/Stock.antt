@@ -32,13 +32,13 @@ pub record Reach (plan : Plan) (areas con ids ws : List ℕ) (s : ℕ) : Type 0 
   pub past : recordsEnd (plan .records) (length ids) ≤ plan .table
   pub span : s < length ids
 
--- zeros, and room for m records of these ids
+-- room for m records of these ids, and zeros where they and the lists are laid; what is where the floors will be does not matter
 pub record Blank (ids : List ℕ) (m : ℕ) (ws : List ℕ) : Type 0 where
   pub few : m ≤ border
   pub spans : length ids ≤ mostSpans
   pub room : recordsEnd m (length ids) ≤ length ws
   pub below : (x : ℕ) → plain (getD ids x 0) ≡ true → getD ids x 0 < m
-  pub zeros : (j : ℕ) → j < recordsEnd m (length ids) → getD ws j 0 ≡ 0
+  pub zeros : (j : ℕ) → j < floorsFrom m (length ids) → getD ws j 0 ≡ 0
 
 -- the records 0 to next after all spans: the rule's, laid so that filter and merge can read them
 pub record Built (F : Field) (ids : List ℕ) (next : ℕ) (ws₀ ws : List ℕ) : Type 0 where

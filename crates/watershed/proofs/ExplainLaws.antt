@@ -1,6 +1,6 @@
 -- What `explain_span` tells, reason by reason: the rule's cases read in its order, and the numbers of each.
 -- Each law is one way out of a function. Assumes nothing.
-use Prim.Native.Nat.{ℕ, zero, suc, _+_, _-_, _*_, _≤_, _<_}
+use Prim.Native.Nat.{ℕ, zero, suc, _+_, _-_, _≤_, _<_}
 use native.Mathlib.Omega.{arith}
 use mathlib.Core.Path.{_≡_, refl, sym, ap, _∙_}
 use mathlib.Core.Bool.{true, false, not}
@@ -17,7 +17,7 @@ use Rattle.rules.specs.Records.{Rec, at, records}
 use Rattle.rules.specs.Filter.{filtered}
 use Rattle.rules.specs.Numbering.{dense, regions, formed}
 use Rattle.rules.specs.Outcomes.{Sizes}
-use Rattle.rules.specs.Reasons.{Story, story, goneWith, mergings, trail, Reason, notWalkable, paintedBy, neverReached, filteredOut, flooded, expanded, reasonOf, explainRefusal, ExplainOutcome, unexplained, explains, explainOutcome}
+use Rattle.rules.specs.Reasons.{Story, story, goneWith, mergings, trail, Reason, notWalkable, paintedBy, neverReached, filteredOut, reasonOf, explainRefusal, ExplainOutcome, unexplained, explains, explainOutcome}
 use Rattle.laws.proofs.Basics.{if-ind, getD-any}
 use Rattle.checker.specs.Answer.{numberOf, verdictNumber}
 use Rattle.checker.specs.declared.Refusal.{Refusal}

@@ -3,16 +3,14 @@
 use Prim.Native.Nat.{ℕ, zero, suc, _+_, _-_, _*_, _≤_, _<_}
 use native.Mathlib.Omega.{arith}
 use mathlib.Core.Path.{_≡_, refl, sym, ap, _∙_}
-use mathlib.Core.List.{List, [], _∷_, _++_}
+use mathlib.Core.List.{List, [], _∷_}
 use lib.ListN.{length, getD, take}
 use lib.Seq.{getD-take}
 use Rattle.rules.specs.Field.{Field, spans}
 use Rattle.rules.specs.Growth.{grown, firstId}
 use Rattle.rules.specs.Records.{Rec, at, records}
 use Rattle.rules.specs.Filter.{filtered}
-use Rattle.rules.specs.Merge.{merged}
-use Rattle.rules.specs.Numbering.{dense, Regions, numbered, regions, formed}
-use Rattle.rules.specs.Outcomes.{Sizes}
+use Rattle.rules.specs.Numbering.{dense, Regions, regions, formed}
 use Rattle.rules.specs.Refusals.{mostSpans, regionRefusal}
 use Rattle.rules.specs.Reasons.{Story, story, Merging, goneWith, mergings, trail}
 use Rattle.laws.proofs.Lengths.{records-length, filtered-length}
@@ -24,19 +22,21 @@ use Rattle.reasons.proofs.Groups.{gone-fits}
 use Rattle.reasons.proofs.Small.{story-fits}
 use Rattle.reasons.proofs.Room.{trail-room}
 use Rattle.field.specs.Lent.{lent}
+use Rattle.space.specs.Space.{Clear}
 use Rattle.space.proofs.Laws.{sec-take}
 use Rattle.net.specs.Table.{netAt}
-use Rattle.records.specs.Map.{recordsEnd}
+use Rattle.growth.specs.Grow.{growthRoom}
+use Rattle.records.specs.Map.{recordsEnd, floorsFrom}
 use Rattle.records.specs.Stock.{Given, Blank, Built}
 use Rattle.merge.specs.Ready.{Ready}
 use Rattle.merge.specs.Told.{mergingsAt, ToldRegions}
 use Rattle.merge.proofs.ToldLaws.{part-length}
 use Rattle.trail.specs.Noted.{mergingsFrom}
-use Rattle.watershed.specs.Stages.{Admitted, Raised, tableAt}
-use Rattle.watershed.specs.Explain.{Fits, Grown, Living}
+use Rattle.watershed.specs.Stages.{Admitted, Raised, Readied, tableAt}
+use Rattle.watershed.specs.Explain.{Fits, Grown}
 use Rattle.watershed.proofs.Handover.{handed}
 use Rattle.watershed.proofs.RegionOutcome.{admitted-by}
-use Rattle.watershed.proofs.StageLaws.{areas-are-bytes, few, given, fits, blank, size, next-few, named}
+use Rattle.watershed.proofs.StageLaws.{areas-are-bytes, few, can-ready, given, fits, blank, size, next-few, named}
 
 -- ---------------------------------------------------------------- merges as they are noted
 
@@ -103,43 +103,47 @@ module _ (w h : ℕ) (is ks ar cs dist : List ℕ) (most border table s next : �
   pub id-below : getD ids s 0 < 0x8000 → getD ids s 0 < next + 1
   id-below = named w h is ks ar cs dist ws ids admits table (G .placed) bytes most border next 0 ids ws rises refl refl .below s
 
-  module _ (end : ℕ) (e : end ≡ table + 4 * length ar) where
+  pub can-ready-part : (next + 1 ≤ 65536) × (length ar ≤ mostSpans) × (growthRoom (length ar) ≤ length ws) × (floorsFrom (next + 1) (length ar) ≤ length ws) × Clear 0 (growthRoom (length ar)) ws
+  can-ready-part = can-ready w h is ks ar cs dist ws ids admits table (G .placed) bytes most border next 0 ids ws rises refl refl
+
+  -- made ready
+  module _ (end : ℕ) (e : end ≡ table + 4 * length ar) (ws₁ : List ℕ) (n₁ : length ws₁ ≡ length ws) (r₁ : Readied (next + 1) (length ar) ws ws₁) where
     -- the merges are noted past the part
-    pub past-room : end + 2 * (next + 1) ≤ length ws
-    past-room = omega (arith, few-records, sized, admits .room, G .placed, short)
+    pub past-room : end + 2 * (next + 1) ≤ length ws₁
+    past-room = omega (arith, few-records, sized, n₁, admits .room, G .placed, short)
 
-    part : length (take end ws) ≡ end
-    part = part-length end ws (omega (arith, past-room))
+    part : length (take end ws₁) ≡ end
+    part = part-length end ws₁ (omega (arith, past-room))
 
-    pub part-given : Given F ids table (take end ws)
+    pub part-given : Given F ids table (take end ws₁)
     unfolding netAt
     part-given =
-        let g = given w h is ks ar cs dist ws ids admits table (G .placed) bytes most border next 0 ids ws rises refl refl in
+        let g = given w h is ks ar cs dist ws ids admits table (G .placed) bytes most border next 0 ids ws rises refl refl ws₁ n₁ r₁ in
         record {
           sound = g .sound;
           idents = g .idents;
-          net = ap (λ (l : List ℕ). record { neighbours = l; areas = ar }) (sec-take table (4 * length ar) end ws (omega arith)) ∙ g .net;
+          net = ap (λ (l : List ℕ). record { neighbours = l; areas = ar }) (sec-take table (4 * length ar) end ws₁ (omega arith)) ∙ g .net;
           room = omega (arith, part);
           place = g .place;
         }
 
-    pub part-blank : Blank ids (next + 1) (take end ws)
+    pub part-blank : Blank ids (next + 1) (take end ws₁)
     part-blank =
-        let b = blank w h is ks ar cs dist ws ids admits table (G .placed) bytes most border next 0 ids ws rises refl refl in
+        let b = blank w h is ks ar cs dist ws ids admits table (G .placed) bytes most border next 0 ids ws rises refl refl ws₁ n₁ r₁ in
         record {
           few = b .few;
           spans = b .spans;
           room = omega (arith, part, part-fits);
           below = b .below;
-          zeros = λ j l. getD-take end ws j 0 (omega (arith, part-fits)) ∙ b .zeros j l;
+          zeros = λ j l. getD-take end ws₁ j 0 (omega (arith, part-fits)) ∙ b .zeros j l;
         }
 
     -- after the records
-    module _ (ws₃ : List ℕ) (n₃ : length ws₃ ≡ length ws) (B : Built F ids next (take end ws) (take end ws₃)) where
+    module _ (ws₃ : List ℕ) (n₃ : length ws₃ ≡ length ws₁) (B : Built F ids next (take end ws₁) (take end ws₃)) where
       pub part-ready : Ready (next + 1) (length ar) (take end ws₃) ids
       part-ready =
           rw (← sized)
-          (handed F ids table next (take end ws) (take end ws₃) part-given B few-records (omega (arith, sized, short))
+          (handed F ids table next (take end ws₁) (take end ws₃) part-given B few-records (omega (arith, sized, short))
           (omega (arith, part-fits, part-length end ws₃ (omega (arith, n₃, past-room))))
           (named w h is ks ar cs dist ws ids admits table (G .placed) bytes most border next 0 ids ws rises refl refl))
 
@@ -197,7 +201,7 @@ module _ (w h : ℕ) (is ks ar cs dist : List ℕ) (most border table s next : �
         pub group-small : group ≤ least
         group-small = rw told-group (gone-fits least (getD grownIds s 0) (length recs) recs)
 
-        pub noted-room : end + 2 * merges ≤ length ws
+        pub noted-room : end + 2 * merges ≤ length ws₁
         noted-room = omega (arith, T .few, past-room)
 
   pub story-small : Fits y

@@ -2,11 +2,10 @@
 -- The records come before the table, whatever the next id is: it is at most 5 and the number of spans.
 use Prim.Native.Nat.{ℕ, suc, _+_, _-_, _*_, _≤_, _<_}
 use native.Mathlib.Omega.{arith}
-use native.Mathlib.Decide.{ℕ-discrete}
+use native.Mathlib.Decide.{ℕ-discrete, decLt}
 use mathlib.Core.Path.{_≡_, refl, sym, ap, _∙_}
 use mathlib.Core.List.{List}
-use lib.ListN.{length, getD, replicate, length-replicate, getD-replicate}
-use lib.Seq.{ext-getD}
+use lib.ListN.{length, getD, replicate}
 use Rattle.rules.specs.Field.{Field, Bytes}
 use Rattle.rules.specs.Field as field
 use Rattle.rules.specs.Net.{netOf, spans, areaOf}
@@ -27,21 +26,16 @@ use Rattle.field.specs.Lent.{lent}
 use Rattle.field.proofs.Passed.{sound-reached}
 use Rattle.rooms.proofs.Expanding.{Grow}
 use Rattle.space.specs.Space.{sec, Clear, Frame}
-use Rattle.space.proofs.Laws.{sec-same, getD-after}
-use Rattle.growth.specs.Grow.{Poised, Full}
+use Rattle.space.proofs.Laws.{sec-same, getD-before, getD-after}
+use Rattle.growth.specs.Grow.{growthRoom, Poised, Full}
+use Rattle.net.proofs.Tables.{net-same}
 use Rattle.table.specs.View.{recsOf}
-use Rattle.records.specs.Map.{recordsEnd}
+use Rattle.records.specs.Map.{recordsEnd, floorsFrom}
 use Rattle.records.specs.Stock.{Given, Blank, Built}
 use Rattle.numbering.specs.Number.{Spans}
 use Rattle.merge.specs.Ready.{Ready}
-use Rattle.watershed.specs.Stages.{Admitted, Raised, Finds, tableAt}
+use Rattle.watershed.specs.Stages.{Admitted, Raised, Readied, Finds, tableAt}
 use Rattle.watershed.proofs.Handover.{handed}
-
--- a list that is clear from 0 to its end
-pub all-clear : (k : ℕ) (ws : List ℕ) → length ws ≡ k → Clear 0 k ws → ws ≡ replicate k 0
-all-clear k ws e z =
-    ext-getD 0 ws (replicate k 0) (e ∙ sym (length-replicate k (let o : ℕ = 0 in o)))
-    (λ i h. z .blank i (omega arith) (omega (arith, e, h)) ∙ sym (getD-replicate k i (let o : ℕ = 0 in o) 0 (omega (arith, e, h))))
 
 -- a part from a to e, lent
 pub part-is : (a n e : ℕ) (ws l : List ℕ) → e ≡ a + n → l ≡ sec a (e - a) ws → l ≡ sec a n ws
@@ -63,7 +57,7 @@ module _ (w h : ℕ) (is ks ar cs dist ws ids : List ℕ) (a : Admitted (lent w 
     kept-room kept e = omega (arith, e, placed, a .room, a .idents, few)
 
     -- ids and the workspace before the table are zeros
-    pub poised : (ids₁ ws₁ : List ℕ) → ids₁ ≡ replicate (length ids) 0 → length ws₁ ≡ length ws → Clear 0 table ws₁
+    pub poised : (ids₁ ws₁ : List ℕ) → ids₁ ≡ replicate (length ids) 0 → length ws₁ ≡ length ws → Clear 0 (growthRoom (length ar)) ws₁
         → Poised w h is ks ar cs table ids₁ ws₁
     poised ids₁ ws₁ e n z = record {
       sound = a .sound;
@@ -76,7 +70,7 @@ module _ (w h : ℕ) (is ks ar cs dist ws ids : List ℕ) (a : Admitted (lent w 
 
     -- growth from ids that are kept
     module _ (kept : ℕ) (at : kept ≡ table + 4 * length ar) (ws₁ : List ℕ) (n₁ : length ws₁ ≡ length ws) (c : sec kept (length ids) ws₁ ≡ ids)
-        (ws₂ : List ℕ) (n₂ : length ws₂ ≡ length ws₁) (f : Frame 0 table ws₁ ws₂)
+        (ws₂ : List ℕ) (n₂ : length ws₂ ≡ length ws₁) (f : Frame 0 (growthRoom (length ar)) ws₁ ws₂)
         (most border next stop : ℕ) (ids₃ ws₃ : List ℕ) (g : Full (lent w h is ks ar cs) dist most border table ws₂ next stop ids₃ ws₃) (n₃ : length ws₃ ≡ length ws₂) where
       pub raised : stop ≡ 0 → Raised (lent w h is ks ar cs) dist most border table ids next stop ids₃ ws₃
       raised o = record { stops = g .stops; ids = g .ids; id = g .id; clear = g .clear; net = g .net; back = λ z. absurd (z o) }
@@ -127,43 +121,66 @@ module _ (w h : ℕ) (is ks ar cs dist ws ids : List ℕ) (a : Admitted (lent w 
         ];
       }
 
-      pub given : Given (lent w h is ks ar cs) ids₂ table ws₂
-      given = record {
-        sound = a .sound;
-        idents = size;
-        net = f .net o;
-        room = omega (arith, n₂, a .room, placed);
-        place = omega (arith, few, placed);
-      }
-
       pub fits : recordsEnd (next + 1) (length ids₂) ≤ table
       fits = omega (arith, next-few, size, placed)
 
-      pub blank : Blank ids₂ (next + 1) ws₂
-      blank = record {
-        few = omega (arith, next-plain);
-        spans = omega (arith, size, few);
-        room = omega (arith, next-few, size, n₂, a .room);
-        below = λ x e. named .below x (plain-true _ e .1);
-        zeros = λ j l. f .clear o .blank j (omega arith) (omega (arith, next-few, size, placed));
-      }
+      -- what making ready asks
+      pub can-ready : (next + 1 ≤ 65536) × (length ar ≤ mostSpans) × (growthRoom (length ar) ≤ length ws₂) × (floorsFrom (next + 1) (length ar) ≤ length ws₂)
+          × Clear 0 (growthRoom (length ar)) ws₂
+      can-ready = (omega (arith, next-plain), few, omega (arith, n₂, a .room), omega (arith, next-few, size, n₂, a .room), f .clear o)
 
-      -- after the records
-      module _ (ws₃ : List ℕ) (B : Built (lent w h is ks ar cs) ids₂ next ws₂ ws₃) where
-        pub ready : Ready (next + 1) (length ar) ws₃ ids₂
-        ready =
-            rw (← size)
-            (handed (lent w h is ks ar cs) ids₂ (table) next ws₂ ws₃ given B next-few (omega (arith, size, few))
-            (omega (arith, next-few, size, B .size, n₂, a .room)) named)
+      -- the workspace made ready
+      module _ (ws₃ : List ℕ) (n₃ : length ws₃ ≡ length ws₂) (r : Readied (next + 1) (length ar) ws₂ ws₃) where
+        pub given : Given (lent w h is ks ar cs) ids₂ table ws₃
+        given = record {
+          sound = a .sound;
+          idents = size;
+          net = net-same table ar ws₂ ws₃ (omega (arith, n₂, a .room, placed)) n₃ (λ x l. r .after x (omega (arith, next-few, size, placed))) ∙ f .net o;
+          room = omega (arith, n₃, n₂, a .room, placed);
+          place = omega (arith, few, placed);
+        }
 
-        -- and after the numbering
-        pub whole : (least area : ℕ) (v : Regions) → v ≡ numbered (merged area (suc (next + 1)) (filtered least (recsOf ws₃ (next + 1)))) ids₂
-            → v ≡ regions (lent w h is ks ar cs) least area (grown (lent w h is ks ar cs) dist most border .ids) (grown (lent w h is ks ar cs) dist most border .next)
-        unfolding regions
-        whole least area v e =
-            let rs = filtered least (records (lent w h is ks ar cs) ids₂ next) in
-            let m : suc (next + 1) ≡ suc (length rs) = omega (arith, filtered-length least (records (lent w h is ks ar cs) ids₂ next), records-length (lent w h is ks ar cs) ids₂ next) in
-            e ∙ rw (B .same, m, f .ids o, f .id o)
+        pub blank : Blank ids₂ (next + 1) ws₃
+        blank = record {
+          few = omega (arith, next-plain);
+          spans = omega (arith, size, few);
+          room = omega (arith, next-few, size, n₃, n₂, a .room);
+          below = λ x e. named .below x (plain-true _ e .1);
+          zeros = λ j l. r .clear .blank j (omega arith) (omega (arith, size));
+        }
+
+        -- after the records
+        module _ (ws₄ : List ℕ) (B : Built (lent w h is ks ar cs) ids₂ next ws₃ ws₄) where
+          pub ready : Ready (next + 1) (length ar) ws₄ ids₂
+          ready =
+              rw (← size)
+              (handed (lent w h is ks ar cs) ids₂ table next ws₃ ws₄ given B next-few (omega (arith, size, few))
+              (omega (arith, next-few, size, B .size, n₃, n₂, a .room)) named)
+
+          -- and after the numbering
+          pub whole : (least area : ℕ) (v : Regions) → v ≡ numbered (merged area (suc (next + 1)) (filtered least (recsOf ws₄ (next + 1)))) ids₂
+              → v ≡ regions (lent w h is ks ar cs) least area (grown (lent w h is ks ar cs) dist most border .ids) (grown (lent w h is ks ar cs) dist most border .next)
+          unfolding regions
+          whole least area v e =
+              let rs = filtered least (records (lent w h is ks ar cs) ids₂ next) in
+              let m : suc (next + 1) ≡ suc (length rs) = omega (arith, filtered-length least (records (lent w h is ks ar cs) ids₂ next), records-length (lent w h is ks ar cs) ids₂ next) in
+              e ∙ rw (B .same, m, f .ids o, f .id o)
+
+-- a part that is zeroed past zeros
+pub readied-more : (m n : ℕ) (ws ws′ : List ℕ) → Clear 0 (growthRoom n) ws → Clear (growthRoom n) (floorsFrom m n) ws′ → Frame (growthRoom n) (floorsFrom m n) ws ws′ → Readied m n ws ws′
+readied-more m n ws ws′ z c f = record {
+  clear = record {
+    blank = λ x _ u. elim (decLt x (growthRoom n)) [
+      | yes l ↦ getD-before x f l ∙ z .blank x (omega arith) l
+      | no l ↦ c .blank x (omega arith) u
+    ];
+  };
+  after = λ j l. getD-after j f l;
+}
+
+-- zeros that reach far enough
+pub readied-none : (m n : ℕ) (ws : List ℕ) → Clear 0 (growthRoom n) ws → floorsFrom m n ≤ growthRoom n → Readied m n ws ws
+readied-none m n ws z h = record { clear = record { blank = λ x l u. z .blank x l (omega arith) }; after = λ _ _. refl }
 
 -- what the stages find
 module _ (F : Field) (dist : List ℕ) (most table : ℕ) (z : Sizes) (ids : List ℕ) (next stop : ℕ) (ids₁ ws₁ : List ℕ)

@@ -13,6 +13,7 @@ use Rattle.rules.specs.Outcomes.{Sizes}
 use Rattle.rules.specs.Reasons.{Story, story, Reason, flooded, expanded, reasonOf, ExplainOutcome, unexplained, explains}
 use Rattle.space.specs.Space.{Clear}
 use Rattle.net.specs.Table.{netAt}
+use Rattle.growth.specs.Grow.{growthRoom}
 use Rattle.watershed.specs.Stages.{tableAt}
 use Rattle.watershed.specs.declared.explain.Explanation.{Explanation}
 
@@ -78,7 +79,7 @@ pub record Fits (y : Story) : Type 0 where
   pub from : y .from ≤ none
   pub objecting : y .objecting ≤ none
 
--- growth is done, and nothing stopped it: the rule's ids and next id, zeros before the table, the field's net in it, and span s's story
+-- growth is done, and nothing stopped it: the rule's ids and next id, zeros where it worked, the field's net in the table, and span s's story
 pub record Grown (F : Field) (dist : List ℕ) (most border table s next : ℕ) (y : Story) (ids ws : List ℕ) : Type 0 where
   pub passes : regionRefusal F (length dist ∷ length ids ∷ []) (length ws) dist most ≡ 0
   pub placed : table ≡ tableAt (spans F)
@@ -86,7 +87,7 @@ pub record Grown (F : Field) (dist : List ℕ) (most border table s next : ℕ) 
   pub goes : stops F dist most border ≡ 0
   pub grew : ids ≡ grown F dist most border .ids
   pub id : next ≡ grown F dist most border .next
-  pub clear : Clear 0 table ws
+  pub clear : Clear 0 (growthRoom (spans F)) ws
   pub net : netAt table (F .area) ws ≡ netOf F
   pub told : y ≡ story F dist most border s
 

@@ -5,6 +5,7 @@ use crate::form::lower;
 use crate::regions::MORE_RECORDS;
 use crate::regions::check_regions;
 use crate::regions::grow_regions;
+use crate::regions::ready_records;
 use checker::Verdict;
 use checker::refusal_number;
 use field::place::NO_SPAN;
@@ -16,6 +17,7 @@ use records::map::records_end;
 use region::RegionId;
 use space::clear;
 use trail::write_trail;
+use wipe::wipe;
 ghost use mathlib.Core.Path.{_≡_};
 ghost use mathlib.Core.List.{List, [], _∷_, _++_};
 ghost use Prim.Native.Nat.{ℕ, _+_, _-_, _*_, _≤_, _<_};
@@ -236,6 +238,7 @@ fn explain_region(
     let n = area.len();
     let end = table + 4 * n;
     let r = ids[span];
+    ready_records(ws, next + 1, n);
     build_in(w, h, index, count, area, con, ids, ws, end, table, next);
     let t = merge_and_filter_told(
         ws,
@@ -360,7 +363,7 @@ fn explain_found(
         span,
     );
     if g.stop != GOES_ON {
-        clear(ws);
+        wipe(ws);
         return refused(g.stop);
     }
     let story = g.story;
@@ -383,7 +386,7 @@ fn explain_found(
         span,
         story,
     );
-    clear(ws);
+    wipe(ws);
     r
 }
 

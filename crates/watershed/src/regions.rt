@@ -5,6 +5,7 @@ use checker::Refusal;
 use checker::Verdict;
 use checker::check;
 use field::place::NO_SPAN;
+use growth::grow::GROWTH_ROOM;
 use growth::grow::grow;
 use growth::turns::GOES_ON;
 use growth::turns::Growth;
@@ -12,12 +13,14 @@ use growth::turns::IDS_RUN_OUT;
 use merge::merge_and_filter_regions;
 use numbering::Regions;
 use records::build::build_records;
+use records::map::floors_from;
 use records::map::records_end;
 use space::clear;
 use space::clear_part;
 use space::copy;
 use space::copy_part;
 use table::any_above;
+use wipe::wipe;
 ghost use mathlib.Core.Path.{_≡_};
 ghost use mathlib.Core.Logic.{_⊎_};
 ghost use mathlib.Core.List.{[], _∷_};
@@ -26,18 +29,20 @@ ghost use lib.ListN.{length, replicate};
 ghost use lib.Dec.{ltb};
 ghost use Rattle.rules.specs.Base.{any};
 ghost use Rattle.rules.specs.Field.{Bytes};
-ghost use Rattle.rules.specs.Refusals.{tooFar, regionRefusal};
+ghost use Rattle.rules.specs.Refusals.{mostSpans, tooFar, regionRefusal};
 ghost use Rattle.rules.specs.Numbering.{dense, compared};
 ghost use Rattle.rules.specs.Numbering as rules;
 ghost use Rattle.rules.specs.Outcomes.{Sizes, regionOutcome};
 ghost use Rattle.rules.specs.Reasons.{story};
-ghost use Rattle.space.specs.Space.{sec};
+ghost use Rattle.space.specs.Space.{sec, Clear};
 ghost use Rattle.field.specs.Lent.{lent};
 ghost use Rattle.flood.specs.Stories.{storyOf};
+ghost use Rattle.growth.specs.Grow.{growthRoom};
+ghost use Rattle.records.specs.Map.{floorsFrom};
 ghost use Rattle.checker.specs.Answer.{numberOf, verdictNumber};
 ghost use Rattle.watershed.specs.Answer.{AnswersRegions, GivesRooms};
 ghost use Rattle.watershed.specs.Form.{formOf};
-ghost use Rattle.watershed.specs.Stages.{Admitted, Raised, Finds, ownRefusal, tableAt};
+ghost use Rattle.watershed.specs.Stages.{Admitted, Raised, Readied, Finds, ownRefusal, tableAt};
 
 // What the region entry gives: the refusal, or max_region, the overlap count, and the number of records cut short.
 pub enum RegionAnswer {
@@ -135,7 +140,7 @@ pub(crate) fn grow_regions(
     let kept = table + 4 * n;
     copy_part(ids, ws, kept);
     clear(ids);
-    clear_part(ws, 0, table);
+    clear_part(ws, 0, GROWTH_ROOM * n);
     let g = grow(
         w,
         h,
@@ -166,6 +171,19 @@ fn stop_refusal(stop: u16) -> Refusal
         return Refusal::NoIds;
     }
     Refusal::NoSum
+}
+
+// The workspace is made ready for m records: growth left zeros where it worked, and no more is zeroed than the records and the lists need.
+pub(crate) fn ready_records(ws: &mut [u16], m: usize, n: usize)
+    requires { ⌜ (m ≤ 65536) × (n ≤ mostSpans) × (growthRoom n ≤ length (now ws)) × (floorsFrom m n ≤ length (now ws))
+        × Clear 0 (growthRoom n) (now ws) ⌝ }
+    ensures { λ _. ⌜ Readied m n (now (ws .entry)) (now (ws .exit)) ⌝ }
+{
+    let from = GROWTH_ROOM * n;
+    let to = floors_from(m, n);
+    if from < to {
+        clear_part(ws, from, to);
+    }
 }
 
 // What growth and the stages after it find: the refusal that stops growth, and the regions.
@@ -216,9 +234,8 @@ fn find_regions(
         table,
         NO_SPAN,
     );
-    let all = ws.len();
     if g.stop != GOES_ON {
-        clear(ws);
+        wipe(ws);
         return Found {
             stop: g.stop,
             regions: Regions {
@@ -229,9 +246,10 @@ fn find_regions(
         };
     }
     let next = g.next as usize;
+    ready_records(ws, next + 1, n);
     build_records(w, h, index, count, area, con, ids, ws, table, next);
     let r = merge_and_filter_regions(ws, ids, next + 1, n, min_region_area, merge_region_area);
-    clear_part(ws, 0, all);
+    wipe(ws);
     Found {
         stop: GOES_ON,
         regions: r,

@@ -1,6 +1,7 @@
 -- The loop's invariant: the rounds still to come give, and tell, what all of them do, and what the next one changes is noted (`Going`). The measure is the rounds left.
 -- Assumes nothing.
 use mathlib.Core.Path.{_≡_, refl}
+use native.Mathlib.Omega.{arith}
 use borrow.Author.Needs.{needs}
 use lib.ListN.{length}
 use Rattle.rules.specs.Reasons.{roundsTell}
@@ -107,10 +108,10 @@ try-beside-requires c κs =
     )
 
 sub-left : tie.Need-sub-left Inv-loop μ-loop
-sub-left c = search needs
+sub-left c = omega (arith, c .before .before .before .before .before .before .before .before .before .before .before .before .before .before .before .before .before .before .loop .inv .0 .some)
 
 loop-less : tie.Need-loop-less Inv-loop μ-loop
-loop-less c = search needs
+loop-less c = omega (arith, c .before .before .before .before .before .before .before .before .before .before .before .before .before .before .before .before .before .before .loop .inv .0 .some)
 
 loop-again : tie.Need-loop-again Inv-loop μ-loop
 loop-again c =

@@ -25,8 +25,8 @@ records-end-requires c κs =
 grow-regions-requires : tie.Need-grow-regions-requires
 grow-regions-requires c κs = (let s = c .before .before .before .before .before .before .before .before .before .before in admitted-by _ _ _ (now (s .args .ws)) (now (s .args .trail)) (s .pre .0), c .before .before .records-end .ensures)
 
-clear-requires : tie.Need-clear-requires
-clear-requires c κs = search needs
+wipe-requires : tie.Need-wipe-requires
+wipe-requires c κs = search needs
 
 refused-requires : tie.Need-refused-requires
 refused-requires c κs = search needs
@@ -41,7 +41,7 @@ returns : tie.Need-returns
 returns c =
     let k = c .before .before .before in
     let g = c .before .before .before .before .before .before .before .before .before .before .before in
-    explains-stop _ _ _ _ _ _ _ _ _ _ (k .clear .ensures ∙ ap (λ (l : ℕ). replicate l 0) (g .grow-regions .kept .1 .1 .1 .1 .1 .1 .1 .1 .1 .0)) _ (g .grow-regions .ensures .0 .stops) (c .before .before .before .before .before .if1 .taken) (c .refused .ensures)
+    explains-stop _ _ _ _ _ _ _ _ _ _ (k .wipe .ensures ∙ ap (λ (l : ℕ). replicate l 0) (g .grow-regions .kept .1 .1 .1 .1 .1 .1 .1 .1 .1 .0)) _ (g .grow-regions .ensures .0 .stops) (c .before .before .before .before .before .if1 .taken) (c .refused .ensures)
     (g .grow-regions .ensures .0 .back (c .before .before .before .before .before .if1 .taken))
 
 cast-explain-grown : tie.Need-cast-explain-grown
@@ -54,8 +54,8 @@ explain-grown-requires c κs =
     grown-of _ _ _ _ _ _ _ _ _ _ (now (s .args .ws)) _ _ (s .pre .0) (g .before .before .before .records-end .ensures) (s .pre .1) (g .grow-regions .kept .1 .1 .1 .1 .1 .1 .1 .1 .1 .1 .0) (g .grow-regions .kept .1 .1 .1 .1 .1 .1 .1 .1 .1 .0)
     (g .grow-regions .ensures .0) (c .before .before .before .before .if1 .left) (g .grow-regions .ensures .1)
 
-clear-requires-2 : tie.Need-clear-requires-2
-clear-requires-2 c κs = search needs
+wipe-requires-2 : tie.Need-wipe-requires-2
+wipe-requires-2 c κs = search needs
 
 same-length-3 : tie.Need-same-length-3
 same-length-3 c = search needs
@@ -69,7 +69,7 @@ returns-2 c =
     let x = c .before .before .before .before .before .before .before .before in
     let g = x .before .before .before .before .before .before .before .before .before .before .before in
     let o = x .before .before .before .before .before .if1 .left in
-    explains-reason _ _ _ _ _ _ _ _ _ _ (k .clear2 .ensures ∙ ap (λ (l : ℕ). replicate l 0) (x .explain-grown .kept .1 .1 .1 .1 .1 .1 .1 .1 .1 .1 .1 .0 ∙ g .grow-regions .kept .1 .1 .1 .1 .1 .1 .1 .1 .1 .0)) _
+    explains-reason _ _ _ _ _ _ _ _ _ _ (k .wipe2 .ensures ∙ ap (λ (l : ℕ). replicate l 0) (x .explain-grown .kept .1 .1 .1 .1 .1 .1 .1 .1 .1 .1 .1 .0 ∙ g .grow-regions .kept .1 .1 .1 .1 .1 .1 .1 .1 .1 .0)) _
     (sym (g .grow-regions .ensures .0 .stops) ∙ o) (g .grow-regions .ensures .1 o) (x .explain-grown .ensures)
 
 pub explain-found-spec : {M : Type 1} → statement M
@@ -79,14 +79,14 @@ explain-found-spec =
     add-records-end
     records-end-requires
     grow-regions-requires
-    clear-requires
+    wipe-requires
     refused-requires
     same-length
     same-length-2
     returns
     cast-explain-grown
     explain-grown-requires
-    clear-requires-2
+    wipe-requires-2
     same-length-3
     same-length-4
     returns-2)

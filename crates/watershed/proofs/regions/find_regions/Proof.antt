@@ -6,11 +6,11 @@ use mathlib.Core.Path.{refl, _∙_, ap}
 use borrow.Author.Needs.{needs}
 use lib.ListN.{getD, replicate}
 use denote.Ref.{now}
-use Rattle.watershed.proofs.StageLaws.{areas-are-bytes, few, given, fits, blank, ready, whole, all-clear, finds-stop, finds-regions}
+use Rattle.watershed.proofs.StageLaws.{areas-are-bytes, few, can-ready, given, fits, blank, ready, whole, finds-stop, finds-regions}
 use Rattle.watershed.proofs.regions.find_regions.Statement.{statement}
 use Rattle.watershed.proofs.regions.find_regions.Tie as tie
 
--- the place of the table, the entry, the growth, the records
+-- the place of the table, the entry, the growth
 abbrev N : tie.After-grow-regions-arg2 → tie.After-records-end
 N c = c .before .before
 
@@ -23,8 +23,12 @@ A c = N c .before .before .before .before .before
 abbrev G : tie.After-struct-known → tie.After-grow-regions
 G c = c .before .before .before .before .before
 
-abbrev E : tie.After-build-records-arg2 → tie.Else1
+-- growth that nothing stopped, and the workspace made ready
+abbrev E : tie.After-ready-records → tie.Else1
 E c = c .before .before .before
+
+abbrev R : tie.After-build-records → tie.After-ready-records
+R c = c .before .before .before .before .before
 
 abbrev B : tie.After-merge-and-filter-regions-arg2 → tie.After-build-records
 B c = c .before .before .before .before
@@ -44,8 +48,8 @@ records-end-requires c κs =
 grow-regions-requires : tie.Need-grow-regions-requires
 grow-regions-requires c κs = (S c .pre, N c .records-end .ensures)
 
-clear-requires : tie.Need-clear-requires
-clear-requires c κs = search needs
+wipe-requires : tie.Need-wipe-requires
+wipe-requires c κs = search needs
 
 same-length : tie.Need-same-length
 same-length c = search needs
@@ -59,25 +63,29 @@ returns c =
     let t = x .before .before in
     let g = G (t .before) in (
       finds-stop _ _ _ _ _ _ _ _ _ _ (g .grow-regions .ensures .0) (t .if1 .taken) _ refl,
-      (x .clear .ensures ∙ ap (λ (l : ℕ). replicate l 0) (g .grow-regions .kept .1 .1 .1 .1 .1 .1 .1 .1 .1 .0), areas-are-bytes _ _ _ _ _ _ (bytes (g .before))),
+      (x .wipe .ensures ∙ ap (λ (l : ℕ). replicate l 0) (g .grow-regions .kept .1 .1 .1 .1 .1 .1 .1 .1 .1 .0), areas-are-bytes _ _ _ _ _ _ (bytes (g .before))),
     )
 
 cast-next : tie.Need-cast-next
 cast-next c = search needs
 
-build-records-requires : tie.Need-build-records-requires
-build-records-requires c κs =
-    let e = E c in
+add-ready-records : tie.Need-add-ready-records
+add-ready-records c = search needs
+
+ready-records-requires : tie.Need-ready-records-requires
+ready-records-requires c κs =
+    let e = c .before .before in
     let g = G (e .before) in
     let s = S (g .before) in
-    let r = g .grow-regions .ensures .0 in
-    let z = g .grow-regions .kept .1 .1 .1 .1 .1 .1 .1 .1 .1 .0 in (
-      given _ _ _ _ _ _ _ _ _ (s .pre) _ (N (g .before) .records-end .ensures) (bytes (g .before)) _ _ _ _ _ _ r (e .if1 .left) z,
-      (
-        blank _ _ _ _ _ _ _ _ _ (s .pre) _ (N (g .before) .records-end .ensures) (bytes (g .before)) _ _ _ _ _ _ r (e .if1 .left) z,
-        fits _ _ _ _ _ _ _ _ _ (s .pre) _ (N (g .before) .records-end .ensures) (bytes (g .before)) _ _ _ _ _ _ r (e .if1 .left) z,
-      ),
-    )
+    can-ready _ _ _ _ _ _ _ _ _ (s .pre) _ (N (g .before) .records-end .ensures) (bytes (g .before)) _ _ _ _ _ _ (g .grow-regions .ensures .0) (e .if1 .left) (g .grow-regions .kept .1 .1 .1 .1 .1 .1 .1 .1 .1 .0)
+
+build-records-requires : tie.Need-build-records-requires
+build-records-requires c κs =
+    let r = c .before .before .before .before in
+    let e = E r in
+    let g = G (e .before) in
+    let s = S (g .before) in
+    (given _ _ _ _ _ _ _ _ _ (s .pre) _ (N (g .before) .records-end .ensures) (bytes (g .before)) _ _ _ _ _ _ (g .grow-regions .ensures .0) (e .if1 .left) (g .grow-regions .kept .1 .1 .1 .1 .1 .1 .1 .1 .1 .0) _ (r .ready-records .kept .0) (r .ready-records .ensures), (blank _ _ _ _ _ _ _ _ _ (s .pre) _ (N (g .before) .records-end .ensures) (bytes (g .before)) _ _ _ _ _ _ (g .grow-regions .ensures .0) (e .if1 .left) (g .grow-regions .kept .1 .1 .1 .1 .1 .1 .1 .1 .1 .0) _ (r .ready-records .kept .0) (r .ready-records .ensures), fits _ _ _ _ _ _ _ _ _ (s .pre) _ (N (g .before) .records-end .ensures) (bytes (g .before)) _ _ _ _ _ _ (g .grow-regions .ensures .0) (e .if1 .left) (g .grow-regions .kept .1 .1 .1 .1 .1 .1 .1 .1 .1 .0)))
 
 add-merge-and-filter-regions : tie.Need-add-merge-and-filter-regions
 add-merge-and-filter-regions c = search needs
@@ -85,20 +93,23 @@ add-merge-and-filter-regions c = search needs
 merge-and-filter-regions-requires : tie.Need-merge-and-filter-regions-requires
 merge-and-filter-regions-requires c κs =
     let b = B c in
-    let e = E (b .before) in
+    let r = R b in
+    let e = E r in
     let g = G (e .before) in
     let s = S (g .before) in
-    ready _ _ _ _ _ _ _ _ _ (s .pre) _ (N (g .before) .records-end .ensures) (bytes (g .before)) _ _ _ _ _ _ (g .grow-regions .ensures .0) (e .if1 .left) (g .grow-regions .kept .1 .1 .1 .1 .1 .1 .1 .1 .1 .0)
-    _ (b .build-records .ensures)
+    ready _ _ _ _ _ _ _ _ _ (s .pre) _ (N (g .before) .records-end .ensures) (bytes (g .before)) _ _ _ _ _ _ (g .grow-regions .ensures .0) (e .if1 .left) (g .grow-regions .kept .1 .1 .1 .1 .1 .1 .1 .1 .1 .0) _ (r .ready-records .kept .0) (r .ready-records .ensures) _ (b .build-records .ensures)
 
-clear-part-requires : tie.Need-clear-part-requires
-clear-part-requires c κs =
-    let m = c .before .before .before .before .before in
-    let b = B (m .before) in
-    (omega arith, omega (arith, m .merge-and-filter-regions .kept .0, b .build-records .ensures .size))
+wipe-requires-2 : tie.Need-wipe-requires-2
+wipe-requires-2 c κs = search needs
 
 same-length-3 : tie.Need-same-length-3
-same-length-3 c = search needs
+same-length-3 c =
+    let x = c .before .before in
+    let m = x .before .before .before .before .before .before in
+    let b = B (m .before) in
+    let r = R b in
+    let g = G (E r .before) in
+    x .wipe2 .kept .0 ∙ m .merge-and-filter-regions .kept .0 ∙ b .build-records .ensures .size ∙ r .ready-records .kept .0 ∙ g .grow-regions .kept .1 .1 .1 .1 .1 .1 .1 .1 .1 .0
 
 same-length-4 : tie.Need-same-length-4
 same-length-4 c = search needs
@@ -108,18 +119,13 @@ returns-2 c =
     let x = c .before .before in
     let m = x .before .before .before .before .before .before in
     let b = B (m .before) in
-    let e = E (b .before) in
+    let r = R b in
+    let e = E r in
     let g = G (e .before) in
     let s = S (g .before) in
-    let r = g .grow-regions .ensures .0 in
-    let z = g .grow-regions .kept .1 .1 .1 .1 .1 .1 .1 .1 .1 .0 in (
-      finds-regions _ _ _ _ _ _ _ _ _ _ r (e .if1 .left) _
-          (whole _ _ _ _ _ _ _ _ _ (s .pre) _ (N (g .before) .records-end .ensures) (bytes (g .before)) _ _ _ _ _ _ r (e .if1 .left) z _ (b .build-records .ensures) _ _ _
-          (m .merge-and-filter-regions .ensures)),
-      (
-        all-clear _ _ (x .clear-part .kept .0 ∙ m .merge-and-filter-regions .kept .0 ∙ b .build-records .ensures .size) (x .clear-part .ensures .0) ∙ ap (λ (l : ℕ). replicate l 0) z,
-        areas-are-bytes _ _ _ _ _ _ (bytes (g .before)),
-      ),
+    let size = m .merge-and-filter-regions .kept .0 ∙ b .build-records .ensures .size ∙ r .ready-records .kept .0 ∙ g .grow-regions .kept .1 .1 .1 .1 .1 .1 .1 .1 .1 .0 in (
+      finds-regions _ _ _ _ _ _ _ _ _ _ (g .grow-regions .ensures .0) (e .if1 .left) _ (whole _ _ _ _ _ _ _ _ _ (s .pre) _ (N (g .before) .records-end .ensures) (bytes (g .before)) _ _ _ _ _ _ (g .grow-regions .ensures .0) (e .if1 .left) (g .grow-regions .kept .1 .1 .1 .1 .1 .1 .1 .1 .1 .0) _ (r .ready-records .kept .0) (r .ready-records .ensures) _ (b .build-records .ensures) _ _ _ (m .merge-and-filter-regions .ensures)),
+      (x .wipe2 .ensures ∙ ap (λ (l : ℕ). replicate l 0) size, areas-are-bytes _ _ _ _ _ _ (bytes (g .before))),
     )
 
 pub find-regions-spec : {M : Type 1} → statement M
@@ -129,15 +135,17 @@ find-regions-spec =
     add-records-end
     records-end-requires
     grow-regions-requires
-    clear-requires
+    wipe-requires
     same-length
     same-length-2
     returns
     cast-next
+    add-ready-records
+    ready-records-requires
     build-records-requires
     add-merge-and-filter-regions
     merge-and-filter-regions-requires
-    clear-part-requires
+    wipe-requires-2
     same-length-3
     same-length-4
     returns-2)

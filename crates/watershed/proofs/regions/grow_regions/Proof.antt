@@ -35,6 +35,9 @@ copy-part-requires c κs = let s = S c in kept-room _ _ _ _ _ _ _ _ _ (s .pre .0
 clear-requires : tie.Need-clear-requires
 clear-requires c κs = search needs
 
+mul-clear-part : tie.Need-mul-clear-part
+mul-clear-part c = let s = S (C (c .before .before .before) .before) in omega (arith, few _ _ _ _ _ _ _ _ _ (s .pre .0))
+
 clear-part-requires : tie.Need-clear-part-requires
 clear-part-requires c κs =
     let i = c .before .before .before in
@@ -118,6 +121,7 @@ grow-regions-spec =
     add-kept
     copy-part-requires
     clear-requires
+    mul-clear-part
     clear-part-requires
     grow-requires
     put-back-requires

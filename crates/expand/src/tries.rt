@@ -16,8 +16,8 @@ ghost use Rattle.net.specs.Table.{netAt, lastPlace, Closed};
 ghost use Rattle.expand.specs.Layout.{noted, Sizes, Entries};
 ghost use Rattle.expand.specs.Front.{Board, Moved, Tried, Sides, Beside, Spans, Entered};
 
-// How many changes are noted, and whether a sum exceeded what a source distance can be. Past the flag the struct is filled up: bytes that no field has are copied
-// with a struct too, by way of memory, and these copies took more than half of the time of an expansion (docs/PERFORMANCE.md).
+// How many changes are noted, and whether a sum exceeded what a source distance can be. Past the flag the struct is filled up: bytes that no field
+// has are copied with a struct too, by way of memory, and these copies took more than half of the time of an expansion (docs/PERFORMANCE.md).
 pub struct Tries {
     pub noted: usize,
     pub strays: bool,

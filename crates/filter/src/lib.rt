@@ -4,5 +4,5 @@ mod remove;
 mod told;
 mod whole;
 
+pub use crate::told::filter;
 pub use crate::told::filter_told;
-pub use crate::whole::filter;

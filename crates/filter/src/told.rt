@@ -42,3 +42,15 @@ pub fn filter_told(ws: &mut [u16], m: usize, least: u16, r: usize) -> usize
     }
     told
 }
+
+// All records, in order. The same loop, with what it tells left: a second one would take `filter_one` out of both.
+pub fn filter(ws: &mut [u16], m: usize, least: u16)
+    requires { ⌜ Calm m (now ws) ⌝ }
+    ensures { λ _. ⌜ recsOf (now (ws .exit)) m ≡ filtered least (recsOf (now (ws .entry)) m) ⌝ }
+    ensures { λ _. ⌜ Calm m (now (ws .exit)) ⌝ }
+    ensures { λ _. ⌜ Frame 0 (5 * m) (now (ws .entry)) (now (ws .exit)) ⌝ }
+{
+    if 0 < m {
+        filter_told(ws, m, least, 0);
+    }
+}

@@ -1,4 +1,4 @@
-// The filter's loop.
+// One record's turn of the filter.
 use crate::gather::enter;
 use crate::gather::gather;
 use crate::remove::forget;
@@ -7,7 +7,7 @@ use crate::remove::total;
 ghost use mathlib.Core.Path.{_≡_};
 ghost use Prim.Native.Nat.{_+_, _*_, _<_};
 ghost use lib.ListN.{getD};
-ghost use Rattle.rules.specs.Filter.{filterOne, filtered};
+ghost use Rattle.rules.specs.Filter.{filterOne};
 ghost use Rattle.rules.specs.Reasons.{groupCount};
 ghost use Rattle.space.specs.Space.{Frame};
 ghost use Rattle.table.specs.View.{recsOf};
@@ -50,18 +50,4 @@ pub(crate) fn filter_one(ws: &mut [u16], m: usize, least: u16, i: usize) -> usiz
         return 0;
     }
     filter_group(ws, m, least, i)
-}
-
-// All records, in order.
-pub fn filter(ws: &mut [u16], m: usize, least: u16)
-    requires { ⌜ Calm m (now ws) ⌝ }
-    ensures { λ _. ⌜ recsOf (now (ws .exit)) m ≡ filtered least (recsOf (now (ws .entry)) m) ⌝ }
-    ensures { λ _. ⌜ Calm m (now (ws .exit)) ⌝ }
-    ensures { λ _. ⌜ Frame 0 (5 * m) (now (ws .entry)) (now (ws .exit)) ⌝ }
-{
-    let mut i = 0;
-    while i < m {
-        filter_one(ws, m, least, i);
-        i += 1;
-    }
 }

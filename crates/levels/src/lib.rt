@@ -26,18 +26,15 @@ pub struct LevelStacks {
     pub turn: usize,
 }
 
-// One more entry on stack k.
-fn push_level(stacks: &mut [u16], n: usize, l: LevelStacks, k: usize, x: u16) -> LevelStacks
-    requires { ⌜ StackPart n (now stacks) × Fills n (l .fills) × (k < stackCount) × (getD (l .fills) k 0 < n) ⌝ }
-    ensures { λ r. ⌜ (let before = levelsAt (now (stacks .entry)) n (l .fills) in
-        Moved n (now (stacks .entry)) (l .fills) (now (stacks .exit)) (r .fills) (appended k (x ∷ []) before)) ⌝ }
-    ensures { λ r. ⌜ r .turn ≡ l .turn ⌝ }
+// One more entry on stack k. The fills are lent, and not handed on with a struct: a copy of all eight would have to wait for the one that was written.
+fn push_level(stacks: &mut [u16], n: usize, fills: &mut [u16], k: usize, x: u16)
+    requires { ⌜ StackPart n (now stacks) × Fills n (now fills) × (k < stackCount) × (getD (now fills) k 0 < n) ⌝ }
+    ensures { λ _. ⌜ (let before = levelsAt (now (stacks .entry)) n (now (fills .entry)) in
+        Moved n (now (stacks .entry)) (now (fills .entry)) (now (stacks .exit)) (now (fills .exit)) (appended k (x ∷ []) before)) ⌝ }
 {
-    let f = l.fills[k];
+    let f = fills[k];
     stacks[k * n + f as usize] = x;
-    let mut out = l;
-    out.fills[k] = f + 1;
-    out
+    fills[k] = f + 1;
 }
 
 // "the stack numbered (level/2 − distance/2, not below 0, both halves rounded down)"
@@ -58,27 +55,27 @@ fn sort_one(
     dist: &[u16],
     ids: &[u16],
     stacks: &mut [u16],
+    fills: &mut [u16],
     level: u16,
-    l: LevelStacks,
     i: usize,
-) -> LevelStacks
-    requires { ⌜ SortLists (now area) (now dist) (now ids) (now stacks) × Fills (length (now area)) (l .fills) × (i < length (now area)) ⌝ }
-    requires { ⌜ levelsAt (now stacks) (length (now area)) (l .fills) ≡ sortedTo (now area) (now dist) (now ids) level i ⌝ }
-    ensures { λ r. ⌜ (let after = sortedTo (now (area .entry)) (now (dist .entry)) (now (ids .entry)) level (i + 1) in
-        Moved (length (now (area .entry))) (now (stacks .entry)) (l .fills) (now (stacks .exit)) (r .fills) after) ⌝ }
-    ensures { λ r. ⌜ r .turn ≡ l .turn ⌝ }
+)
+    requires { ⌜ SortLists (now area) (now dist) (now ids) (now stacks) × Fills (length (now area)) (now fills) × (i < length (now area)) ⌝ }
+    requires { ⌜ levelsAt (now stacks) (length (now area)) (now fills) ≡ sortedTo (now area) (now dist) (now ids) level i ⌝ }
+    ensures { λ _. ⌜ (let after = sortedTo (now (area .entry)) (now (dist .entry)) (now (ids .entry)) level (i + 1) in
+        let n = length (now (area .entry)) in
+        Moved n (now (stacks .entry)) (now (fills .entry)) (now (stacks .exit)) (now (fills .exit)) after) ⌝ }
 {
     if ids[i] != 0 {
-        return l;
+        return;
     }
     let k = stack_of(level, dist[i]);
     if STACKS <= k {
-        return l;
+        return;
     }
     if area[i] == 0 {
-        return l;
+        return;
     }
-    push_level(stacks, area.len(), l, k, i as u16)
+    push_level(stacks, area.len(), fills, k, i as u16);
 }
 
 // The spans from i up to e go to their stacks.
@@ -87,25 +84,23 @@ fn sort_some(
     dist: &[u16],
     ids: &[u16],
     stacks: &mut [u16],
+    fills: &mut [u16],
     level: u16,
-    l: LevelStacks,
     i: usize,
     e: usize,
-) -> LevelStacks
-    requires { ⌜ (SortLists (now area) (now dist) (now ids) (now stacks) × Fills (length (now area)) (l .fills)
+)
+    requires { ⌜ (SortLists (now area) (now dist) (now ids) (now stacks) × Fills (length (now area)) (now fills)
         × (i ≤ e) × (e ≤ length (now area))) ⌝ }
-    requires { ⌜ levelsAt (now stacks) (length (now area)) (l .fills) ≡ sortedTo (now area) (now dist) (now ids) level i ⌝ }
-    ensures { λ r. ⌜ (let after = sortedTo (now (area .entry)) (now (dist .entry)) (now (ids .entry)) level e in
-        Moved (length (now (area .entry))) (now (stacks .entry)) (l .fills) (now (stacks .exit)) (r .fills) after) ⌝ }
-    ensures { λ r. ⌜ r .turn ≡ l .turn ⌝ }
+    requires { ⌜ levelsAt (now stacks) (length (now area)) (now fills) ≡ sortedTo (now area) (now dist) (now ids) level i ⌝ }
+    ensures { λ _. ⌜ (let after = sortedTo (now (area .entry)) (now (dist .entry)) (now (ids .entry)) level e in
+        let n = length (now (area .entry)) in
+        Moved n (now (stacks .entry)) (now (fills .entry)) (now (stacks .exit)) (now (fills .exit)) after) ⌝ }
 {
-    let mut out = l;
     let mut k = i;
     while k < e {
-        out = sort_one(area, dist, ids, stacks, level, out, k);
+        sort_one(area, dist, ids, stacks, fills, level, k);
         k += 1;
     }
-    out
 }
 
 // The least distance whose stack is one of the eight.
@@ -146,22 +141,21 @@ fn sort_block(
     dist: &[u16],
     ids: &[u16],
     stacks: &mut [u16],
+    fills: &mut [u16],
     level: u16,
     from: u16,
-    l: LevelStacks,
     i: usize,
-) -> LevelStacks
-    requires { ⌜ SortLists (now area) (now dist) (now ids) (now stacks) × Fills (length (now area)) (l .fills) × (i + blockSize ≤ length (now area)) ⌝ }
-    requires { ⌜ levelsAt (now stacks) (length (now area)) (l .fills) ≡ sortedTo (now area) (now dist) (now ids) level i ⌝ }
+)
+    requires { ⌜ SortLists (now area) (now dist) (now ids) (now stacks) × Fills (length (now area)) (now fills) × (i + blockSize ≤ length (now area)) ⌝ }
+    requires { ⌜ levelsAt (now stacks) (length (now area)) (now fills) ≡ sortedTo (now area) (now dist) (now ids) level i ⌝ }
     requires { ⌜ from ≡ 2 * (level / 2 - lastStack) ⌝ }
-    ensures { λ r. ⌜ (let after = sortedTo (now (area .entry)) (now (dist .entry)) (now (ids .entry)) level (i + blockSize) in
-        Moved (length (now (area .entry))) (now (stacks .entry)) (l .fills) (now (stacks .exit)) (r .fills) after) ⌝ }
-    ensures { λ r. ⌜ r .turn ≡ l .turn ⌝ }
+    ensures { λ _. ⌜ (let after = sortedTo (now (area .entry)) (now (dist .entry)) (now (ids .entry)) level (i + blockSize) in
+        let n = length (now (area .entry)) in
+        Moved n (now (stacks .entry)) (now (fills .entry)) (now (stacks .exit)) (now (fills .exit)) after) ⌝ }
 {
     if any_open(&dist[i..i + BLOCK], &ids[i..i + BLOCK], from) {
-        return sort_some(area, dist, ids, stacks, level, l, i, i + BLOCK);
+        sort_some(area, dist, ids, stacks, fills, level, i, i + BLOCK);
     }
-    l
 }
 
 // "At turn 0 all stacks are emptied and every walkable span of id 0 goes, in scan order, to the stack .. if below 8."
@@ -181,40 +175,38 @@ pub fn sort_cells_by_level(
         Stacked n (levelsAt (now (stacks .exit)) n (r .fills)) 0) ⌝ }
     ensures { λ r. ⌜ r .turn ≡ 0 ⌝ }
 {
-    let mut l = LevelStacks {
-        fills: [0u16; STACKS],
-        turn: 0,
-    };
+    let mut fills = [0u16; STACKS];
     let from = least(level);
     let n = area.len();
     let mut i = 0;
     while BLOCK <= n - i {
-        l = sort_block(area, dist, ids, stacks, level, from, l, i);
+        sort_block(area, dist, ids, stacks, &mut fills, level, from, i);
         i += BLOCK;
     }
-    sort_some(area, dist, ids, stacks, level, l, i, n)
+    sort_some(area, dist, ids, stacks, &mut fills, level, i, n);
+    LevelStacks { fills, turn: 0 }
 }
 
 // Entry i of the stack before goes on stack j, if it remains.
-fn append_one(ids: &[u16], stacks: &mut [u16], l: LevelStacks, j: usize, i: usize) -> LevelStacks
-    requires { ⌜ StackPart (length (now ids)) (now stacks) × Fills (length (now ids)) (l .fills) × (0 < j) × (j < stackCount) ⌝ }
-    requires { ⌜ (getD (l .fills) j 0 < length (now ids)) × (i < length (now ids)) ⌝ }
+fn append_one(ids: &[u16], stacks: &mut [u16], fills: &mut [u16], j: usize, i: usize)
+    requires { ⌜ StackPart (length (now ids)) (now stacks) × Fills (length (now ids)) (now fills) × (0 < j) × (j < stackCount) ⌝ }
+    requires { ⌜ (getD (now fills) j 0 < length (now ids)) × (i < length (now ids)) ⌝ }
     requires { ⌜ Entry (length (now ids)) (getD (now stacks) ((j - 1) * length (now ids) + i) 0) ⌝ }
-    ensures { λ r. ⌜ (let n = length (now (ids .entry)) in
+    ensures { λ _. ⌜ (let n = length (now (ids .entry)) in
         let one = getD (now (stacks .entry)) ((j - 1) * n + i) 0 ∷ [] in
-        let before = levelsAt (now (stacks .entry)) n (l .fills) in
-        Moved n (now (stacks .entry)) (l .fills) (now (stacks .exit)) (r .fills) (appended j (remains (now (ids .entry)) one) before)) ⌝ }
-    ensures { λ r. ⌜ r .turn ≡ l .turn ⌝ }
+        let before = levelsAt (now (stacks .entry)) n (now (fills .entry)) in
+        let after = appended j (remains (now (ids .entry)) one) before in
+        Moved n (now (stacks .entry)) (now (fills .entry)) (now (stacks .exit)) (now (fills .exit)) after) ⌝ }
 {
     let n = ids.len();
     let e = stacks[(j - 1) * n + i];
     if e == USED {
-        return l;
+        return;
     }
     if ids[e as usize] != 0 {
-        return l;
+        return;
     }
-    push_level(stacks, n, l, j, e)
+    push_level(stacks, n, fills, j, e);
 }
 
 // "At other turns, what remains of the stack before is appended to this turn's."
@@ -231,12 +223,11 @@ pub fn append_stacks(ids: &[u16], stacks: &mut [u16], l: LevelStacks, j: usize) 
 {
     let src = j - 1;
     let count = l.fills[src] as usize;
-    let mut out = l;
-    out.turn = j;
+    let mut fills = l.fills;
     let mut i: usize = 0;
     while i < count {
-        out = append_one(ids, stacks, out, j, i);
+        append_one(ids, stacks, &mut fills, j, i);
         i += 1;
     }
-    out
+    LevelStacks { fills, turn: j }
 }

@@ -1,22 +1,23 @@
 -- A push is a store at the fill of its stack, which lies within the stacks since the fill is below n.
 -- No other stack is touched: each has its own n places.
-use Rattle.levels.proofs.LevelLaws.{slot, moved-push}
-use Prim.Native.Nat.{_+_, _*_, _<_}
-use lib.ListN.{getD}
 use native.Mathlib.Omega.{arith}
 use borrow.Author.Needs.{needs}
+use Prim.Native.Nat.{_+_, _*_, _<_}
+use lib.ListN.{getD}
+use denote.Ref.{now}
+use Rattle.levels.proofs.LevelLaws.{slot, moved-push}
 use Rattle.levels.proofs.push_level.Statement.{statement}
 use Rattle.levels.proofs.push_level.Tie as tie
 
 -- the entry's place is within the stacks
-low : (c : tie.After-f) → c .before .args .k * c .before .args .n + getD (c .before .args .t3 .fills) (c .before .args .k) 0 < 8 * c .before .args .n
+low : (c : tie.After-slice-known) → c .before .args .k * c .before .args .n + getD (now (c .before .args .fills)) (c .before .args .k) 0 < 8 * c .before .args .n
 low c = slot _ _ _ _ (c .before .pre .2) (c .before .pre .3)
 
 mul-f : tie.Need-mul-f
 mul-f c = search needs
 
-element-copy-out-f : tie.Need-element-copy-out-f
-element-copy-out-f c = search needs
+slice-read-f : tie.Need-slice-read-f
+slice-read-f c = search needs
 
 mul-stacks : tie.Need-mul-stacks
 mul-stacks c = omega (arith, low c)
@@ -33,34 +34,38 @@ mul-stacks-2 c = omega (arith, low c)
 slice-write-stacks : tie.Need-slice-write-stacks
 slice-write-stacks c = omega (arith, low c)
 
-add-out : tie.Need-add-out
-add-out c = search needs
+add-fills : tie.Need-add-fills
+add-fills c = search needs
 
-mul-out : tie.Need-mul-out
-mul-out c = search needs
+mul-fills : tie.Need-mul-fills
+mul-fills c = search needs
 
-element-write-out : tie.Need-element-write-out
-element-write-out c = search needs
+slice-write-fills : tie.Need-slice-write-fills
+slice-write-fills c = search needs
 
 same-length : tie.Need-same-length
 same-length c = search needs
 
+same-length-2 : tie.Need-same-length-2
+same-length-2 c = search needs
+
 returns : tie.Need-returns
-returns c = (search (needs, moved-push), search needs)
+returns c = search (needs, moved-push)
 
 pub push-level-spec : {M : Type 1} → statement M
 push-level-spec =
     tie.close
     (tie.spec
     mul-f
-    element-copy-out-f
+    slice-read-f
     mul-stacks
     cast-stacks
     add-stacks
     mul-stacks-2
     slice-write-stacks
-    add-out
-    mul-out
-    element-write-out
+    add-fills
+    mul-fills
+    slice-write-fills
     same-length
+    same-length-2
     returns)

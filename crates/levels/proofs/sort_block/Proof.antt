@@ -1,7 +1,7 @@
 -- Where a span of the block is open all are sorted, one by one.
 -- Where none is, each is owned or its stack is past the eight, so the sorted stacks are as they were.
-use Rattle.levels.proofs.BlockLaws.{moved-over}
 use borrow.Author.Needs.{needs}
+use Rattle.levels.proofs.BlockLaws.{moved-over}
 use Rattle.levels.proofs.sort_block.Statement.{statement}
 use Rattle.levels.proofs.sort_block.Tie as tie
 
@@ -47,11 +47,14 @@ sort-some-requires c κs = ((search needs, search needs, search needs, search ne
 same-length : tie.Need-same-length
 same-length c = search needs
 
+same-length-2 : tie.Need-same-length-2
+same-length-2 c = search needs
+
 returns : tie.Need-returns
 returns c = search needs
 
 returns-2 : tie.Need-returns-2
-returns-2 c = (search moved-over, search needs)
+returns-2 c = search moved-over
 
 pub sort-block-spec : {M : Type 1} → statement M
 sort-block-spec =
@@ -71,5 +74,6 @@ sort-block-spec =
     add-sort-some
     sort-some-requires
     same-length
+    same-length-2
     returns
     returns-2)

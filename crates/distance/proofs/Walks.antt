@@ -198,6 +198,18 @@ pub note-in : (w h : ℕ) (is ks ar cs : List ℕ) (c i k j : ℕ) (m : List ℕ
     → length m ≡ length ar → i + j < length m
 note-in w h is ks ar cs c i k j m ok p q g n = omega (arith, stands-at (lent w h is ks ar cs) (ok .celled) c i k j p q g .span)
 
+-- a cell of one span
+module _ (w h : ℕ) (is ks ar cs : List ℕ) (c i k : ℕ) (l : List ℕ) (ok : Reached (lent w h is ks ar cs)) (p : i ≡ getD is c 0) (q : k ≡ getD ks c 0) (z : k ≡ 1) where
+  pub note-one : set l i c ≡ overCell (lent w h is ks ar cs) (noteCell (lent w h is ks ar cs)) c l
+  unfolding upto
+  note-one =
+      let e : i ≡ i + 0 = omega arith in
+      cell-end (lent w h is ks ar cs) (noteCell (lent w h is ks ar cs)) c i k 1 l (set l i c) p q
+      (ap (λ (x : ℕ). set l x c) e ∙ note-go w h is ks ar cs c i k 0 l l ok p q (omega arith) refl) (omega arith) (omega arith)
+
+  pub note-one-in : length l ≡ length ar → i < length l
+  note-one-in n = omega (arith, note-in w h is ks ar cs c i k 0 l ok p q (omega arith) n)
+
 pub spread-end : (F : Field) (c n : ℕ) (l m : List ℕ) → Reached F → length l ≡ spans F → n ≡ F .w * F .h → m ≡ upto c (overCell F (noteCell F)) l → c ≤ n → n ≤ c → m ≡ cellsOf F
 unfolding cellsOf noteCell
 spread-end F c n l m ok e d a h g =

@@ -11,6 +11,7 @@ use Rattle.rules.specs.Merge.{Merge, merged}
 use Rattle.rules.specs.Numbering.{Regions, numbered}
 use Rattle.rules.specs.Reasons.{Merging, goneWith, mergings}
 use Rattle.space.specs.Space.{Frame}
+use Rattle.table.specs.Map.{spareAt}
 use Rattle.table.specs.View.{recsOf}
 use Rattle.filter.specs.Group.{Calm}
 use Rattle.pool.specs.Fixed.{mergeOneF, mergedF}
@@ -83,7 +84,7 @@ pub record NotedAll (area m end : ℕ) (ws ws′ : List ℕ) (count : ℕ) : Typ
 pub record FilteredIn (least r m end : ℕ) (ws ws′ : List ℕ) (k : ℕ) : Type 0 where
   pub same : recsOf (take end ws′) m ≡ filtered least (recsOf (take end ws) m)
   pub calm : Calm m (take end ws′)
-  pub frame : Frame 0 (5 * m) (take end ws) (take end ws′)
+  pub frame : Frame 0 (spareAt m) (take end ws) (take end ws′)
   pub gone : k ≡ goneWith least r m (recsOf (take end ws) m)
 
 -- what filter, merge and numbering come to, and what became of record r: its id after the filter, the count of its group, the merges noted from `end` on

@@ -4,6 +4,8 @@ use pool::len_of;
 use pool::merge_regions;
 use table::holds;
 use table::list_of;
+use table::map::LISTS;
+use table::map::OVERLAPS;
 use table::place;
 ghost use mathlib.Core.Path.{_≡_};
 ghost use Prim.Native.Nat.{suc, _+_, _*_, _≤_, _<_};
@@ -11,7 +13,7 @@ ghost use lib.ListN.{getD};
 ghost use lib.Dec.{eqb};
 ghost use Rattle.rules.specs.Base.{any, upto};
 ghost use Rattle.rules.specs.Merge.{place};
-ghost use Rattle.table.specs.View.{listAt, recAt, recsOf, Held};
+ghost use Rattle.table.specs.View.{recsOf, listIn, recordAt, RecordsIn};
 ghost use Rattle.filter.specs.Group.{Calm};
 ghost use Rattle.pool.specs.Alike.{Reps, Joined};
 ghost use Rattle.pool.specs.Fixed.{mayMerge, tryMerge, mergeOneF, mergedF};
@@ -34,14 +36,14 @@ fn is_region_connected_to_border(l: &[u16]) -> bool
 
 // May record i be merged at all?
 fn may_merge(ws: &[u16], m: usize, area: u16, i: usize) -> bool
-    requires { ⌜ Held m (7 * m) (11 * m) (now ws) ⌝ }
+    requires { ⌜ RecordsIn m (now ws) ⌝ }
     requires { ⌜ i < m ⌝ }
-    ensures { λ r. ⌜ r ≡ mayMerge area (recAt (now (ws .entry)) m (7 * m) (11 * m) i) ⌝ }
+    ensures { λ r. ⌜ r ≡ mayMerge area (recordAt (now (ws .entry)) m i) ⌝ }
 {
     if ws[i] == 0 {
         return false;
     }
-    if ws[3 * m + i] != 0 {
+    if ws[OVERLAPS * m + i] != 0 {
         return false;
     }
     if ws[m + i] == 0 {
@@ -50,7 +52,7 @@ fn may_merge(ws: &[u16], m: usize, area: u16, i: usize) -> bool
     if ws[m + i] <= area {
         return true;
     }
-    if is_region_connected_to_border(list_of(ws, m, 7 * m, i)) {
+    if is_region_connected_to_border(list_of(ws, m, LISTS * m, i)) {
         return false;
     }
     true
@@ -58,11 +60,11 @@ fn may_merge(ws: &[u16], m: usize, area: u16, i: usize) -> bool
 
 // Where record i first lists r, or how long its list is.
 fn place_of(ws: &[u16], m: usize, i: usize, r: u16) -> usize
-    requires { ⌜ Held m (7 * m) (11 * m) (now ws) ⌝ }
+    requires { ⌜ RecordsIn m (now ws) ⌝ }
     requires { ⌜ i < m ⌝ }
-    ensures { λ k. ⌜ k ≡ place (listAt (now (ws .entry)) m (7 * m) i) r ⌝ }
+    ensures { λ k. ⌜ k ≡ place (listIn (now (ws .entry)) m i) r ⌝ }
 {
-    place(list_of(ws, m, 7 * m, i), r)
+    place(list_of(ws, m, LISTS * m, i), r)
 }
 
 // The neighbour n absorbs record i, if each lists the other.

@@ -3,15 +3,13 @@
 use crate::merge::Round;
 use crate::merge::merge_one;
 ghost use mathlib.Core.Path.{_≡_};
-ghost use Prim.Native.Nat.{suc, _+_, _*_, _≤_, _<_};
+ghost use Prim.Native.Nat.{_+_, _*_, _≤_, _<_};
 ghost use lib.ListN.{length, take, set};
 ghost use Rattle.table.specs.View.{recsOf};
-ghost use Rattle.filter.specs.Group.{Calm};
 ghost use Rattle.pool.specs.Alike.{Reps, Joined};
-ghost use Rattle.pool.specs.Fixed.{mergedF};
 ghost use Rattle.pool.specs.Pool.{Pool, Laid};
 ghost use Rattle.pool.proofs.MergeLaws.{owners};
-ghost use Rattle.merge.specs.Told.{mergingsAt, mergingsF, MergedIn, NotedOne, NotedRound, NotedAll};
+ghost use Rattle.merge.specs.Told.{MergedIn, NotedOne, NotedRound, NotedAll};
 
 // A round under way, and how many merges are noted.
 pub struct Noted {
@@ -21,7 +19,8 @@ pub struct Noted {
 
 // Record i of a round, over the records before `end`.
 fn merge_in(ws: &mut [u16], end: usize, m: usize, p: usize, area: u16, i: usize, g: Round) -> Round
-    requires { ⌜ (end ≤ length (now ws)) × Pool m p (g .now) (g .other) (take end (now ws)) × Laid m p (g .now) (g .other) (g .top) (take end (now ws)) ⌝ }
+    requires { ⌜ (end ≤ length (now ws)) × Pool m p (g .now) (g .other) (take end (now ws))
+        × Laid m p (g .now) (g .other) (g .top) (take end (now ws)) ⌝ }
     requires { ⌜ Reps (recsOf (take end (now ws)) m) × (i < m) × (g .merges < 65536) ⌝ }
     ensures { λ r. ⌜ MergedIn area i m p end (now (ws .entry)) (g .merges) (now (ws .exit)) r ⌝ }
 {

@@ -9,6 +9,7 @@ use Rattle.rules.specs.Growth.{flagged}
 use Rattle.rules.specs.Records.{once, has}
 use Rattle.rules.specs.Merge.{place}
 use Rattle.rules.specs.Numbering.{numberOf, Regions}
+use Rattle.table.specs.Map.{Names}
 
 -- live ids so far, and one record more
 unfoldable pub stepLive : List ℕ → ℕ → List ℕ
@@ -56,4 +57,4 @@ pub record Marked (m b : ℕ) (ws l : List ℕ) : Type 0 where
 
 -- an id that is not flagged is a record's
 pub record Spans (m : ℕ) (ids : List ℕ) : Type 0 where
-  pub below : (x : ℕ) → getD ids x 0 < 32768 → getD ids x 0 < m
+  pub below : (x : ℕ) → Names m (getD ids x 0)

@@ -1,14 +1,17 @@
 // Numbering: live ids are numbered from 1 by lowest record.
 use pool::many;
 use region::RegionId;
-use table::MARKS;
 use table::at;
+use table::map::CUTS;
+use table::map::OVERLAPS;
+use table::map::SPARE;
 ghost use mathlib.Core.Path.{_≡_};
 ghost use mathlib.Core.List.{List, [], map};
 ghost use Prim.Native.Nat.{ℕ, _+_, _*_, _≤_, _<_};
 ghost use lib.ListN.{length, getD, take};
 ghost use Rattle.space.specs.Space.{Frame};
 ghost use Rattle.rules.specs.Numbering.{numbered};
+ghost use Rattle.table.specs.Map.{Names, spareAt, poolAt};
 ghost use Rattle.table.specs.View.{recsOf};
 ghost use Rattle.numbering.specs.Number.{stepLive, liveIds, renumber, nonzero, Numbers, Column, Blank, Marked, Spans};
 
@@ -53,7 +56,7 @@ fn number_all(ws: &mut [u16], m: usize, b: usize) -> u16
 fn new_id(ws: &[u16], m: usize, b: usize, r: u16) -> u16
     requires { ⌜ Column m b (now ws) ⌝ }
     requires { ⌜ Marked m b (now ws) (liveIds (take m (now ws)) []) ⌝ }
-    requires { ⌜ (r < 32768 → r < m) ⌝ }
+    requires { ⌜ Names m r ⌝ }
     ensures { λ x. ⌜ x ≡ renumber (take m (now (ws .entry))) r ⌝ }
 {
     if RegionId::BORDER_REGION.0 <= r {
@@ -94,17 +97,17 @@ pub struct Regions {
 
 // Numbers the records, and writes each span's number.
 pub fn number(ids: &mut [u16], ws: &mut [u16], m: usize) -> Regions
-    requires { ⌜ Column m (5 * m) (now ws) ⌝ }
-    requires { ⌜ Blank m (5 * m) (now ws) ⌝ }
+    requires { ⌜ Column m (spareAt m) (now ws) ⌝ }
+    requires { ⌜ Blank m (spareAt m) (now ws) ⌝ }
     requires { ⌜ Spans m (now ids) ⌝ }
-    requires { ⌜ 16 * m ≤ length (now ws) ⌝ }
+    requires { ⌜ poolAt m ≤ length (now ws) ⌝ }
     ensures { λ r. ⌜ (record { ids = now (ids .exit); most = r .«max_region»; over = r .overlaps; cut = r .cut }
         ≡ numbered (recsOf (now (ws .entry)) m) (now (ids .entry))) ⌝ }
-    ensures { λ _. ⌜ Frame (5 * m) (5 * m + m) (now (ws .entry)) (now (ws .exit)) ⌝ }
+    ensures { λ _. ⌜ Frame (spareAt m) (spareAt m + m) (now (ws .entry)) (now (ws .exit)) ⌝ }
 {
-    let a = 3 * m;
-    let b = 5 * m;
-    let c = MARKS * m;
+    let a = OVERLAPS * m;
+    let b = SPARE * m;
+    let c = CUTS * m;
     let max_region = number_all(ws, m, b);
     new_ids(ids, ws, m, b);
     let overlaps = nonzero(&ws[a..a + m]);

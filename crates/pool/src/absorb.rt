@@ -2,12 +2,13 @@
 use crate::build::join;
 use crate::build::replace_neighbour;
 use table::end_of;
+use table::map::LISTS;
 use table::set_part;
 use table::start_of;
 ghost use mathlib.Core.Path.{_≡_};
 ghost use Prim.Native.Nat.{_+_, _*_, _≤_};
 ghost use Rattle.space.specs.Space.{Frame};
-ghost use Rattle.table.specs.View.{part, listAt};
+ghost use Rattle.table.specs.View.{part, listIn};
 ghost use Rattle.pool.specs.Pool.{lenAt, joinedList, Pair, Target, Absorbed};
 
 // The lists of n and i joined at `to`, and renamed. Gives where the list ends.
@@ -26,14 +27,14 @@ fn join_lists(
     requires { ⌜ Target m n i to z (now ws) ⌝ }
     requires { ⌜ Pair m n k i j (now ws) ⌝ }
     ensures { λ r. ⌜ (part to r (now (ws .exit))
-        ≡ joinedList (listAt (now (ws .entry)) m (7 * m) n) (listAt (now (ws .entry)) m (7 * m) i) k j old new) ⌝ }
+        ≡ joinedList (listIn (now (ws .entry)) m n) (listIn (now (ws .entry)) m i) k j old new) ⌝ }
     ensures { λ r. ⌜ (to ≤ r) × (r ≤ to + lenAt (now (ws .entry)) m n + lenAt (now (ws .entry)) m i) ⌝ }
     ensures { λ _. ⌜ Frame to z (now (ws .entry)) (now (ws .exit)) ⌝ }
 {
-    let a = start_of(ws, m, 7 * m, n);
-    let e = end_of(ws, m, 7 * m, n);
-    let b = start_of(ws, m, 7 * m, i);
-    let f = end_of(ws, m, 7 * m, i);
+    let a = start_of(ws, m, LISTS * m, n);
+    let e = end_of(ws, m, LISTS * m, n);
+    let b = start_of(ws, m, LISTS * m, i);
+    let f = end_of(ws, m, LISTS * m, i);
     let x = join(ws, a, e, k, b, f, j, to, z);
     replace_neighbour(ws, to, x, old, new)
 }
@@ -56,7 +57,7 @@ pub(crate) fn absorb(
     ensures { λ e. ⌜ Absorbed m n k i j old new to z e (now (ws .entry)) (now (ws .exit)) ⌝ }
 {
     let e = join_lists(ws, m, n, k, i, j, old, new, to, z);
-    set_part(ws, m, 7 * m, n, to, e);
-    set_part(ws, m, 7 * m, i, e, e);
+    set_part(ws, m, LISTS * m, n, to, e);
+    set_part(ws, m, LISTS * m, i, e, e);
     e
 }

@@ -2,6 +2,7 @@
 use crate::build::copy;
 use crate::build::replace_neighbour;
 use table::end_of;
+use table::map::LISTS;
 use table::set_part;
 use table::start_of;
 ghost use mathlib.Core.Path.{_≡_};
@@ -31,11 +32,11 @@ fn carry_one(ws: &mut [u16], m: usize, x: usize, old: u16, new: u16, to: usize, 
     requires { ⌜ Source m x to z (now ws) ⌝ }
     ensures { λ r. ⌜ Moved m x old new to r (now (ws .entry)) (now (ws .exit)) ⌝ }
 {
-    let a = start_of(ws, m, 7 * m, x);
-    let e = end_of(ws, m, 7 * m, x);
+    let a = start_of(ws, m, LISTS * m, x);
+    let e = end_of(ws, m, LISTS * m, x);
     copy(ws, a, e, to, z);
     let f = rename_live(ws, x, to, to + (e - a), old, new);
-    set_part(ws, m, 7 * m, x, to, f);
+    set_part(ws, m, LISTS * m, x, to, f);
     f
 }
 

@@ -1,11 +1,12 @@
 // Which record's list a place is in: its number stands beside the place, in the free half of the pool.
 use space::fill;
 use table::end_of;
+use table::map::LISTS;
 use table::start_of;
 ghost use Prim.Native.Nat.{_+_, _-_, _*_, _≤_, _<_};
 ghost use lib.ListN.{length};
 ghost use Rattle.space.specs.Space.{Frame};
-ghost use Rattle.table.specs.View.{startOf, endOf};
+ghost use Rattle.table.specs.View.{listStart, listEnd};
 ghost use Rattle.pool.specs.Pool.{Owned, Marked, Standing};
 
 // The places a .. e of the half at h are in the list of x.
@@ -25,10 +26,10 @@ pub(crate) fn own_part(ws: &mut [u16], h: usize, o: usize, a: usize, e: usize, x
 fn own_one(ws: &mut [u16], m: usize, x: usize, h: usize, o: usize, p: usize)
     requires { ⌜ Standing m p h o (now ws) ⌝ }
     requires { ⌜ x < m ⌝ }
-    ensures { λ _. ⌜ Marked h o (startOf (now (ws .entry)) m (7 * m) x) (endOf (now (ws .entry)) m (7 * m) x) x (now (ws .entry)) (now (ws .exit)) ⌝ }
+    ensures { λ _. ⌜ Marked h o (listStart (now (ws .entry)) m x) (listEnd (now (ws .entry)) m x) x (now (ws .entry)) (now (ws .exit)) ⌝ }
 {
-    let a = start_of(ws, m, 7 * m, x);
-    let e = end_of(ws, m, 7 * m, x);
+    let a = start_of(ws, m, LISTS * m, x);
+    let e = end_of(ws, m, LISTS * m, x);
     own_part(ws, h, o, a, e, x);
 }
 

@@ -2,17 +2,18 @@
 use crate::lists::swap;
 use crate::relist::Half;
 use crate::relist::relist;
-use table::MARKS;
+use table::map::CUTS;
 ghost use mathlib.Core.Path.{_≡_};
 ghost use Prim.Native.Nat.{_+_, _*_, _≤_, _<_};
 ghost use lib.ListN.{length, getD, set};
+ghost use Rattle.table.specs.Map.{areasAt, poolAt};
 ghost use Rattle.table.specs.View.{recsOf};
 ghost use Rattle.pool.specs.Fixed.{mergedPair};
 ghost use Rattle.pool.specs.Pool.{remarked, Pool, Laid, Listed};
 
 // Record n has the spans of both.
 fn recount(ws: &mut [u16], m: usize, n: usize, i: usize)
-    requires { ⌜ 2 * m ≤ length (now ws) ⌝ }
+    requires { ⌜ areasAt m ≤ length (now ws) ⌝ }
     requires { ⌜ n < m ⌝ }
     requires { ⌜ i < m ⌝ }
     requires { ⌜ getD (now ws) (m + n) 0 + getD (now ws) (m + i) 0 < 65536 ⌝ }
@@ -25,16 +26,16 @@ fn recount(ws: &mut [u16], m: usize, n: usize, i: usize)
 
 // Record n bears the mark that either bore, and record i none.
 fn carry_mark(ws: &mut [u16], m: usize, n: usize, i: usize)
-    requires { ⌜ 16 * m ≤ length (now ws) ⌝ }
+    requires { ⌜ poolAt m ≤ length (now ws) ⌝ }
     requires { ⌜ n < m ⌝ }
     requires { ⌜ i < m ⌝ }
     ensures { λ _. ⌜ now (ws .exit) ≡ remarked m n i (now (ws .entry)) ⌝ }
 {
-    if ws[MARKS * m + i] == 0 {
+    if ws[CUTS * m + i] == 0 {
         return;
     }
-    ws[MARKS * m + n] = 1;
-    ws[MARKS * m + i] = 0;
+    ws[CUTS * m + n] = 1;
+    ws[CUTS * m + i] = 0;
 }
 
 // The neighbour n absorbs record i, which keeps count 0, no list and no mark; i's id is renamed everywhere.

@@ -5,9 +5,11 @@ use crate::own::own_all;
 use crate::own::own_part;
 use crate::rename::rename_all;
 use table::end_of;
+use table::map::LISTS;
 use table::start_of;
 ghost use mathlib.Core.Path.{_≡_};
 ghost use Prim.Native.Nat.{_+_, _-_, _*_, _≤_, _<_};
+ghost use Rattle.table.specs.Map.{wideEnd, listsAt};
 ghost use Rattle.table.specs.View.{Parts};
 ghost use Rattle.pool.specs.Pool.{lenAt, Pool, Laid, Pair, Turned, Relisted};
 
@@ -20,12 +22,12 @@ pub struct Half {
 
 // How long record r's list is.
 pub fn len_of(ws: &[u16], m: usize, r: usize) -> usize
-    requires { ⌜ Parts m (7 * m) (now ws) ⌝ }
+    requires { ⌜ Parts m (listsAt m) (now ws) ⌝ }
     requires { ⌜ r < m ⌝ }
     ensures { λ k. ⌜ k ≡ lenAt (now (ws .entry)) m r ⌝ }
-    ensures { λ k. ⌜ k < 4294967296 ⌝ }
+    ensures { λ k. ⌜ k < wideEnd ⌝ }
 {
-    end_of(ws, m, 7 * m, r) - start_of(ws, m, 7 * m, r)
+    end_of(ws, m, LISTS * m, r) - start_of(ws, m, LISTS * m, r)
 }
 
 // All lists go to the other half, one after the other. Gives where they end.

@@ -15,7 +15,7 @@ ghost use Prim.Native.Nat.{_+_, _*_, _≤_, _<_};
 ghost use lib.ListN.{length, getD};
 ghost use Rattle.rules.specs.Growth.{plain};
 ghost use Rattle.field.specs.Lent.{lent};
-ghost use Rattle.records.specs.Map.{recordsEnd};
+ghost use Rattle.table.specs.Map.{recordsEnd};
 ghost use Rattle.records.specs.Stock.{Given, Blank, Built};
 ghost use Rattle.records.specs.Build.{Standing, Added, Entering, Entered};
 

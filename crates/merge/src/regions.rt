@@ -5,8 +5,6 @@ use filter::filter;
 use filter::filter_told;
 use numbering::Regions;
 use numbering::number;
-use table::map::HALF;
-use table::map::POOL;
 ghost use mathlib.Core.Path.{_≡_};
 ghost use Prim.Native.Nat.{suc, _+_, _*_, _≤_, _<_};
 ghost use lib.ListN.{length, take, drop};
@@ -35,9 +33,7 @@ pub fn merge_and_filter_regions(
         ≡ numbered (merged «merge_region_size» (suc m) (filtered «min_region_area» (recsOf (now (ws .entry)) m))) (now (ids .entry))) ⌝ }
 {
     filter(ws, m, min_region_area);
-    let h = POOL * m;
-    let p = HALF * n;
-    merge_all(ws, m, p, merge_region_size, h, h + p);
+    merge_all(ws, m, n, merge_region_size);
     number(ids, ws, m)
 }
 
@@ -87,9 +83,7 @@ pub fn merge_and_filter_told(
 {
     let group = filter_in(ws, end, m, min_region_area, r);
     let id = ws[r];
-    let h = POOL * m;
-    let p = HALF * n;
-    let merges = merge_all_noted(ws, end, m, p, merge_region_size, h, h + p);
+    let merges = merge_all_noted(ws, end, m, n, merge_region_size);
     let regions = number_in(ids, ws, end, m);
     Told {
         id,

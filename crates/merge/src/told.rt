@@ -2,13 +2,17 @@
 // from there on, two numbers a merge: the id that was absorbed, and the one that absorbed it.
 use crate::merge::Round;
 use crate::merge::merge_one;
+use pool::Half;
+use table::map::HALF;
+use table::map::POOL;
 ghost use mathlib.Core.Path.{_≡_};
 ghost use Prim.Native.Nat.{_+_, _*_, _≤_, _<_};
 ghost use lib.ListN.{length, take, set};
 ghost use Rattle.table.specs.View.{recsOf};
 ghost use Rattle.pool.specs.Alike.{Reps, Joined};
-ghost use Rattle.pool.specs.Pool.{Pool, Laid};
+ghost use Rattle.pool.specs.Forms.{PoolIn, LaidIn};
 ghost use Rattle.pool.proofs.MergeLaws.{owners};
+ghost use Rattle.merge.specs.Rounds.{firstHalf};
 ghost use Rattle.merge.specs.Told.{MergedIn, NotedOne, NotedRound, NotedAll};
 
 // A round under way, and how many merges are noted.
@@ -18,13 +22,12 @@ pub struct Noted {
 }
 
 // Record i of a round, over the records before `end`.
-fn merge_in(ws: &mut [u16], end: usize, m: usize, p: usize, area: u16, i: usize, g: Round) -> Round
-    requires { ⌜ (end ≤ length (now ws)) × Pool m p (g .now) (g .other) (take end (now ws))
-        × Laid m p (g .now) (g .other) (g .top) (take end (now ws)) ⌝ }
+fn merge_in(ws: &mut [u16], end: usize, m: usize, area: u16, i: usize, g: Round) -> Round
+    requires { ⌜ (end ≤ length (now ws)) × PoolIn m (g .half) (take end (now ws)) × LaidIn m (g .half) (take end (now ws)) ⌝ }
     requires { ⌜ Reps (recsOf (take end (now ws)) m) × (i < m) × (g .merges < 65536) ⌝ }
-    ensures { λ r. ⌜ MergedIn area i m p end (now (ws .entry)) (g .merges) (now (ws .exit)) r ⌝ }
+    ensures { λ r. ⌜ MergedIn area i m end (now (ws .entry)) (g .merges) (now (ws .exit)) r ⌝ }
 {
-    merge_one(&mut ws[..end], m, p, area, i, g)
+    merge_one(&mut ws[..end], m, area, i, g)
 }
 
 // A merge is noted at place b.
@@ -37,24 +40,15 @@ fn note_merge(ws: &mut [u16], b: usize, old: u16, new: u16)
 }
 
 // Record i of a round; if it merges, that is noted.
-fn merge_one_noted(
-    ws: &mut [u16],
-    end: usize,
-    m: usize,
-    p: usize,
-    area: u16,
-    i: usize,
-    g: Noted,
-) -> Noted
-    requires { ⌜ (end + 2 * m ≤ length (now ws)) × Pool m p (g .round .now) (g .round .other) (take end (now ws))
-        × Laid m p (g .round .now) (g .round .other) (g .round .top) (take end (now ws)) ⌝ }
+fn merge_one_noted(ws: &mut [u16], end: usize, m: usize, area: u16, i: usize, g: Noted) -> Noted
+    requires { ⌜ (end + 2 * m ≤ length (now ws)) × PoolIn m (g .round .half) (take end (now ws)) × LaidIn m (g .round .half) (take end (now ws)) ⌝ }
     requires { ⌜ Joined (recsOf (take end (now ws)) m) × (i < m) × (g .round .merges < 65536)
         × (g .count + owners m (recsOf (take end (now ws)) m) ≤ m) ⌝ }
-    ensures { λ r. ⌜ NotedOne area i m p end (now (ws .entry)) g (now (ws .exit)) r ⌝ }
+    ensures { λ r. ⌜ NotedOne area i m end (now (ws .entry)) g (now (ws .exit)) r ⌝ }
 {
     let old = ws[i];
     let before = g.round;
-    let r = merge_in(ws, end, m, p, area, i, before);
+    let r = merge_in(ws, end, m, area, i, before);
     if r.merges == before.merges {
         return Noted {
             round: r,
@@ -74,60 +68,48 @@ fn merge_round_noted(
     ws: &mut [u16],
     end: usize,
     m: usize,
-    p: usize,
     area: u16,
-    h: usize,
-    o: usize,
-    top: usize,
+    half: Half,
     count: usize,
 ) -> Noted
-    requires { ⌜ (end + 2 * m ≤ length (now ws)) × Pool m p h o (take end (now ws)) × Laid m p h o top (take end (now ws)) ⌝ }
+    requires { ⌜ (end + 2 * m ≤ length (now ws)) × PoolIn m half (take end (now ws)) × LaidIn m half (take end (now ws)) ⌝ }
     requires { ⌜ Joined (recsOf (take end (now ws)) m) × (count + owners m (recsOf (take end (now ws)) m) ≤ m) ⌝ }
-    ensures { λ r. ⌜ NotedRound area m m p end (now (ws .entry)) count (now (ws .exit)) r ⌝ }
+    ensures { λ r. ⌜ NotedRound area m m end (now (ws .entry)) count (now (ws .exit)) r ⌝ }
 {
     let mut g = Noted {
-        round: Round {
-            now: h,
-            other: o,
-            top,
-            merges: 0,
-        },
+        round: Round { half, merges: 0 },
         count,
     };
     let mut i = 0;
     while i < m {
-        g = merge_one_noted(ws, end, m, p, area, i, g);
+        g = merge_one_noted(ws, end, m, area, i, g);
         i += 1;
     }
     g
 }
 
 // Rounds until one merges nothing. Gives how many merges are noted.
-pub(crate) fn merge_all_noted(
-    ws: &mut [u16],
-    end: usize,
-    m: usize,
-    p: usize,
-    area: u16,
-    h: usize,
-    o: usize,
-) -> usize
-    requires { ⌜ (end + 2 * m ≤ length (now ws)) × Pool m p h o (take end (now ws)) × Joined (recsOf (take end (now ws)) m) ⌝ }
+pub(crate) fn merge_all_noted(ws: &mut [u16], end: usize, m: usize, n: usize, area: u16) -> usize
+    requires { ⌜ (end + 2 * m ≤ length (now ws)) × PoolIn m (firstHalf m n) (take end (now ws)) × Joined (recsOf (take end (now ws)) m) ⌝ }
     ensures { λ r. ⌜ NotedAll area m end (now (ws .entry)) (now (ws .exit)) r ⌝ }
 {
-    let mut now = h;
-    let mut other = o;
-    let mut top = h + p;
+    let first = POOL * m;
+    let size = HALF * n;
+    let second = first + size;
+    let mut half = Half {
+        now: first,
+        other: second,
+        size,
+        top: second,
+    };
     let mut count = 0;
     loop {
-        let g = merge_round_noted(ws, end, m, p, area, now, other, top, count);
+        let g = merge_round_noted(ws, end, m, area, half, count);
         let r = g.round;
         if r.merges == 0 {
             return g.count;
         }
-        now = r.now;
-        other = r.other;
-        top = r.top;
+        half = r.half;
         count = g.count;
     }
 }

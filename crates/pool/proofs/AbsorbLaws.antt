@@ -12,9 +12,9 @@ use Rattle.space.proofs.Laws.{getD-before, getD-after, frame-then, frame-wider}
 use Rattle.table.specs.View.{part, startOf, endOf, listAt, Parts, Placed}
 use Rattle.table.proofs.ViewLaws.{wide-same, part-after}
 use Rattle.pool.specs.Part.{Clear, renamedList}
-use Rattle.pool.specs.Pool.{lenAt, joinedList, Pair, Target, Absorbed}
+use Rattle.pool.specs.Pool.{lenAt, joinedList, EachLists, Target, Absorbed}
 
-module _ (m n k i j to z : ℕ) (ws : List ℕ) (T : Target m n i to z ws) (Q : Pair m n k i j ws) where
+module _ (m n k i j to z : ℕ) (ws : List ℕ) (T : Target m n i to z ws) (Q : EachLists m n k i j ws) where
   clear-first : Clear (startOf ws m (7 * m) n) (endOf ws m (7 * m) n) to z ws
   unfolding lenAt
   clear-first = record {

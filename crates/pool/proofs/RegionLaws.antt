@@ -406,3 +406,11 @@ marks-in m p h o ws ws′ P l = omega (arith, P .halves .into, P .halves .past)
 
 pub recount-in : (ws : List ℕ) (m n i v : ℕ) → 2 * m ≤ length ws → i < m → m + i < length (set ws (m + n) v)
 recount-in ws m n i v h g = rw (length-set ws (m + n) v) (omega arith)
+
+-- ---- the half's size, which a merge leaves
+
+pub pool-sized : (m p q h o : ℕ) (ws : List ℕ) → q ≡ p → Pool m p h o ws → Pool m q h o ws
+pool-sized m p q h o ws e P = rw e P
+
+pub laid-sized : (m p q h o top : ℕ) (ws ws′ : List ℕ) → q ≡ p → (Laid m p h o top ws → Laid m p h o top ws′) → Laid m q h o top ws → Laid m q h o top ws′
+laid-sized m p q h o top ws ws′ e f = rw e f

@@ -199,7 +199,7 @@ pub record Standing (m p h o : ℕ) (ws : List ℕ) : Type 0 where
   pub upto : (x : ℕ) → x < m → listEnd ws m x ≤ h + p
 
 -- two records, and where each lists the other
-pub record Pair (m n k i j : ℕ) (ws : List ℕ) : Type 0 where
+pub record EachLists (m n k i j : ℕ) (ws : List ℕ) : Type 0 where
   pub first : n < m
   pub second : i < m
   pub apart : i ≡ n → ⊥
@@ -250,7 +250,7 @@ pub record Relisted (m p n k i j old new b c : ℕ) (ws ws′ : List ℕ) : Type
 
 -- record i is live and lists the live record n first at j, and n lists i first at k; i's id is not n
 pub record Listed (m n k i j : ℕ) (ws : List ℕ) : Type 0 where
-  pub pair : Pair m n k i j ws
+  pub pair : EachLists m n k i j ws
   pub live : getD ws i 0 ≡ 0 → ⊥
   pub live′ : getD ws n 0 ≡ 0 → ⊥
   pub other : getD ws i 0 ≡ n → ⊥

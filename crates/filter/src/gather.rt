@@ -24,11 +24,9 @@ pub(crate) const FOUND: usize = SPARE + 1;
 
 // One entry r of a neighbour list: a live record not yet visited waits its turn. Gives how many wait.
 fn reach_one(ws: &mut [u16], m: usize, r: u16, top: usize) -> usize
-    requires { ⌜ Waiting m top (now ws) ⌝ }
-    requires { ⌜ Names m r ⌝ }
-    ensures { λ n. ⌜ Waiting m n (now (ws .exit)) ⌝ }
+    requires { ⌜ Waiting m top (now ws) × Names m r ⌝ }
     ensures { λ n. ⌜ ((f : ℕ) → groupAt (now (ws .exit)) m n f ≡ reachOne r (groupAt (now (ws .entry)) m top f)) ⌝ }
-    ensures { λ _. ⌜ Frame (visitsAt m) (foundAt m) (now (ws .entry)) (now (ws .exit)) ⌝ }
+    ensures { λ n. ⌜ Waiting m n (now (ws .exit)) × Frame (visitsAt m) (foundAt m) (now (ws .entry)) (now (ws .exit)) ⌝ }
 {
     if RegionId::BORDER_REGION.0 <= r {
         return top;
@@ -47,12 +45,10 @@ fn reach_one(ws: &mut [u16], m: usize, r: u16, top: usize) -> usize
 
 // All entries of record i's list.
 fn reach(ws: &mut [u16], m: usize, i: usize, top: usize) -> usize
-    requires { ⌜ Waiting m top (now ws) ⌝ }
-    requires { ⌜ i < m ⌝ }
-    ensures { λ n. ⌜ Waiting m n (now (ws .exit)) ⌝ }
+    requires { ⌜ Waiting m top (now ws) × (i < m) ⌝ }
     ensures { λ n. ⌜ (let list = listIn (now (ws .entry)) m i in
         (f : ℕ) → groupAt (now (ws .exit)) m n f ≡ reach list (groupAt (now (ws .entry)) m top f)) ⌝ }
-    ensures { λ _. ⌜ Frame (visitsAt m) (foundAt m) (now (ws .entry)) (now (ws .exit)) ⌝ }
+    ensures { λ n. ⌜ Waiting m n (now (ws .exit)) × Frame (visitsAt m) (foundAt m) (now (ws .entry)) (now (ws .exit)) ⌝ }
 {
     let e = end_of(ws, m, LISTS * m, i);
     let mut k = start_of(ws, m, LISTS * m, i);
@@ -67,11 +63,8 @@ fn reach(ws: &mut [u16], m: usize, i: usize, top: usize) -> usize
 
 // Record i is visited and waits alone.
 pub(crate) fn enter(ws: &mut [u16], m: usize, i: usize)
-    requires { ⌜ Calm m (now ws) ⌝ }
-    requires { ⌜ i < m ⌝ }
-    requires { ⌜ getD (now ws) (visitsAt m + i) 0 ≡ 0 ⌝ }
-    ensures { λ _. ⌜ Waiting m 1 (now (ws .exit)) ⌝ }
-    ensures { λ _. ⌜ Found m 0 (now (ws .exit)) ⌝ }
+    requires { ⌜ Calm m (now ws) × (i < m) × (getD (now ws) (visitsAt m + i) 0 ≡ 0) ⌝ }
+    ensures { λ _. ⌜ Waiting m 1 (now (ws .exit)) × Found m 0 (now (ws .exit)) ⌝ }
     ensures { λ _. ⌜ (let records = recsOf (now (ws .entry)) m in
         groupAt (now (ws .exit)) m 1 0 ≡ record { todo = i ∷ []; recs = set records i (seen (recOf records i)); found = [] }) ⌝ }
     ensures { λ _. ⌜ Frame (visitsAt m) (foundAt m) (now (ws .entry)) (now (ws .exit)) ⌝ }
@@ -82,14 +75,10 @@ pub(crate) fn enter(ws: &mut [u16], m: usize, i: usize)
 
 // The record that came last is found.
 fn pop(ws: &mut [u16], m: usize, top: usize, f: usize) -> usize
-    requires { ⌜ Waiting m top (now ws) ⌝ }
-    requires { ⌜ Found m f (now ws) ⌝ }
-    requires { ⌜ 0 < top ⌝ }
-    requires { ⌜ f < m ⌝ }
-    ensures { λ r. ⌜ Popped m top f r (now (ws .entry)) (now (ws .exit)) ⌝ }
-    ensures { λ r. ⌜ r < m ⌝ }
-    ensures { λ _. ⌜ Waiting m (top - 1) (now (ws .exit)) ⌝ }
-    ensures { λ _. ⌜ Found m (f + 1) (now (ws .exit)) ⌝ }
+    requires { ⌜ Waiting m top (now ws) × Found m f (now ws) ⌝ }
+    requires { ⌜ (0 < top) × (f < m) ⌝ }
+    ensures { λ r. ⌜ Popped m top f r (now (ws .entry)) (now (ws .exit)) × (r < m) ⌝ }
+    ensures { λ _. ⌜ Waiting m (top - 1) (now (ws .exit)) × Found m (f + 1) (now (ws .exit)) ⌝ }
     ensures { λ _. ⌜ Frame (spareAt m) (listsAt m) (now (ws .entry)) (now (ws .exit)) ⌝ }
 {
     let r = ws[WAITING * m + (top - 1)];
@@ -100,12 +89,9 @@ fn pop(ws: &mut [u16], m: usize, top: usize, f: usize) -> usize
 
 // The whole group of the one that waits. Gives how many are found.
 pub(crate) fn gather(ws: &mut [u16], m: usize) -> usize
-    requires { ⌜ Waiting m 1 (now ws) ⌝ }
-    requires { ⌜ Found m 0 (now ws) ⌝ }
+    requires { ⌜ Waiting m 1 (now ws) × Found m 0 (now ws) ⌝ }
     ensures { λ f. ⌜ groupAt (now (ws .exit)) m 0 f ≡ gather (suc m) (stackAt (now (ws .entry)) (waitingAt m) 1) (recsOf (now (ws .entry)) m) [] ⌝ }
-    ensures { λ f. ⌜ f ≤ m ⌝ }
-    ensures { λ _. ⌜ Waiting m 0 (now (ws .exit)) ⌝ }
-    ensures { λ f. ⌜ Found m f (now (ws .exit)) ⌝ }
+    ensures { λ f. ⌜ (f ≤ m) × Waiting m 0 (now (ws .exit)) × Found m f (now (ws .exit)) ⌝ }
     ensures { λ _. ⌜ Frame (visitsAt m) (listsAt m) (now (ws .entry)) (now (ws .exit)) ⌝ }
 {
     let mut top = 1;

@@ -14,13 +14,11 @@ ghost use Rattle.rules.specs.Filter.{removed, total, removeAll};
 ghost use Rattle.space.specs.Space.{Frame};
 ghost use Rattle.table.specs.Map.{areasAt, spareAt, listsAt};
 ghost use Rattle.table.specs.View.{recsOf, RecordsIn};
-ghost use Rattle.filter.specs.Group.{waitingAt, foundIn, listsFlagged, anyFlagged, small, removeSmall, Found, Calm};
+ghost use Rattle.filter.specs.Group.{waitingAt, foundIn, listsFlagged, anyFlagged, small, removeSmall, Gathered, Calm};
 
 // The spans of the f found.
 pub(crate) fn total(ws: &[u16], m: usize, f: usize) -> usize
-    requires { ⌜ RecordsIn m (now ws) ⌝ }
-    requires { ⌜ Found m f (now ws) ⌝ }
-    requires { ⌜ f ≤ m ⌝ }
+    requires { ⌜ Gathered m f (now ws) ⌝ }
     ensures { λ r. ⌜ r ≡ total (recsOf (now (ws .entry)) m) (foundIn (now (ws .entry)) m f) ⌝ }
 {
     let mut sum = 0;
@@ -45,9 +43,7 @@ fn lists_flagged(l: &[u16]) -> bool
 
 // Does one of the f found list a flagged id?
 fn any_flagged(ws: &[u16], m: usize, f: usize) -> bool
-    requires { ⌜ RecordsIn m (now ws) ⌝ }
-    requires { ⌜ Found m f (now ws) ⌝ }
-    requires { ⌜ f ≤ m ⌝ }
+    requires { ⌜ Gathered m f (now ws) ⌝ }
     ensures { λ r. ⌜ r ≡ anyFlagged (recsOf (now (ws .entry)) m) (foundIn (now (ws .entry)) m f) ⌝ }
 {
     let mut k = 0;
@@ -63,9 +59,7 @@ fn any_flagged(ws: &[u16], m: usize, f: usize) -> bool
 
 // Is the group of that count to go?
 fn small(ws: &[u16], m: usize, f: usize, least: u16, count: usize) -> bool
-    requires { ⌜ RecordsIn m (now ws) ⌝ }
-    requires { ⌜ Found m f (now ws) ⌝ }
-    requires { ⌜ f ≤ m ⌝ }
+    requires { ⌜ Gathered m f (now ws) ⌝ }
     requires { ⌜ count ≡ total (recsOf (now ws) m) (foundIn (now ws) m f) ⌝ }
     ensures { λ r. ⌜ r ≡ small least (recsOf (now (ws .entry)) m) (foundIn (now (ws .entry)) m f) ⌝ }
 {
@@ -80,11 +74,10 @@ fn small(ws: &[u16], m: usize, f: usize, least: u16, count: usize) -> bool
 
 // Record i gets id 0 and count 0.
 fn remove_one(ws: &mut [u16], m: usize, i: usize)
-    requires { ⌜ RecordsIn m (now ws) ⌝ }
-    requires { ⌜ i < m ⌝ }
-    ensures { λ _. ⌜ recsOf (now (ws .exit)) m ≡ set (recsOf (now (ws .entry)) m) i (removed (recOf (recsOf (now (ws .entry)) m) i)) ⌝ }
-    ensures { λ _. ⌜ RecordsIn m (now (ws .exit)) ⌝ }
-    ensures { λ _. ⌜ Frame 0 (areasAt m) (now (ws .entry)) (now (ws .exit)) ⌝ }
+    requires { ⌜ RecordsIn m (now ws) × (i < m) ⌝ }
+    ensures { λ _. ⌜ (let records = recsOf (now (ws .entry)) m in
+        recsOf (now (ws .exit)) m ≡ set records i (removed (recOf records i))) ⌝ }
+    ensures { λ _. ⌜ RecordsIn m (now (ws .exit)) × Frame 0 (areasAt m) (now (ws .entry)) (now (ws .exit)) ⌝ }
 {
     ws[m + i] = 0;
     ws[i] = 0;
@@ -92,12 +85,9 @@ fn remove_one(ws: &mut [u16], m: usize, i: usize)
 
 // All f found.
 fn remove_all(ws: &mut [u16], m: usize, f: usize)
-    requires { ⌜ RecordsIn m (now ws) ⌝ }
-    requires { ⌜ Found m f (now ws) ⌝ }
-    requires { ⌜ f ≤ m ⌝ }
+    requires { ⌜ Gathered m f (now ws) ⌝ }
     ensures { λ _. ⌜ recsOf (now (ws .exit)) m ≡ removeAll (foundIn (now (ws .entry)) m f) (recsOf (now (ws .entry)) m) ⌝ }
-    ensures { λ _. ⌜ RecordsIn m (now (ws .exit)) ⌝ }
-    ensures { λ _. ⌜ Frame 0 (areasAt m) (now (ws .entry)) (now (ws .exit)) ⌝ }
+    ensures { λ _. ⌜ RecordsIn m (now (ws .exit)) × Frame 0 (areasAt m) (now (ws .entry)) (now (ws .exit)) ⌝ }
 {
     let mut k = 0;
     while k < f {
@@ -109,28 +99,22 @@ fn remove_all(ws: &mut [u16], m: usize, f: usize)
 
 // A small group is removed; count is its own.
 pub(crate) fn remove_small(ws: &mut [u16], m: usize, f: usize, least: u16, count: usize)
-    requires { ⌜ RecordsIn m (now ws) ⌝ }
-    requires { ⌜ Found m f (now ws) ⌝ }
-    requires { ⌜ f ≤ m ⌝ }
+    requires { ⌜ Gathered m f (now ws) ⌝ }
     requires { ⌜ count ≡ total (recsOf (now ws) m) (foundIn (now ws) m f) ⌝ }
     ensures { λ _. ⌜ recsOf (now (ws .exit)) m ≡ removeSmall least (recsOf (now (ws .entry)) m) (foundIn (now (ws .entry)) m f) ⌝ }
-    ensures { λ _. ⌜ RecordsIn m (now (ws .exit)) ⌝ }
-    ensures { λ _. ⌜ Frame 0 (areasAt m) (now (ws .entry)) (now (ws .exit)) ⌝ }
+    ensures { λ _. ⌜ RecordsIn m (now (ws .exit)) × Frame 0 (areasAt m) (now (ws .entry)) (now (ws .exit)) ⌝ }
 {
     if small(ws, m, f, least, count) {
         remove_all(ws, m, f);
     }
 }
 
-// The spare columns are zeros again.
+// The spare columns are zeros again: that of those that wait is already.
 pub(crate) fn forget(ws: &mut [u16], m: usize, f: usize)
-    requires { ⌜ RecordsIn m (now ws) ⌝ }
-    requires { ⌜ Found m f (now ws) ⌝ }
-    requires { ⌜ f ≤ m ⌝ }
+    requires { ⌜ Gathered m f (now ws) ⌝ }
     requires { ⌜ ((x : ℕ) → x < m → getD (now ws) (waitingAt m + x) 0 ≡ 0) ⌝ }
     ensures { λ _. ⌜ recsOf (now (ws .exit)) m ≡ recsOf (now (ws .entry)) m ⌝ }
-    ensures { λ _. ⌜ Calm m (now (ws .exit)) ⌝ }
-    ensures { λ _. ⌜ Frame (spareAt m) (listsAt m) (now (ws .entry)) (now (ws .exit)) ⌝ }
+    ensures { λ _. ⌜ Calm m (now (ws .exit)) × Frame (spareAt m) (listsAt m) (now (ws .entry)) (now (ws .exit)) ⌝ }
 {
     let a = FOUND * m;
     clear(&mut ws[a..a + f]);

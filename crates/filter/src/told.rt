@@ -29,8 +29,7 @@ fn gone(before: u16, after: u16, count: usize, told: usize) -> usize
 pub fn filter_told(ws: &mut [u16], m: usize, least: u16, r: usize) -> usize
     requires { ⌜ Calm m (now ws) × (r < m) ⌝ }
     ensures { λ _. ⌜ recsOf (now (ws .exit)) m ≡ filtered least (recsOf (now (ws .entry)) m) ⌝ }
-    ensures { λ _. ⌜ Calm m (now (ws .exit)) ⌝ }
-    ensures { λ _. ⌜ Frame 0 (spareAt m) (now (ws .entry)) (now (ws .exit)) ⌝ }
+    ensures { λ _. ⌜ Calm m (now (ws .exit)) × Frame 0 (spareAt m) (now (ws .entry)) (now (ws .exit)) ⌝ }
     ensures { λ k. ⌜ k ≡ goneWith least r m (recsOf (now (ws .entry)) m) ⌝ }
 {
     let mut told = 0;
@@ -48,8 +47,7 @@ pub fn filter_told(ws: &mut [u16], m: usize, least: u16, r: usize) -> usize
 pub fn filter(ws: &mut [u16], m: usize, least: u16)
     requires { ⌜ Calm m (now ws) ⌝ }
     ensures { λ _. ⌜ recsOf (now (ws .exit)) m ≡ filtered least (recsOf (now (ws .entry)) m) ⌝ }
-    ensures { λ _. ⌜ Calm m (now (ws .exit)) ⌝ }
-    ensures { λ _. ⌜ Frame 0 (spareAt m) (now (ws .entry)) (now (ws .exit)) ⌝ }
+    ensures { λ _. ⌜ Calm m (now (ws .exit)) × Frame 0 (spareAt m) (now (ws .entry)) (now (ws .exit)) ⌝ }
 {
     if 0 < m {
         filter_told(ws, m, least, 0);

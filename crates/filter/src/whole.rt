@@ -17,12 +17,9 @@ ghost use Rattle.filter.specs.Group.{filterGroup, turnCount, Calm};
 
 // The group of record i. Gives its count.
 fn filter_group(ws: &mut [u16], m: usize, least: u16, i: usize) -> usize
-    requires { ⌜ Calm m (now ws) ⌝ }
-    requires { ⌜ i < m ⌝ }
-    requires { ⌜ getD (now ws) (visitsAt m + i) 0 ≡ 0 ⌝ }
+    requires { ⌜ Calm m (now ws) × (i < m) × (getD (now ws) (visitsAt m + i) 0 ≡ 0) ⌝ }
     ensures { λ _. ⌜ recsOf (now (ws .exit)) m ≡ filterGroup least i (recsOf (now (ws .entry)) m) ⌝ }
-    ensures { λ _. ⌜ Calm m (now (ws .exit)) ⌝ }
-    ensures { λ _. ⌜ Frame 0 (spareAt m) (now (ws .entry)) (now (ws .exit)) ⌝ }
+    ensures { λ _. ⌜ Calm m (now (ws .exit)) × Frame 0 (spareAt m) (now (ws .entry)) (now (ws .exit)) ⌝ }
     ensures { λ r. ⌜ r ≡ groupCount i (recsOf (now (ws .entry)) m) ⌝ }
 {
     enter(ws, m, i);
@@ -35,11 +32,9 @@ fn filter_group(ws: &mut [u16], m: usize, least: u16, i: usize) -> usize
 
 // The group of record i, if it is not empty and not visited yet. Gives its count, 0 where there is none.
 pub(crate) fn filter_one(ws: &mut [u16], m: usize, least: u16, i: usize) -> usize
-    requires { ⌜ Calm m (now ws) ⌝ }
-    requires { ⌜ i < m ⌝ }
+    requires { ⌜ Calm m (now ws) × (i < m) ⌝ }
     ensures { λ _. ⌜ recsOf (now (ws .exit)) m ≡ filterOne least i (recsOf (now (ws .entry)) m) ⌝ }
-    ensures { λ _. ⌜ Calm m (now (ws .exit)) ⌝ }
-    ensures { λ _. ⌜ Frame 0 (spareAt m) (now (ws .entry)) (now (ws .exit)) ⌝ }
+    ensures { λ _. ⌜ Calm m (now (ws .exit)) × Frame 0 (spareAt m) (now (ws .entry)) (now (ws .exit)) ⌝ }
     ensures { λ r. ⌜ r ≡ turnCount i (recsOf (now (ws .entry)) m) ⌝ }
 {
     if ws[i] == 0 {

@@ -32,10 +32,8 @@ fn any_floor(ws: &[u16], l: &[u16], b: u16) -> bool
 
 // The first record of id a, from i on, or m.
 fn next_record(ws: &[u16], m: usize, a: u16, i: usize) -> usize
-    requires { ⌜ m ≤ length (now ws) ⌝ }
-    requires { ⌜ i ≤ m ⌝ }
-    ensures { λ r. ⌜ r ≡ i + place (part i m (now (ws .entry))) a ⌝ }
-    ensures { λ r. ⌜ r ≤ m ⌝ }
+    requires { ⌜ (m ≤ length (now ws)) × (i ≤ m) ⌝ }
+    ensures { λ r. ⌜ (r ≡ i + place (part i m (now (ws .entry))) a) × (r ≤ m) ⌝ }
 {
     i + place(&ws[i..m], a)
 }
@@ -57,9 +55,7 @@ fn floor_in(ws: &[u16], m: usize, a: u16, b: u16) -> bool
 
 // The same area, listed at most once, and not a floor.
 pub(crate) fn can_merge_with(ws: &[u16], m: usize, i: usize, j: usize) -> bool
-    requires { ⌜ RecordsIn m (now ws) ⌝ }
-    requires { ⌜ i < m ⌝ }
-    requires { ⌜ j < m ⌝ }
+    requires { ⌜ RecordsIn m (now ws) × (i < m) × (j < m) ⌝ }
     ensures { λ r. ⌜ (let records = view (now (ws .entry)) m (listsAt m) (floorPartsAt m) in
         let own = recordAt (now (ws .entry)) m i in
         let other = recordAt (now (ws .entry)) m j in

@@ -2,7 +2,7 @@
 use Prim.Native.Nat.{ℕ, suc, _+_, _≤_, _<_}
 use mathlib.Core.Path.{_≡_}
 use mathlib.Core.List.{List, [], _∷_, map}
-use lib.ListN.{length, getD}
+use lib.ListN.{length, getD, take}
 use lib.Dec.{eqb}
 use Rattle.rules.specs.Base.{if_then_else_}
 use Rattle.rules.specs.Growth.{flagged}
@@ -52,8 +52,12 @@ pub record Blank (m b : ℕ) (ws : List ℕ) : Type 0 where
   pub blank : (v : ℕ) → v < m → getD ws (b + v) 0 ≡ 0
 
 -- the numbers given stand at b
-pub record Marked (m b : ℕ) (ws l : List ℕ) : Type 0 where
+pub record Stand (m b : ℕ) (ws l : List ℕ) : Type 0 where
   pub marks : (v : ℕ) → v < m → getD ws (b + v) 0 ≡ numIn l v
+
+-- those of all live ids
+abbrev pub AllNumbers : ℕ → ℕ → List ℕ → Type 0
+AllNumbers m b ws = Stand m b ws (liveIds (take m ws) [])
 
 -- an id that is not flagged is a record's
 pub record Spans (m : ℕ) (ids : List ℕ) : Type 0 where

@@ -13,7 +13,7 @@ use Rattle.table.specs.View.{part, startOf, endOf, listAt, Parts}
 use Rattle.table.proofs.ViewLaws.{list-same, part-none}
 use Rattle.space.specs.Space.{Frame}
 use Rattle.space.proofs.Laws.{sec-same, getD-before, getD-after, frame-wider}
-use Rattle.pool.specs.Pool.{without, lenAt, restTo, newList, joinedList, Halves, Pool, Beside, Apart, Owned, Laid, Outside, EachLists, Sources, There, Carried, Rows, Searched, Swept, Marked, Standing, Target, Absorbed, Relisted}
+use Rattle.pool.specs.Pool.{without, lenAt, restTo, newList, joinedList, Halves, Pool, Beside, Apart, Owned, Laid, Outside, EachLists, Sources, There, Carried, Rows, Searched, Swept, OwnedPart, Standing, Target, Absorbed, Relisted}
 use Rattle.pool.proofs.AbsorbLaws.{by-three, absorbed-in, absorbed-lists, absorbed-len, absorbed-id}
 use Rattle.pool.proofs.RenameLaws.{beside-free, swept-less, swept-apart}
 use Rattle.pool.proofs.OwnLaws.{past-start, past-end, halves-same, halves-turn}
@@ -383,7 +383,7 @@ module _ (m p h o top n k i j : ℕ) (ws : List ℕ) (P : Pool m p h o ws) (D : 
       pub own-here : o + (e - h) ≤ length ws₂
       own-here = omega (arith, e-fits, P .halves .into′)
 
-      module _ (ws₃ : List ℕ) (l₃ : length ws₃ ≡ length ws₂) (M : Marked h o top e n ws₂ ws₃) where
+      module _ (ws₃ : List ℕ) (l₃ : length ws₃ ≡ length ws₂) (M : OwnedPart h o top e n ws₂ ws₃) where
         frame-here : Frame o (o + p) ws₂ ws₃
         frame-here = frame-wider o (o + p) (M .kept) (omega arith) (omega (arith, e-fits))
 

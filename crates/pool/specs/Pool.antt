@@ -15,7 +15,7 @@ use Rattle.laws.specs.Sums.{sumTo}
 use Rattle.space.specs.Space.{Frame}
 use Rattle.table.specs.Map.{border, wideEnd, spareAt, listsAt, floorPartsAt, cutsAt, poolAt}
 use Rattle.table.specs.View.{part, Parts, listStart, listEnd, listIn, floorsStart, RecordsIn}
-use Rattle.pool.specs.Part.{Clear, renamedList}
+use Rattle.pool.specs.Part.{CopyRoom, renamedList}
 
 -- f with 0 at i
 unfoldable pub without : (ℕ → ℕ) → ℕ → ℕ → ℕ
@@ -76,17 +76,17 @@ pub record Laid (m p h o top : ℕ) (ws : List ℕ) : Type 0 where
   pub apart : top < h + p → Apart m ws
   pub owned : top < h + p → Owned m h o top ws
 
--- neither in the table of lists nor from a up to z
+-- neither in the table of lists nor from a up to limit
 abbrev pub Outside : ℕ → ℕ → ℕ → ℕ → Type 0
-Outside m a z j = ((j < listsAt m) ⊎ (floorPartsAt m ≤ j)) × ((j < a) ⊎ (z ≤ j))
+Outside m a limit j = ((j < listsAt m) ⊎ (floorPartsAt m ≤ j)) × ((j < a) ⊎ (limit ≤ j))
 
 -- what one record's list needs to be carried to `to`
-pub record Source (m x to z : ℕ) (ws : List ℕ) : Type 0 where
+pub record Source (m x to limit : ℕ) (ws : List ℕ) : Type 0 where
   pub lists : Parts m (listsAt m) ws
   pub inside : x < m
-  pub clear : Clear (listStart ws m x) (listEnd ws m x) to z ws
+  pub clear : CopyRoom (listStart ws m x) (listEnd ws m x) to limit ws
   pub past : floorPartsAt m ≤ to
-  pub fits : z < wideEnd
+  pub fits : limit < wideEnd
 
 -- record x's list stands at to .. e, renamed
 pub record Moved (m x old new to e : ℕ) (ws ws′ : List ℕ) : Type 0 where
@@ -105,14 +105,14 @@ pub record Next (m x i n old new to e : ℕ) (ws ws′ : List ℕ) : Type 0 wher
   pub moved : (x ≡ i → ⊥) → (x ≡ n → ⊥) → Moved m x old new to e ws ws′
 
 -- what all others need to be carried to lo and on
-pub record Sources (m i n lo z : ℕ) (ws : List ℕ) : Type 0 where
+pub record Sources (m i n lo limit : ℕ) (ws : List ℕ) : Type 0 where
   pub lists : Parts m (listsAt m) ws
   pub far : (r : ℕ) → r < m → (r ≡ i → ⊥) → (r ≡ n → ⊥) → floorPartsAt m ≤ listStart ws m r
-  pub apart : (r : ℕ) → r < m → (r ≡ i → ⊥) → (r ≡ n → ⊥) → (listEnd ws m r ≤ lo) ⊎ (z ≤ listStart ws m r)
+  pub apart : (r : ℕ) → r < m → (r ≡ i → ⊥) → (r ≡ n → ⊥) → (listEnd ws m r ≤ lo) ⊎ (limit ≤ listStart ws m r)
   pub past : floorPartsAt m ≤ lo
-  pub into : z ≤ length ws
-  pub fits : z < wideEnd
-  pub room : lo + restTo ws m i n m ≤ z
+  pub into : limit ≤ length ws
+  pub fits : limit < wideEnd
+  pub room : lo + restTo ws m i n m ≤ limit
 
 -- record x's list stands somewhere in lo .. hi, renamed
 pub record There (m x old new lo hi : ℕ) (ws ws′ : List ℕ) : Type 0 where
@@ -123,15 +123,15 @@ pub record There (m x old new lo hi : ℕ) (ws ws′ : List ℕ) : Type 0 where
   pub short : lenAt ws′ m x ≤ lenAt ws m x
 
 -- the records from c on are carried, but i and n
-pub record Carried (m i n c old new lo hi z : ℕ) (ws ws′ : List ℕ) : Type 0 where
+pub record Carried (m i n c old new lo hi limit : ℕ) (ws ws′ : List ℕ) : Type 0 where
   pub order : lo ≤ hi
-  pub room : hi + restTo ws m i n c ≤ z
+  pub room : hi + restTo ws m i n c ≤ limit
   pub there : (x : ℕ) → c ≤ x → x < m → (x ≡ i → ⊥) → (x ≡ n → ⊥) → There m x old new lo hi ws ws′
   pub starts : (x : ℕ) → x < m → (x < c) ⊎ ((x ≡ i) ⊎ (x ≡ n)) → listStart ws′ m x ≡ listStart ws m x
   pub stops : (x : ℕ) → x < m → (x < c) ⊎ ((x ≡ i) ⊎ (x ≡ n)) → listEnd ws′ m x ≡ listEnd ws m x
   -- the last first
   pub apart : (x y : ℕ) → c ≤ x → x < y → y < m → (x ≡ i → ⊥) → (x ≡ n → ⊥) → (y ≡ i → ⊥) → (y ≡ n → ⊥) → listEnd ws′ m y ≤ listStart ws′ m x
-  pub kept : (j : ℕ) → Outside m lo z j → getD ws′ j 0 ≡ getD ws j 0
+  pub kept : (j : ℕ) → Outside m lo limit j → getD ws′ j 0 ≡ getD ws j 0
 
 -- record x's list starts where it did, renamed
 pub record Shrunk (m x old new : ℕ) (ws ws′ : List ℕ) : Type 0 where
@@ -186,7 +186,7 @@ pub record Swept (m i n old new : ℕ) (ws ws′ : List ℕ) : Type 0 where
   pub kept : (j : ℕ) → Free m i n j ws → getD ws′ j 0 ≡ getD ws j 0
 
 -- x stands beside the places a .. e of the half at h
-pub record Marked (h o a e x : ℕ) (ws ws′ : List ℕ) : Type 0 where
+pub record OwnedPart (h o a e x : ℕ) (ws ws′ : List ℕ) : Type 0 where
   pub each : (q : ℕ) → a ≤ q → q < e → getD ws′ (o + (q - h)) 0 ≡ x
   pub kept : Frame (o + (a - h)) (o + (e - h)) ws ws′
 
@@ -211,17 +211,17 @@ unfoldable pub joinedList : List ℕ → List ℕ → ℕ → ℕ → ℕ → �
 joinedList l l′ k j old new = renamedList old new (tidy (around l k ++ around l′ j))
 
 -- what the joined list needs to be written at to
-pub record Target (m n i to z : ℕ) (ws : List ℕ) : Type 0 where
+pub record Target (m n i to limit : ℕ) (ws : List ℕ) : Type 0 where
   pub lists : Parts m (listsAt m) ws
-  pub apart : (listEnd ws m n ≤ to) ⊎ (z ≤ listStart ws m n)
-  pub apart′ : (listEnd ws m i ≤ to) ⊎ (z ≤ listStart ws m i)
+  pub apart : (listEnd ws m n ≤ to) ⊎ (limit ≤ listStart ws m n)
+  pub apart′ : (listEnd ws m i ≤ to) ⊎ (limit ≤ listStart ws m i)
   pub past : floorPartsAt m ≤ to
-  pub into : z ≤ length ws
-  pub fits : z < wideEnd
-  pub room : to + lenAt ws m n + lenAt ws m i ≤ z
+  pub into : limit ≤ length ws
+  pub fits : limit < wideEnd
+  pub room : to + lenAt ws m n + lenAt ws m i ≤ limit
 
 -- record n's list is the joined one, at to .. e, and record i's is empty
-pub record Absorbed (m n k i j old new to z e : ℕ) (ws ws′ : List ℕ) : Type 0 where
+pub record Absorbed (m n k i j old new to limit e : ℕ) (ws ws′ : List ℕ) : Type 0 where
   pub first : listStart ws′ m n ≡ to
   pub last : listEnd ws′ m n ≡ e
   pub bare : listStart ws′ m i ≡ e
@@ -231,11 +231,11 @@ pub record Absorbed (m n k i j old new to z e : ℕ) (ws ws′ : List ℕ) : Typ
   pub short : e ≤ to + lenAt ws m n + lenAt ws m i
   pub starts : (y : ℕ) → y < m → (y ≡ i → ⊥) → (y ≡ n → ⊥) → listStart ws′ m y ≡ listStart ws m y
   pub stops : (y : ℕ) → y < m → (y ≡ i → ⊥) → (y ≡ n → ⊥) → listEnd ws′ m y ≡ listEnd ws m y
-  pub kept : (y : ℕ) → Outside m to z y → getD ws′ y 0 ≡ getD ws y 0
+  pub kept : (y : ℕ) → Outside m to limit y → getD ws′ y 0 ≡ getD ws y 0
 
 -- b and c are the halves h and o, in this order or the other
-abbrev pub Turned : ℕ → ℕ → ℕ → ℕ → Type 0
-Turned h o b c = ((b ≡ h) × (c ≡ o)) ⊎ ((b ≡ o) × (c ≡ h))
+abbrev pub Sides : ℕ → ℕ → ℕ → ℕ → Type 0
+Sides h o b c = ((b ≡ h) × (c ≡ o)) ⊎ ((b ≡ o) × (c ≡ h))
 
 -- all lists stand in the half at b; the one at c is free
 pub record Relisted (m p n k i j old new b c : ℕ) (ws ws′ : List ℕ) : Type 0 where

@@ -1,6 +1,7 @@
 // Two records' lists become one.
 use crate::Pair;
 use crate::Renaming;
+use crate::build::Around;
 use crate::build::join;
 use crate::build::replace_neighbour;
 use table::end_of;
@@ -28,12 +29,18 @@ fn join_lists(
     ensures { λ r. ⌜ (to ≤ r) × (r ≤ to + lenAt (now (ws .entry)) m (pair .absorber) + lenAt (now (ws .entry)) m (pair .absorbed)) ⌝ }
     ensures { λ _. ⌜ Frame to limit (now (ws .entry)) (now (ws .exit)) ⌝ }
 {
-    let a = start_of(ws, m, LISTS * m, pair.absorber);
-    let e = end_of(ws, m, LISTS * m, pair.absorber);
-    let b = start_of(ws, m, LISTS * m, pair.absorbed);
-    let f = end_of(ws, m, LISTS * m, pair.absorbed);
-    let x = join(ws, a, e, pair.entry, b, f, pair.back, to, limit);
-    replace_neighbour(ws, to, x, names.old, names.new)
+    let absorber = Around {
+        from: start_of(ws, m, LISTS * m, pair.absorber),
+        end: end_of(ws, m, LISTS * m, pair.absorber),
+        entry: pair.entry,
+    };
+    let absorbed = Around {
+        from: start_of(ws, m, LISTS * m, pair.absorbed),
+        end: end_of(ws, m, LISTS * m, pair.absorbed),
+        entry: pair.back,
+    };
+    let end = join(ws, absorber, absorbed, to, limit);
+    replace_neighbour(ws, to, end, names.old, names.new)
 }
 
 // The joined list is the absorber's, and the absorbed one's is empty. Gives where the joined list ends.

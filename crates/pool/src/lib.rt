@@ -20,7 +20,8 @@ pub struct Half {
     pub top: usize,
 }
 
-// The record that absorbs, and the entry of its list that is the absorbed one's id; the record that is absorbed, and the entry of its list that is the absorber's.
+// The record that absorbs, and which entry of its list is the absorbed one's id; the record that is absorbed, and which entry of its list is
+// the absorber's.
 pub struct Pair {
     pub absorber: usize,
     pub entry: usize,

@@ -8,13 +8,13 @@ ghost use Prim.Native.Nat.{_+_, _-_, _≤_, _<_};
 ghost use lib.ListN.{length};
 ghost use Rattle.space.specs.Space.{Frame};
 ghost use Rattle.table.specs.View.{listStart, listEnd};
-ghost use Rattle.pool.specs.Pool.{Owned, Marked};
+ghost use Rattle.pool.specs.Pool.{Owned, OwnedPart};
 ghost use Rattle.pool.specs.Forms.{StandingIn};
 
 // The places a .. e of the half are in the list of x.
 pub(crate) fn own_part(ws: &mut [u16], half: Half, a: usize, e: usize, x: usize)
     requires { ⌜ (half .now ≤ a) × (a ≤ e) × (half .other + (e - half .now) ≤ length (now ws)) × (x < 65536) ⌝ }
-    ensures { λ _. ⌜ Marked (half .now) (half .other) a e x (now (ws .entry)) (now (ws .exit)) ⌝ }
+    ensures { λ _. ⌜ OwnedPart (half .now) (half .other) a e x (now (ws .entry)) (now (ws .exit)) ⌝ }
 {
     let b = half.other + (a - half.now);
     let f = half.other + (e - half.now);
@@ -26,7 +26,7 @@ fn own_one(ws: &mut [u16], m: usize, x: usize, half: Half)
     requires { ⌜ StandingIn m half (now ws) × (x < m) ⌝ }
     ensures { λ _. ⌜ (let start = listStart (now (ws .entry)) m x in
         let end = listEnd (now (ws .entry)) m x in
-        Marked (half .now) (half .other) start end x (now (ws .entry)) (now (ws .exit))) ⌝ }
+        OwnedPart (half .now) (half .other) start end x (now (ws .entry)) (now (ws .exit))) ⌝ }
 {
     let a = start_of(ws, m, LISTS * m, x);
     let e = end_of(ws, m, LISTS * m, x);

@@ -14,7 +14,7 @@ ghost use mathlib.Core.Path.{_≡_};
 ghost use Prim.Native.Nat.{_+_, _-_, _≤_, _<_};
 ghost use Rattle.table.specs.Map.{wideEnd, listsAt};
 ghost use Rattle.table.specs.View.{Parts};
-ghost use Rattle.pool.specs.Pool.{lenAt, Laid, Turned};
+ghost use Rattle.pool.specs.Pool.{lenAt, Laid, Sides};
 ghost use Rattle.pool.specs.Forms.{PoolIn, LaidIn, PairIn, RelistedIn};
 
 // How long record r's list is.
@@ -65,7 +65,7 @@ fn relist_here(ws: &mut [u16], m: usize, pair: Pair, names: Renaming, half: Half
 // The one if there is room past the lists, or else the other.
 pub(crate) fn relist(ws: &mut [u16], m: usize, pair: Pair, names: Renaming, half: Half) -> Half
     requires { ⌜ PoolIn m half (now ws) × LaidIn m half (now ws) × PairIn m pair (now ws) × (names .old ≡ names .new → ⊥) ⌝ }
-    ensures { λ r. ⌜ (r .size ≡ half .size) × Turned (half .now) (half .other) (r .now) (r .other) ⌝ }
+    ensures { λ r. ⌜ (r .size ≡ half .size) × Sides (half .now) (half .other) (r .now) (r .other) ⌝ }
     ensures { λ r. ⌜ RelistedIn m pair names half r (now (ws .entry)) (now (ws .exit)) × LaidIn m r (now (ws .exit)) ⌝ }
 {
     let both = len_of(ws, m, pair.absorber) + len_of(ws, m, pair.absorbed);

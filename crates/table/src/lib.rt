@@ -29,28 +29,23 @@ fn wide(ws: &[u16], m: usize, a: usize) -> usize
 
 // Where the part of record r starts, in the table at s.
 pub fn start_of(ws: &[u16], m: usize, s: usize, r: usize) -> usize
-    requires { ⌜ Parts m s (now ws) ⌝ }
-    requires { ⌜ r < m ⌝ }
-    ensures { λ a. ⌜ a ≡ startOf (now (ws .entry)) m s r ⌝ }
-    ensures { λ a. ⌜ a < wideEnd ⌝ }
+    requires { ⌜ Parts m s (now ws) × (r < m) ⌝ }
+    ensures { λ a. ⌜ (a ≡ startOf (now (ws .entry)) m s r) × (a < wideEnd) ⌝ }
 {
     wide(ws, m, s + r)
 }
 
 // Where it ends.
 pub fn end_of(ws: &[u16], m: usize, s: usize, r: usize) -> usize
-    requires { ⌜ Parts m s (now ws) ⌝ }
-    requires { ⌜ r < m ⌝ }
-    ensures { λ e. ⌜ e ≡ endOf (now (ws .entry)) m s r ⌝ }
-    ensures { λ e. ⌜ e < wideEnd ⌝ }
+    requires { ⌜ Parts m s (now ws) × (r < m) ⌝ }
+    ensures { λ e. ⌜ (e ≡ endOf (now (ws .entry)) m s r) × (e < wideEnd) ⌝ }
 {
     wide(ws, m, s + 2 * m + r)
 }
 
 // The neighbours of record r, with the table at s, or its floors, with that at t: the part itself.
 pub fn list_of(ws: &[u16], m: usize, s: usize, r: usize) -> &[u16]
-    requires { ⌜ Parts m s (now ws) ⌝ }
-    requires { ⌜ r < m ⌝ }
+    requires { ⌜ Parts m s (now ws) × (r < m) ⌝ }
     ensures { λ l. ⌜ now l ≡ listAt (now (ws .entry)) m s r ⌝ }
 {
     let a = start_of(ws, m, s, r);
@@ -60,8 +55,7 @@ pub fn list_of(ws: &[u16], m: usize, s: usize, r: usize) -> &[u16]
 
 // A number in two halves is stored.
 fn set_wide(ws: &mut [u16], m: usize, a: usize, v: usize)
-    requires { ⌜ a + m < length (now ws) ⌝ }
-    requires { ⌜ v < wideEnd ⌝ }
+    requires { ⌜ (a + m < length (now ws)) × (v < wideEnd) ⌝ }
     ensures { λ _. ⌜ now (ws .exit) ≡ set (set (now (ws .entry)) a (v % 65536)) (a + m) (v / 65536) ⌝ }
 {
     ws[a] = (v % 65536) as u16;
@@ -72,8 +66,7 @@ fn set_wide(ws: &mut [u16], m: usize, a: usize, v: usize)
 pub fn set_part(ws: &mut [u16], m: usize, s: usize, r: usize, a: usize, e: usize)
     requires { ⌜ s + 4 * m ≤ length (now ws) ⌝ }
     requires { ⌜ r < m ⌝ }
-    requires { ⌜ a < wideEnd ⌝ }
-    requires { ⌜ e < wideEnd ⌝ }
+    requires { ⌜ (a < wideEnd) × (e < wideEnd) ⌝ }
     ensures { λ _. ⌜ Placed m s r a e (now (ws .entry)) (now (ws .exit)) ⌝ }
 {
     set_wide(ws, m, s + r, a);

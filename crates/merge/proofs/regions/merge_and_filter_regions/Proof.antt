@@ -19,7 +19,7 @@ number-requires : tie.Need-number-requires
 number-requires c κs = let g = c .before .before .before .before in
     let f = g .before .before .before .before in
     let p = f .before .before .before .before .pre in
-    (search calm-column, (search calm-blank, (p .named, omega (arith, p .room, f .filter .kept .0, g .merge-all .kept .0))))
+    (search calm-column, search calm-blank, p .named, omega (arith, p .room, f .filter .kept .0, g .merge-all .kept .0))
 
 same-length : tie.Need-same-length
 same-length c = search needs

@@ -49,7 +49,7 @@ pub record Found (m f : ℕ) (ws : List ℕ) : Type 0 where
   pub found : (x : ℕ) → x < f → getD ws (foundAt m + x) 0 < m
   pub blank : (x : ℕ) → f ≤ x → x < m → getD ws (foundAt m + x) 0 ≡ 0
 
--- f are found, and no record twice
+-- records that can be read, f of them found
 abbrev pub Gathered : ℕ → ℕ → List ℕ → Type 0
 Gathered m f ws = RecordsIn m ws × Found m f ws × (f ≤ m)
 

@@ -40,14 +40,14 @@ use Rattle.merge.proofs.TurnLaws.{Rounds, rounds-start, rounds-go, roun
 pub part-length : (end : ℕ) (ws : List ℕ) → end ≤ length ws → length (take end ws) ≡ end
 part-length end ws h = length-take-le end ws h
 
-pub merged-in : (area i m end : ℕ) (ws ys : List ℕ) (merges : ℕ) (r : Round) → end ≤ length ws → length ys ≡ length (take end ws)
-    → record { recs = recsOf ys m; merges = r .merges } ≡ mergeOneF area i (record { recs = recsOf (take end ws) m; merges = merges })
-    → PoolIn m (r .half) ys → r .merges ≤ merges + 1 → LaidIn m (r .half) ys
-    → MergedIn area i m end ws merges (ys ++ drop end ws) r
-merged-in area i m end ws ys merges r h l e P k L =
+pub merged-in : (area i m end : ℕ) (ws ys : List ℕ) (g r : Round) → end ≤ length ws → length ys ≡ length (take end ws)
+    → record { recs = recsOf ys m; merges = r .merges } ≡ mergeOneF area i (record { recs = recsOf (take end ws) m; merges = g .merges })
+    → PoolIn m (r .half) ys → r .merges ≤ g .merges + 1 → LaidIn m (r .half) ys → r .half .size ≡ g .half .size
+    → MergedIn area i m end ws g (ys ++ drop end ws) r
+merged-in area i m end ws ys g r h l e P k L s =
     let n : length ys ≡ end = l ∙ length-take-le end ws h in
     let t = take-at ys (drop end ws) end n in
-    record { same = rw t e; pool = rw t P; more = k; laid = rw t L; past = drop-at ys (drop end ws) end n }
+    record { same = rw t e; pool = rw t P; more = k; sized = s; laid = rw t L; past = drop-at ys (drop end ws) end n }
 
 past-at : (end x : ℕ) (ws ws′ : List ℕ) → end ≤ x → drop end ws′ ≡ drop end ws → getD ws′ x 0 ≡ getD ws x 0
 past-at end x ws ws′ h e =
@@ -87,7 +87,7 @@ pool-mid m p h o end ws l P = omega (arith, P .halves .past, P .halves .into, le
 
 module _ (area i m end : ℕ) (ws : List ℕ) (g : Noted) (h : i < m) (room : end + 2 * m ≤ length ws) (mid : 16 * m ≤ end)
     (j : Joined (recsOf (take end ws) m)) (few : g .count + owners m (recsOf (take end ws) m) ≤ m)
-    (ws₁ : List ℕ) (r : Round) (k : MergedIn area i m end ws (g .round .merges) ws₁ r) (size : length ws₁ ≡ length ws) where
+    (ws₁ : List ℕ) (r : Round) (k : MergedIn area i m end ws (g .round) ws₁ r) (size : length ws₁ ≡ length ws) where
   falls : owners m (recsOf (take end ws₁) m) + r .merges ≤ owners m (recsOf (take end ws) m) + g .round .merges
   falls =
       let f = one-falls area i m (record { recs = j .rs; merges = g .round .merges }) (mergeAt m end ws (g .round .merges)) (record { recs = j .alike; merges = refl }) h in
@@ -105,6 +105,7 @@ module _ (area i m end : ℕ) (ws : List ℕ) (g : Noted) (h : i < m) (room : en
     same = k .same;
     pool = k .pool;
     more = k .more;
+    sized = k .sized;
     laid = k .laid;
     few = omega (arith, falls);
     told = kept ∙ sym (tells-none area i (mergeAt m end ws (g .round .merges)) (mergingsAt ws end (g .count)) (merges-is ∙ e));
@@ -150,6 +151,7 @@ module _ (area i m end : ℕ) (ws : List ℕ) (g : Noted) (h : i < m) (room : en
       same = rw part₂ (k .same);
       pool = rw part₂ (k .pool);
       more = k .more;
+      sized = k .sized;
       laid = rw part₂ (k .laid);
       few = rw part₂ (omega (arith, falls, more-by, few));
       told =
@@ -167,18 +169,19 @@ round-tells area k g l = rw add-one
 
 module _ (area m end : ℕ) (ws₀ : List ℕ) (count : ℕ) where
   pub round-start : (half : Half) → PoolIn m half (take end ws₀) → LaidIn m half (take end ws₀) → count + owners m (recsOf (take end ws₀) m) ≤ m
-      → NotedRound area 0 m end ws₀ count ws₀ (record { round = record { half = half; merges = 0 }; count = count })
+      → NotedRound area 0 m (half .size) end ws₀ count ws₀ (record { round = record { half = half; merges = 0 }; count = count })
   unfolding upto roundMergesF
-  round-start half P L f = record { same = refl; less = omega arith; pool = P; laid = L; few = f; told = refl }
+  round-start half P L f = record { same = refl; less = omega arith; sized = refl; pool = P; laid = L; few = f; told = refl }
 
-  module _ (i : ℕ) (ws : List ℕ) (g : Noted) (v : NotedRound area i m end ws₀ count ws g) where
+  module _ (i size : ℕ) (ws : List ℕ) (g : Noted) (v : NotedRound area i m size end ws₀ count ws g) where
     pub round-joined : Joined (recsOf (take end ws₀) m) → Joined (recsOf (take end ws) m)
     round-joined j = joined-at area m i (take end ws₀) (take end ws) (g .round .merges) j (v .same)
 
-    pub round-next : (ws′ : List ℕ) (r : Noted) → NotedOne area i m end ws g ws′ r → NotedRound area (i + 1) m end ws₀ count ws′ r
+    pub round-next : (ws′ : List ℕ) (r : Noted) → NotedOne area i m end ws g ws′ r → NotedRound area (i + 1) m size end ws₀ count ws′ r
     round-next ws′ r k = record {
       same = k .same ∙ ap (mergeOneF area i) (v .same) ∙ sym (upto-next i (mergeOneF area) (mergeAt m end ws₀ 0));
       less = omega (arith, k .more, v .less);
+      sized = k .sized ∙ v .sized;
       pool = k .pool;
       laid = k .laid;
       few = k .few;
@@ -187,7 +190,7 @@ module _ (area m end : ℕ) (ws₀ : List ℕ) (count : ℕ) where
           ∙ sym (round-tells area i (mergeAt m end ws₀ 0) (mergingsAt ws₀ end count));
     }
 
-    pub round-done : i ≤ m → m ≤ i → NotedRound area m m end ws₀ count ws g
+    pub round-done : i ≤ m → m ≤ i → NotedRound area m m size end ws₀ count ws g
     round-done h k = let e : i ≡ m = omega arith in rw e at v
 
 -- ---------------------------------------------------------------- all rounds
@@ -242,7 +245,7 @@ all-start area m n end ws P j = record {
 }
 
 module _ (area m end : ℕ) (ws₀ ws : List ℕ) (half : Half) (count : ℕ) (v : AllNoted area m end ws₀ ws half count)
-    (ws′ : List ℕ) (g : Noted) (k : NotedRound area m m end ws count ws′ g) (size : length ws′ ≡ length ws) where
+    (ws′ : List ℕ) (g : Noted) (k : NotedRound area m m (half .size) end ws count ws′ g) (size : length ws′ ≡ length ws) where
   whole : upto (length (recsOf (take end ws) m)) (mergeOneF area) (mergeAt m end ws 0) ≡ mergeAt m end ws′ (g .round .merges)
   whole = ap (λ (n : ℕ). upto n (mergeOneF area) (mergeAt m end ws 0)) (recs-length (take end ws) m) ∙ sym (k .same)
 

@@ -49,10 +49,11 @@ abbrev pub mergeAt : ℕ → ℕ → List ℕ → ℕ → Merge
 mergeAt m end ws merges = roundAt m (take end ws) merges
 
 -- what a record's turn leaves: all past the records stays
-pub record MergedIn (area i m end : ℕ) (ws : List ℕ) (merges : ℕ) (ws′ : List ℕ) (r : Round) : Type 0 where
-  pub same : mergeAt m end ws′ (r .merges) ≡ mergeOneF area i (mergeAt m end ws merges)
+pub record MergedIn (area i m end : ℕ) (ws : List ℕ) (g : Round) (ws′ : List ℕ) (r : Round) : Type 0 where
+  pub same : mergeAt m end ws′ (r .merges) ≡ mergeOneF area i (mergeAt m end ws (g .merges))
   pub pool : PoolIn m (r .half) (take end ws′)
-  pub more : r .merges ≤ merges + 1
+  pub more : r .merges ≤ g .merges + 1
+  pub sized : r .half .size ≡ g .half .size
   pub laid : LaidIn m (r .half) (take end ws′)
   pub past : drop end ws′ ≡ drop end ws
 
@@ -61,14 +62,16 @@ pub record NotedOne (area i m end : ℕ) (ws : List ℕ) (g : Noted) (ws′ : Li
   pub same : mergeAt m end ws′ (r .round .merges) ≡ mergeOneF area i (mergeAt m end ws (g .round .merges))
   pub pool : PoolIn m (r .round .half) (take end ws′)
   pub more : r .round .merges ≤ g .round .merges + 1
+  pub sized : r .round .half .size ≡ g .round .half .size
   pub laid : LaidIn m (r .round .half) (take end ws′)
   pub few : r .count + owners m (recsOf (take end ws′) m) ≤ m
   pub told : mergingsAt ws′ end (r .count) ≡ tellsF area i (mergeAt m end ws (g .round .merges)) (mergingsAt ws end (g .count))
 
 -- what the first i records of a round leave
-pub record NotedRound (area i m end : ℕ) (ws : List ℕ) (count : ℕ) (ws′ : List ℕ) (r : Noted) : Type 0 where
+pub record NotedRound (area i m size end : ℕ) (ws : List ℕ) (count : ℕ) (ws′ : List ℕ) (r : Noted) : Type 0 where
   pub same : mergeAt m end ws′ (r .round .merges) ≡ upto i (mergeOneF area) (mergeAt m end ws 0)
   pub less : r .round .merges ≤ i
+  pub sized : r .round .half .size ≡ size
   pub pool : PoolIn m (r .round .half) (take end ws′)
   pub laid : LaidIn m (r .round .half) (take end ws′)
   pub few : r .count + owners m (recsOf (take end ws′) m) ≤ m

@@ -69,66 +69,68 @@ fn place_of(ws: &[u16], m: usize, i: usize, r: u16) -> usize
 }
 
 // The neighbour n absorbs record i, if each lists the other.
-fn try_merge(ws: &mut [u16], m: usize, i: usize, n: usize, g: Round) -> Round
-    requires { ⌜ PoolIn m (g .half) (now ws) × LaidIn m (g .half) (now ws) × (g .merges < 65536) ⌝ }
+fn try_merge(ws: &mut [u16], m: usize, i: usize, n: usize, round: Round) -> Round
+    requires { ⌜ PoolIn m (round .half) (now ws) × LaidIn m (round .half) (now ws) × (round .merges < 65536) ⌝ }
     requires { ⌜ (i < m) × (n < m) × (i ≡ n → ⊥) ⌝ }
     requires { ⌜ (getD (now ws) i 0 ≡ 0 → ⊥) × (getD (now ws) n 0 ≡ 0 → ⊥) × (getD (now ws) i 0 ≡ n → ⊥) ⌝ }
-    ensures { λ r. ⌜ roundAt m (now (ws .exit)) (r .merges) ≡ tryMerge i n (roundAt m (now (ws .entry)) (g .merges)) ⌝ }
-    ensures { λ r. ⌜ PoolIn m (r .half) (now (ws .exit)) × LaidIn m (r .half) (now (ws .exit)) × (r .merges ≤ g .merges + 1) ⌝ }
+    ensures { λ r. ⌜ roundAt m (now (ws .exit)) (r .merges) ≡ tryMerge i n (roundAt m (now (ws .entry)) (round .merges)) ⌝ }
+    ensures { λ r. ⌜ PoolIn m (r .half) (now (ws .exit)) × LaidIn m (r .half) (now (ws .exit)) × (r .merges ≤ round .merges + 1)
+        × (r .half .size ≡ round .half .size) ⌝ }
 {
-    let a = ws[i];
-    let b = ws[n];
-    let k = place_of(ws, m, n, a);
-    if k == len_of(ws, m, n) {
-        return g;
+    let own = ws[i];
+    let other = ws[n];
+    let entry = place_of(ws, m, n, own);
+    if entry == len_of(ws, m, n) {
+        return round;
     }
-    let j = place_of(ws, m, i, b);
-    if j == len_of(ws, m, i) {
-        return g;
+    let back = place_of(ws, m, i, other);
+    if back == len_of(ws, m, i) {
+        return round;
     }
     let pair = Pair {
         absorber: n,
-        entry: k,
+        entry,
         absorbed: i,
-        back: j,
+        back,
     };
     Round {
-        half: merge_regions(ws, m, pair, g.half),
-        merges: g.merges + 1,
+        half: merge_regions(ws, m, pair, round.half),
+        merges: round.merges + 1,
     }
 }
 
 // Record i of a round.
-pub(crate) fn merge_one(ws: &mut [u16], m: usize, area: u16, i: usize, g: Round) -> Round
-    requires { ⌜ PoolIn m (g .half) (now ws) × LaidIn m (g .half) (now ws) × (g .merges < 65536) ⌝ }
+pub(crate) fn merge_one(ws: &mut [u16], m: usize, area: u16, i: usize, round: Round) -> Round
+    requires { ⌜ PoolIn m (round .half) (now ws) × LaidIn m (round .half) (now ws) × (round .merges < 65536) ⌝ }
     requires { ⌜ Reps (recsOf (now ws) m) × (i < m) ⌝ }
-    ensures { λ r. ⌜ roundAt m (now (ws .exit)) (r .merges) ≡ mergeOneF area i (roundAt m (now (ws .entry)) (g .merges)) ⌝ }
-    ensures { λ r. ⌜ PoolIn m (r .half) (now (ws .exit)) × LaidIn m (r .half) (now (ws .exit)) × (r .merges ≤ g .merges + 1) ⌝ }
+    ensures { λ r. ⌜ roundAt m (now (ws .exit)) (r .merges) ≡ mergeOneF area i (roundAt m (now (ws .entry)) (round .merges)) ⌝ }
+    ensures { λ r. ⌜ PoolIn m (r .half) (now (ws .exit)) × LaidIn m (r .half) (now (ws .exit)) × (r .merges ≤ round .merges + 1)
+        × (r .half .size ≡ round .half .size) ⌝ }
 {
     if may_merge(ws, m, area, i) {} else {
-        return g;
+        return round;
     }
     let best = pick(ws, m, i);
     let id = best.id;
     if id == ws[i] {
-        return g;
+        return round;
     }
-    try_merge(ws, m, i, id as usize, g)
+    try_merge(ws, m, i, id as usize, round)
 }
 
 // A round: all records, in order.
 fn merge_round(ws: &mut [u16], m: usize, area: u16, half: Half) -> Round
     requires { ⌜ PoolIn m half (now ws) × LaidIn m half (now ws) × Joined (recsOf (now ws) m) ⌝ }
     ensures { λ r. ⌜ roundAt m (now (ws .exit)) (r .merges) ≡ upto m (mergeOneF area) (roundAt m (now (ws .entry)) 0) ⌝ }
-    ensures { λ r. ⌜ PoolIn m (r .half) (now (ws .exit)) × LaidIn m (r .half) (now (ws .exit)) ⌝ }
+    ensures { λ r. ⌜ PoolIn m (r .half) (now (ws .exit)) × LaidIn m (r .half) (now (ws .exit)) × (r .half .size ≡ half .size) ⌝ }
 {
-    let mut g = Round { half, merges: 0 };
+    let mut round = Round { half, merges: 0 };
     let mut i = 0;
     while i < m {
-        g = merge_one(ws, m, area, i, g);
+        round = merge_one(ws, m, area, i, round);
         i += 1;
     }
-    g
+    round
 }
 
 // Rounds until one merges nothing. Nothing is known of how the lists lie in the first half, so all of it counts as used.
@@ -147,10 +149,10 @@ pub(crate) fn merge_all(ws: &mut [u16], m: usize, n: usize, area: u16)
         top: second,
     };
     loop {
-        let g = merge_round(ws, m, area, half);
-        if g.merges == 0 {
+        let round = merge_round(ws, m, area, half);
+        if round.merges == 0 {
             return;
         }
-        half = g.half;
+        half = round.half;
     }
 }

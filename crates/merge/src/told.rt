@@ -22,12 +22,12 @@ pub struct Noted {
 }
 
 // Record i of a round, over the records before `end`.
-fn merge_in(ws: &mut [u16], end: usize, m: usize, area: u16, i: usize, g: Round) -> Round
-    requires { ⌜ (end ≤ length (now ws)) × PoolIn m (g .half) (take end (now ws)) × LaidIn m (g .half) (take end (now ws)) ⌝ }
-    requires { ⌜ Reps (recsOf (take end (now ws)) m) × (i < m) × (g .merges < 65536) ⌝ }
-    ensures { λ r. ⌜ MergedIn area i m end (now (ws .entry)) (g .merges) (now (ws .exit)) r ⌝ }
+fn merge_in(ws: &mut [u16], end: usize, m: usize, area: u16, i: usize, round: Round) -> Round
+    requires { ⌜ (end ≤ length (now ws)) × PoolIn m (round .half) (take end (now ws)) × LaidIn m (round .half) (take end (now ws)) ⌝ }
+    requires { ⌜ Reps (recsOf (take end (now ws)) m) × (i < m) × (round .merges < 65536) ⌝ }
+    ensures { λ r. ⌜ MergedIn area i m end (now (ws .entry)) round (now (ws .exit)) r ⌝ }
 {
-    merge_one(&mut ws[..end], m, area, i, g)
+    merge_one(&mut ws[..end], m, area, i, round)
 }
 
 // A merge is noted at place b.
@@ -40,26 +40,26 @@ fn note_merge(ws: &mut [u16], b: usize, old: u16, new: u16)
 }
 
 // Record i of a round; if it merges, that is noted.
-fn merge_one_noted(ws: &mut [u16], end: usize, m: usize, area: u16, i: usize, g: Noted) -> Noted
-    requires { ⌜ (end + 2 * m ≤ length (now ws)) × PoolIn m (g .round .half) (take end (now ws)) × LaidIn m (g .round .half) (take end (now ws)) ⌝ }
-    requires { ⌜ Joined (recsOf (take end (now ws)) m) × (i < m) × (g .round .merges < 65536)
-        × (g .count + owners m (recsOf (take end (now ws)) m) ≤ m) ⌝ }
-    ensures { λ r. ⌜ NotedOne area i m end (now (ws .entry)) g (now (ws .exit)) r ⌝ }
+fn merge_one_noted(ws: &mut [u16], end: usize, m: usize, area: u16, i: usize, noted: Noted) -> Noted
+    requires { ⌜ (end + 2 * m ≤ length (now ws)) × PoolIn m (noted .round .half) (take end (now ws)) × LaidIn m (noted .round .half) (take end (now ws)) ⌝ }
+    requires { ⌜ Joined (recsOf (take end (now ws)) m) × (i < m) × (noted .round .merges < 65536)
+        × (noted .count + owners m (recsOf (take end (now ws)) m) ≤ m) ⌝ }
+    ensures { λ r. ⌜ NotedOne area i m end (now (ws .entry)) noted (now (ws .exit)) r ⌝ }
 {
     let old = ws[i];
-    let before = g.round;
-    let r = merge_in(ws, end, m, area, i, before);
-    if r.merges == before.merges {
+    let before = noted.round;
+    let round = merge_in(ws, end, m, area, i, before);
+    if round.merges == before.merges {
         return Noted {
-            round: r,
-            count: g.count,
+            round,
+            count: noted.count,
         };
     }
     let new = ws[i];
-    note_merge(ws, end + 2 * g.count, old, new);
+    note_merge(ws, end + 2 * noted.count, old, new);
     Noted {
-        round: r,
-        count: g.count + 1,
+        round,
+        count: noted.count + 1,
     }
 }
 
@@ -74,18 +74,18 @@ fn merge_round_noted(
 ) -> Noted
     requires { ⌜ (end + 2 * m ≤ length (now ws)) × PoolIn m half (take end (now ws)) × LaidIn m half (take end (now ws)) ⌝ }
     requires { ⌜ Joined (recsOf (take end (now ws)) m) × (count + owners m (recsOf (take end (now ws)) m) ≤ m) ⌝ }
-    ensures { λ r. ⌜ NotedRound area m m end (now (ws .entry)) count (now (ws .exit)) r ⌝ }
+    ensures { λ r. ⌜ NotedRound area m m (half .size) end (now (ws .entry)) count (now (ws .exit)) r ⌝ }
 {
-    let mut g = Noted {
+    let mut noted = Noted {
         round: Round { half, merges: 0 },
         count,
     };
     let mut i = 0;
     while i < m {
-        g = merge_one_noted(ws, end, m, area, i, g);
+        noted = merge_one_noted(ws, end, m, area, i, noted);
         i += 1;
     }
-    g
+    noted
 }
 
 // Rounds until one merges nothing. Gives how many merges are noted.
@@ -104,12 +104,12 @@ pub(crate) fn merge_all_noted(ws: &mut [u16], end: usize, m: usize, n: usize, ar
     };
     let mut count = 0;
     loop {
-        let g = merge_round_noted(ws, end, m, area, half, count);
-        let r = g.round;
-        if r.merges == 0 {
-            return g.count;
+        let noted = merge_round_noted(ws, end, m, area, half, count);
+        let round = noted.round;
+        if round.merges == 0 {
+            return noted.count;
         }
-        half = r.half;
-        count = g.count;
+        half = round.half;
+        count = noted.count;
     }
 }

@@ -40,7 +40,7 @@ fn join_lists(
         entry: pair.back,
     };
     let end = join(ws, absorber, absorbed, to, limit);
-    replace_neighbour(ws, to, end, names.old, names.new)
+    replace_neighbour(ws, to, end, names)
 }
 
 // The joined list is the absorber's, and the absorbed one's is empty. Gives where the joined list ends.

@@ -1,4 +1,5 @@
 // New lists, written beside the old ones.
+use crate::Renaming;
 use crate::lists::remove_adjacent_neighbours;
 use crate::lists::swap;
 use table::place;
@@ -18,7 +19,7 @@ pub struct Around {
     pub entry: usize,
 }
 
-// The part a .. e, again at `to`, below `limit`.
+// The part a .. e, again at `to`. Where the room for it ends, `limit`, only the contracts read, here and in all that calls this.
 pub(crate) fn copy(ws: &mut [u16], a: usize, e: usize, to: usize, limit: usize)
     requires { ⌜ CopyRoom a e to limit (now ws) ⌝ }
     ensures { λ _. ⌜ part to (to + (e - a)) (now (ws .exit)) ≡ part a e (now (ws .entry)) ⌝ }
@@ -46,17 +47,17 @@ fn copy_around(ws: &mut [u16], l: Around, to: usize, limit: usize) -> usize
 }
 
 // In the part a .. e every old becomes new, and adjacent duplicates go, if there is one. Gives where the part ends.
-pub(crate) fn replace_neighbour(ws: &mut [u16], a: usize, e: usize, old: u16, new: u16) -> usize
+pub(crate) fn replace_neighbour(ws: &mut [u16], a: usize, e: usize, names: Renaming) -> usize
     requires { ⌜ (a ≤ e) × (e ≤ length (now ws)) ⌝ }
-    ensures { λ r. ⌜ part a r (now (ws .exit)) ≡ renamedList old new (part a e (now (ws .entry))) ⌝ }
+    ensures { λ r. ⌜ part a r (now (ws .exit)) ≡ renamedList (names .old) (names .new) (part a e (now (ws .entry))) ⌝ }
     ensures { λ r. ⌜ (a ≤ r) × (r ≤ e) ⌝ }
     ensures { λ r. ⌜ Frame a e (now (ws .entry)) (now (ws .exit)) ⌝ }
 {
-    let k = place(&ws[a..e], old);
+    let k = place(&ws[a..e], names.old);
     if k == e - a {
         return e;
     }
-    swap(&mut ws[a..e], old, new);
+    swap(&mut ws[a..e], names.old, names.new);
     let n = remove_adjacent_neighbours(&mut ws[a..e]);
     a + n
 }

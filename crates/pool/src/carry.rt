@@ -25,7 +25,7 @@ fn rename_live(ws: &mut [u16], x: usize, a: usize, e: usize, names: Renaming) ->
     if ws[x] == 0 {
         return e;
     }
-    replace_neighbour(ws, a, e, names.old, names.new)
+    replace_neighbour(ws, a, e, names)
 }
 
 // Record x's list, carried to `to`, below `limit`. Gives where it ends.
@@ -33,12 +33,12 @@ fn carry_one(ws: &mut [u16], m: usize, x: usize, names: Renaming, to: usize, lim
     requires { ⌜ Source m x to limit (now ws) ⌝ }
     ensures { λ r. ⌜ Moved m x (names .old) (names .new) to r (now (ws .entry)) (now (ws .exit)) ⌝ }
 {
-    let a = start_of(ws, m, LISTS * m, x);
-    let e = end_of(ws, m, LISTS * m, x);
-    copy(ws, a, e, to, limit);
-    let f = rename_live(ws, x, to, to + (e - a), names);
-    set_part(ws, m, LISTS * m, x, to, f);
-    f
+    let start = start_of(ws, m, LISTS * m, x);
+    let end = end_of(ws, m, LISTS * m, x);
+    copy(ws, start, end, to, limit);
+    let left = rename_live(ws, x, to, to + (end - start), names);
+    set_part(ws, m, LISTS * m, x, to, left);
+    left
 }
 
 // The same, of any record but the pair.

@@ -16,9 +16,9 @@ pub(crate) fn own_part(ws: &mut [u16], half: Half, a: usize, e: usize, x: usize)
     requires { ⌜ (half .now ≤ a) × (a ≤ e) × (half .other + (e - half .now) ≤ length (now ws)) × (x < 65536) ⌝ }
     ensures { λ _. ⌜ OwnedPart (half .now) (half .other) a e x (now (ws .entry)) (now (ws .exit)) ⌝ }
 {
-    let b = half.other + (a - half.now);
-    let f = half.other + (e - half.now);
-    fill(&mut ws[b..f], x as u16);
+    let from = half.other + (a - half.now);
+    let until = half.other + (e - half.now);
+    fill(&mut ws[from..until], x as u16);
 }
 
 // The list of record x.
@@ -28,9 +28,9 @@ fn own_one(ws: &mut [u16], m: usize, x: usize, half: Half)
         let end = listEnd (now (ws .entry)) m x in
         OwnedPart (half .now) (half .other) start end x (now (ws .entry)) (now (ws .exit))) ⌝ }
 {
-    let a = start_of(ws, m, LISTS * m, x);
-    let e = end_of(ws, m, LISTS * m, x);
-    own_part(ws, half, a, e, x);
+    let start = start_of(ws, m, LISTS * m, x);
+    let end = end_of(ws, m, LISTS * m, x);
+    own_part(ws, half, start, end, x);
 }
 
 // All lists.

@@ -22,13 +22,13 @@ fn rename_list(ws: &mut [u16], m: usize, x: usize, names: Renaming)
     requires { ⌜ Parts m (listsAt m) (now ws) × (x < m) × (floorPartsAt m ≤ listStart (now ws) m x) × (getD (now ws) x 0 ≡ 0 → ⊥) ⌝ }
     ensures { λ _. ⌜ Renamed m x (names .old) (names .new) (now (ws .entry)) (now (ws .exit)) ⌝ }
 {
-    let a = start_of(ws, m, LISTS * m, x);
-    let e = end_of(ws, m, LISTS * m, x);
-    let f = replace_neighbour(ws, a, e, names.old, names.new);
-    if f == e {
+    let start = start_of(ws, m, LISTS * m, x);
+    let end = end_of(ws, m, LISTS * m, x);
+    let left = replace_neighbour(ws, start, end, names);
+    if left == end {
         return;
     }
-    set_part(ws, m, LISTS * m, x, a, f);
+    set_part(ws, m, LISTS * m, x, start, left);
 }
 
 // The same, of any record but the pair; a dead record's list stays.

@@ -23,7 +23,7 @@ returns c =
     let o = c .before .before in
     let s = o .before .before .before in
     let q = o .merge-one .ensures in
-    merged-in _ _ _ _ _ _ _ _ (s .pre .0 .0) (o .merge-one .kept .0) (q .0) (q .1 .0) (q .1 .2) (q .1 .1)
+    merged-in _ _ _ _ _ _ _ _ (s .pre .0 .0) (o .merge-one .kept .0) (q .0) (q .1 .0) (q .1 .2) (q .1 .1) (q .1 .3)
 
 pub merge-in-spec : {M : Type 1} → statement M
 merge-in-spec =

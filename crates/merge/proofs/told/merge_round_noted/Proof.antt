@@ -10,7 +10,7 @@ use Rattle.merge.proofs.told.merge_round_noted.Statement.{statement}
 use Rattle.merge.proofs.told.merge_round_noted.Tie as tie
 
 abbrev Inv-loop : tie.InvT-loop
-Inv-loop ws₀ end m area count g₀ i₀ ws g i = (i ≤ m) × (length ws ≡ length ws₀) × NotedRound area i m end ws₀ count ws g
+Inv-loop ws₀ end m area count g₀ i₀ ws g i = (i ≤ m) × (length ws ≡ length ws₀) × NotedRound area i m (g₀ .round .half .size) end ws₀ count ws g
 
 abbrev μ-loop : tie.MeasureT-loop
 μ-loop ws₀ end m area count g₀ i₀ ws g i = m - i
@@ -29,7 +29,7 @@ merge-one-noted-requires c κs =
     let v = l .loop .inv .2 in
     let s = S l in (
       (omega (arith, l .loop .inv .1, s .pre .0 .0), v .pool, v .laid),
-      (round-joined _ _ _ _ _ _ _ _ v (s .pre .1 .0), t .loop-test .taken, omega (arith, v .less, t .loop-test .taken, v .pool .held .few), v .few),
+      (round-joined _ _ _ _ _ _ _ _ _ v (s .pre .1 .0), t .loop-test .taken, omega (arith, v .less, t .loop-test .taken, v .pool .held .few), v .few),
     )
 
 add-i : tie.Need-add-i Inv-loop μ-loop
@@ -43,13 +43,13 @@ loop-again c =
     let o = c .before .before in
     let t = o .before .before in
     let l = t .before in
-    (omega (arith, t .loop-test .taken), o .merge-one-noted .kept .0 ∙ l .loop .inv .1, round-next _ _ _ _ _ _ _ _ (l .loop .inv .2) _ _ (o .merge-one-noted .ensures))
+    (omega (arith, t .loop-test .taken), o .merge-one-noted .kept .0 ∙ l .loop .inv .1, round-next _ _ _ _ _ _ _ _ _ (l .loop .inv .2) _ _ (o .merge-one-noted .ensures))
 
 same-length : tie.Need-same-length Inv-loop μ-loop
 same-length c = c .before .loop .inv .1
 
 returns : tie.Need-returns Inv-loop μ-loop
-returns c = let l = c .before in round-done _ _ _ _ _ _ _ _ (l .loop .inv .2) (l .loop .inv .0) (c .loop-test .left)
+returns c = let l = c .before in round-done _ _ _ _ _ _ _ _ _ (l .loop .inv .2) (l .loop .inv .0) (c .loop-test .left)
 
 pub merge-round-noted-spec : {M : Type 1} → statement M
 merge-round-noted-spec =

@@ -31,9 +31,9 @@ use Rattle.contour.specs.Ways.{Mutual, Ways}
 use Rattle.contour.proofs.Areas.{ways-areas}
 use Rattle.contour.proofs.WalkLaws.{ways-same}
 use Rattle.table.specs.View.{part, startOf, endOf, listAt, recAt, recsOf, Held}
-use Rattle.table.proofs.ViewLaws.{view-by, part-none, rec-eq, recs-at}
-use Rattle.records.specs.Cell.{twins, othersFrom}
-use Rattle.records.specs.Rows.{mine, Row, Keeping, Step, plusOne, overlaid, floored, celled, contoured, traced, tracedCut}
+use Rattle.table.proofs.ViewLaws.{view-by, view-length, part-none, rec-eq, recs-at}
+use Rattle.records.specs.Cell.{twins, othersFrom, Lies, Alike}
+use Rattle.records.specs.Rows.{mine, Row, Keeping, Known, Step, plusOne, overlaid, floored, celled, contoured, traced, tracedCut}
 use Rattle.records.specs.Fresh.{Renewed}
 use Rattle.records.specs.Stock.{Given, Reach, Blank, Built}
 use Rattle.records.specs.Build.{added, Standing, Added, Entering, Entered}
@@ -43,6 +43,7 @@ use Rattle.records.proofs.CellLaws.{any-twins}
 use Rattle.records.proofs.JoinLaws.{others-from}
 use Rattle.records.proofs.CountLaws.{many-passes, many-none, mine-not}
 use Rattle.records.proofs.RowLaws.{pool-fits, list-parts, floor-parts, step-then}
+use Rattle.records.proofs.KnownLaws.{known-made, known-none, known-alike}
 use Rattle.records.proofs.NameLaws.{own-name, lists-under, floors-below}
 
 -- ---------------------------------------------------------------- the rule's count, part by part
@@ -227,6 +228,15 @@ pub record Running (F : Field) (ids : List ℕ) (m top c : ℕ) (ws₀ ws : List
   pub size : length ws ≡ length ws₀
   pub after : (j : ℕ) → 16 * m + 70 * length ids ≤ j → getD ws j 0 ≡ getD ws₀ j 0
 
+-- the records of the last cell's spans have what these take from it
+pub record Knowing (ids : List ℕ) (m : ℕ) (last : Spans) (ws : List ℕ) : Type 0 where
+  pub known : Known ids last (recsOf ws m)
+  pub lies : Lies ids last
+
+-- before the first cell there is none
+pub know-start : (ids : List ℕ) (m : ℕ) (last : Spans) (ws : List ℕ) → last .size ≡ 0 → Knowing ids m last ws
+know-start ids m last ws z = record { known = known-none ids last (recsOf ws m) z; lies = record { inside = λ h. absurd (omega arith) } }
+
 module _ (F : Field) (ids : List ℕ) (m : ℕ) (ws₀ : List ℕ) (B : Blank ids m ws₀) (ws : List ℕ) (N : Renewed ids m m ws₀ ws) where
   new-row : (i : ℕ) → i < m → Row ids m 0 0 i ws
   new-row i h =
@@ -330,6 +340,21 @@ module _ (F : Field) (ids : List ℕ) (plan : Plan) (ws₀ p : List ℕ) (g : Gi
         few = omega (arith, es, cell-is F ok c .few);
         inside = λ h. (let z = layer-stands F ok c (cell .size - 1) (omega (arith, es)) .span in omega (arith, g .idents, ef));
         keeping = λ h. rw (first-here h) (R .keeping);
+      }
+
+      pub cell-lies : Lies ids cell
+      cell-lies = record { inside = run-enter .inside }
+
+      -- a cell like the last one is known
+      pub know-enter : (last : Spans) → Knowing ids (plan .records) last ws → Alike ids last cell → Known ids cell (recsOf ws (plan .records))
+      know-enter last k e = known-alike ids last cell (recsOf ws (plan .records)) (k .known) e
+
+      -- and each is once it is done
+      pub know-next : (t : ℕ) (ws′ : List ℕ) → Entered plan (F .area) ids cell (cell .size) top ws t ws′ → Knowing ids (plan .records) cell ws′
+      unfolding recsOf
+      know-next t ws′ D = record {
+        known = rw (D .same) (known-made (netAt (plan .table) (F .area) ws) ids cell (recsOf ws (plan .records)) (λ x pl. omega (arith, R .keeping .below x pl, view-length ws (plan .records) (7 * plan .records) (11 * plan .records))));
+        lies = cell-lies;
       }
 
       module _ (h : c < F .w * F .h) (t : ℕ) (ws′ : List ℕ) (D : Entered plan (F .area) ids cell (cell .size) top ws t ws′) where

@@ -24,10 +24,11 @@ use Rattle.contour.proofs.WalkLaws.{ways-same}
 use Rattle.table.specs.View.{startOf, endOf, listAt, recAt, view, recsOf}
 use Rattle.table.proofs.ViewLaws.{list-length, view-at, view-length, recs-at}
 use Rattle.records.specs.Cell.{twins, othersFrom}
-use Rattle.records.specs.Rows.{Keeping, Step, Slack, traced, tracedCut, marked, plusOne, overlaid, floored, celled, withArea, withList, withCut, withContour, contoured}
+use Rattle.records.specs.Rows.{Keeping, Took, Step, Slack, traced, tracedCut, marked, plusOne, overlaid, floored, celled, withArea, withList, withCut, withContour, contoured}
 use Rattle.records.specs.Map.{poolIn}
 use Rattle.records.specs.Stock.{Reach}
 use Rattle.records.proofs.CellLaws.{twins-alone, others-alone}
+use Rattle.records.proofs.KnownLaws.{celled-took}
 use Rattle.records.proofs.RowLaws.{list-parts, floor-parts, count-room, step-then, store-start, store-end}
 use Rattle.records.proofs.StepLaws.{step-none, overlaid-not, step-one, step-area, step-marked}
 use Rattle.records.proofs.TraceLaws.{list-tracing}
@@ -133,6 +134,10 @@ module _ (ids : List ℕ) (m top s : ℕ) (ws : List ℕ) (K : Keeping ids m top
   cell-alone z lo hi =
       let f : from ≡ s = omega arith in
       rw (z, f) (step-as plusOne (celled ids s 1 s) ids m r top (s + 1) ws _ (celled-alone ids s (at (recsOf ws m) r)) one)
+
+  -- its record has what it takes from its cell
+  pub cell-known : Took ids s size from (at (recsOf ws m) r) → Step (celled ids s size from) ids m r top (s + 1) ws (set ws (m + r) (getD ws (m + r) 0 + 1))
+  cell-known k = step-as plusOne (celled ids s size from) ids m r top (s + 1) ws _ (celled-took ids s size from (at (recsOf ws m) r) k) one
 
   module _ (ws₁ : List ℕ) (e₁ : ws₁ ≡ set ws (m + r) (getD ws (m + r) 0 + 1)) where
     one₁ : Step plusOne ids m r top (s + 1) ws ws₁

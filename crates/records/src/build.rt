@@ -1,5 +1,6 @@
 // The records of all regions, in one pass over the cells.
 use crate::cell::Spans;
+use crate::cell::alike;
 use crate::fresh::renew;
 use crate::grow::Plan;
 use crate::grow::add_cell;
@@ -15,7 +16,9 @@ ghost use Prim.Native.Nat.{_+_, _*_, _≤_, _<_};
 ghost use lib.ListN.{length, getD};
 ghost use Rattle.rules.specs.Growth.{plain};
 ghost use Rattle.field.specs.Lent.{lent};
+ghost use Rattle.table.specs.View.{recsOf};
 ghost use Rattle.records.specs.Map.{recordsEnd};
+ghost use Rattle.records.specs.Rows.{Known};
 ghost use Rattle.records.specs.Stock.{Given, Blank, Built};
 ghost use Rattle.records.specs.Build.{Standing, Added, Entering, Entered};
 
@@ -27,14 +30,16 @@ fn count_span(
     ws: &mut [u16],
     plan: Plan,
     cell: Spans,
+    known: bool,
     span: SpanIx,
     top: usize,
 ) -> usize
     requires { ⌜ Standing plan (now area) (now con) (now ids) cell (span .0) top (now ws) × (plain (getD (now ids) (span .0) 0) ≡ true) ⌝ }
+    requires { ⌜ (known ≡ true → Known (now ids) cell (recsOf (now ws) (plan .records))) ⌝ }
     ensures { λ t. ⌜ Added plan (now (area .entry)) (now (ids .entry)) cell (span .0) (now (ws .entry)) t (now (ws .exit)) ⌝ }
 {
     let r = at(ids, span.0);
-    add_cell(ids, ws, plan.records, top, span, r, cell);
+    add_cell(ids, ws, plan.records, top, span, r, cell, known);
     add_contour(area, con, ids, ws, plan, span, r, top)
 }
 
@@ -46,10 +51,12 @@ fn add_span(
     ws: &mut [u16],
     plan: Plan,
     cell: Spans,
+    known: bool,
     span: SpanIx,
     top: usize,
 ) -> usize
     requires { ⌜ Standing plan (now area) (now con) (now ids) cell (span .0) top (now ws) ⌝ }
+    requires { ⌜ (known ≡ true → Known (now ids) cell (recsOf (now ws) (plan .records))) ⌝ }
     ensures { λ t. ⌜ Added plan (now (area .entry)) (now (ids .entry)) cell (span .0) (now (ws .entry)) t (now (ws .exit)) ⌝ }
 {
     let s = span.0;
@@ -60,10 +67,10 @@ fn add_span(
     if RegionId(r).is_border() {
         return top;
     }
-    count_span(area, con, ids, ws, plan, cell, span, top)
+    count_span(area, con, ids, ws, plan, cell, known, span, top)
 }
 
-// All spans of a cell, layer by layer.
+// All spans of a cell, layer by layer. Where it is known that their records have what they take from the cell, it is not looked for again.
 fn add_spans(
     area: &[u8],
     con: &[u8],
@@ -71,14 +78,26 @@ fn add_spans(
     ws: &mut [u16],
     plan: Plan,
     cell: Spans,
+    known: bool,
     top: usize,
 ) -> usize
     requires { ⌜ Entering plan (now area) (now con) (now ids) cell top (now ws) ⌝ }
+    requires { ⌜ (known ≡ true → Known (now ids) cell (recsOf (now ws) (plan .records))) ⌝ }
     ensures { λ t. ⌜ Entered plan (now (area .entry)) (now (ids .entry)) cell (cell .size) top (now (ws .entry)) t (now (ws .exit)) ⌝ }
 {
     let mut end = top;
     for j in 0..cell.size {
-        end = add_span(area, con, ids, ws, plan, cell, cell.at(Layer(j)), end);
+        end = add_span(
+            area,
+            con,
+            ids,
+            ws,
+            plan,
+            cell,
+            known,
+            cell.at(Layer(j)),
+            end,
+        );
     }
     end
 }
@@ -118,7 +137,11 @@ pub fn build_records(
     };
     renew(ids, ws, next + 1);
     let mut top = 0;
+    let mut last = Spans { from: 0, size: 0 };
     for c in 0..w * h {
-        top = add_spans(area, con, ids, ws, plan, spans_of(index, count, c), top);
+        let cell = spans_of(index, count, c);
+        let known = alike(ids, last, cell);
+        top = add_spans(area, con, ids, ws, plan, cell, known, top);
+        last = cell;
     }
 }

@@ -4,12 +4,13 @@ use field::place::SpanIx;
 use region::RegionId;
 use table::place;
 ghost use mathlib.Core.Path.{_≡_};
+ghost use mathlib.Core.Bool.{true, false};
 ghost use Prim.Native.Nat.{_+_, _≤_, _<_};
 ghost use lib.ListN.{length, getD, take};
 ghost use Rattle.rules.specs.Base.{_or_};
 ghost use Rattle.rules.specs.Records.{once, onceAll};
 ghost use Rattle.rules.specs.Refusals.{mostSpans};
-ghost use Rattle.records.specs.Cell.{twin, twins, othersFrom, joinOne, Found, Joined, JoinedAll, Roomy};
+ghost use Rattle.records.specs.Cell.{twin, twins, othersFrom, joinOne, Lies, Alike, Found, Joined, JoinedAll, Roomy};
 
 // The spans of a cell: size of them, from `from` on.
 pub struct Spans {
@@ -25,6 +26,39 @@ impl Spans {
     {
         SpanIx(self.from + layer.0 as usize)
     }
+}
+
+// Are the lists the same, number by number? They are equally long.
+fn same(l: &[u16], k: &[u16]) -> bool
+    requires { ⌜ length (now k) ≡ length (now l) ⌝ }
+    ensures { λ r. ⌜ (r ≡ true → now (k .entry) ≡ now (l .entry)) × (r ≡ false → now (k .entry) ≡ now (l .entry) → ⊥) ⌝ }
+{
+    let mut i = 0;
+    while i < l.len() {
+        if k[i] != l[i] {
+            return false;
+        }
+        i += 1;
+    }
+    true
+}
+
+// Have the spans of a cell the ids of those of the last one, layer by layer? Then their records have all that they take from it. A no decides only how
+// fast: a span alone in its cell takes nothing there, so that for it the answer is no.
+pub(crate) fn alike(ids: &[u16], last: Spans, cell: Spans) -> bool
+    requires { ⌜ (length (now ids) ≤ mostSpans) × Lies (now ids) last × Lies (now ids) cell ⌝ }
+    ensures { λ r. ⌜ (r ≡ true → Alike (now (ids .entry)) last cell) ⌝ }
+{
+    if cell.size < 2 {
+        return false;
+    }
+    if last.size != cell.size {
+        return false;
+    }
+    let n = cell.size as usize;
+    let a = last.from;
+    let b = cell.from;
+    same(&ids[b..b + n], &ids[a..a + n])
 }
 
 // Met before, or other is another span and has the id.

@@ -63,6 +63,7 @@ pub record Within (ids : List ℕ) (s : ℕ) (cell : Spans) : Type 0 where
 
 -- s is one of the size spans from `from` on, and there is room for the others
 pub record Roomy (ids part : List ℕ) (s from size len : ℕ) : Type 0 where
+  pub few : size ≤ 63
   pub spans : length ids ≤ mostSpans
   pub inside : from + size ≤ length ids
   pub lower : from ≤ s

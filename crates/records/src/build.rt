@@ -7,6 +7,7 @@ use crate::grow::add_cell;
 use crate::grow::add_contour;
 use field::place::Layer;
 use field::place::SpanIx;
+use field::read::at8;
 use field::read::at32;
 use region::RegionId;
 use table::at;
@@ -95,7 +96,7 @@ fn add_spans(
             plan,
             cell,
             known,
-            cell.at(Layer(j)),
+            cell.at(Layer(j as u8)),
             end,
         );
     }
@@ -109,7 +110,7 @@ fn spans_of(index: &[u32], count: &[u8], c: usize) -> Spans
 {
     Spans {
         from: at32(index, c),
-        size: count[c],
+        size: at8(count, c),
     }
 }
 

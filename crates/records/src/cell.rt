@@ -12,10 +12,10 @@ ghost use Rattle.rules.specs.Records.{once, onceAll};
 ghost use Rattle.rules.specs.Refusals.{mostSpans};
 ghost use Rattle.records.specs.Cell.{twin, twins, othersFrom, joinOne, Lies, Alike, Found, Joined, JoinedAll, Roomy};
 
-// The spans of a cell: size of them, from `from` on.
+// The spans of a cell: size of them, from `from` on. Two numbers of one size: bytes that no field has would be copied with each cell (docs/PERFORMANCE.md).
 pub struct Spans {
     pub from: usize,
-    pub size: u8,
+    pub size: usize,
 }
 
 impl Spans {
@@ -55,7 +55,7 @@ pub(crate) fn alike(ids: &[u16], last: Spans, cell: Spans) -> bool
     if last.size != cell.size {
         return false;
     }
-    let n = cell.size as usize;
+    let n = cell.size;
     let a = last.from;
     let b = cell.from;
     same(&ids[b..b + n], &ids[a..a + n])
@@ -155,7 +155,7 @@ pub(crate) fn join(ids: &[u16], part: &mut [u16], span: SpanIx, cell: Spans, len
     let mut l = Listed { len, next: 0 };
     let mut twin = false;
     for j in 0..cell.size {
-        let other = cell.at(Layer(j));
+        let other = cell.at(Layer(j as u8));
         twin = met(ids, other, span, own, twin);
         l = join_one(ids, part, span, other, l);
     }

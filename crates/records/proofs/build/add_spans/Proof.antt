@@ -1,6 +1,7 @@
 -- The invariant `Entered`: the first j spans of the cell are added, and what is past the records is as it was.
 -- It starts with none of them; the measure is what is left of the cell.
 use Prim.Native.Nat.{_-_}
+use native.Mathlib.Omega.{arith}
 use Rattle.records.specs.Build.{Entered}
 use Rattle.records.proofs.BuildLaws.{entered-start, entered-room, entered-stand, entered-next, entered-end}
 use Rattle.records.proofs.KnownLaws.{known-run}
@@ -20,6 +21,9 @@ S c = c .before .before .before .before .before
 
 loop-holds : tie.Need-loop-holds Inv-loop μ-loop
 loop-holds c = entered-start _ _ _ _ _ _ _ (c .before .before .before .before .pre .0)
+
+cast-t16 : tie.Need-cast-t16 Inv-loop μ-loop
+cast-t16 c = let i = c .before in omega (arith, S (i .before) .pre .0 .few, i .loop-test .taken)
 
 at-requires : tie.Need-at-requires Inv-loop μ-loop
 at-requires c κs = let i = c .before in
@@ -58,6 +62,7 @@ add-spans-spec =
     Inv-loop
     μ-loop
     loop-holds
+    cast-t16
     at-requires
     add-span-requires
     add-j

@@ -11,23 +11,20 @@ use Rattle.records.proofs.cell.alike.Statement.{statement}
 use Rattle.records.proofs.cell.alike.Tie as tie
 
 -- the entry
-abbrev S : tie.After-struct-known4 → tie.Start
-S c = c .before .before .before .before .before .before .before
+abbrev S : tie.Else2 → tie.Start
+S c = c .before .before .before .before .before .before
 
-lies : (c : tie.After-struct-known4) → S c .args .cell .from + S c .args .cell .size ≤ length (now (S c .args .ids))
-lies c = S c .pre .2 .inside (omega (arith, c .before .before .before .before .if1 .left))
+lies : (c : tie.Else2) → S c .args .cell .from + S c .args .cell .size ≤ length (now (S c .args .ids))
+lies c = S c .pre .2 .inside (omega (arith, c .before .before .before .if1 .left))
 
-lies-last : (c : tie.After-struct-known4) → S c .args .last .from + S c .args .cell .size ≤ length (now (S c .args .ids))
-lies-last c = let e = c .before .if2 .left in omega (arith, e, S c .pre .1 .inside (omega (arith, e, c .before .before .before .before .if1 .left)))
+lies-last : (c : tie.Else2) → S c .args .last .from + S c .args .cell .size ≤ length (now (S c .args .ids))
+lies-last c = let e = c .if2 .left in omega (arith, e, S c .pre .1 .inside (omega (arith, e, c .before .before .before .if1 .left)))
 
 returns : tie.Need-returns
 returns c = λ e. absurd (false≢true e)
 
 returns-2 : tie.Need-returns-2
 returns-2 c = λ e. absurd (false≢true e)
-
-cast-n : tie.Need-cast-n
-cast-n c = search needs
 
 add-same : tie.Need-add-same
 add-same c = omega (arith, lies c, S c .pre .0)
@@ -63,7 +60,7 @@ same-requires : tie.Need-same-requires
 same-requires c κs = search needs
 
 returns-3 : tie.Need-returns-3
-returns-3 c = let k = c .before .before .before in λ e. alike-ids _ _ _ _ (k .before .if2 .left) refl (c .same .ensures .0 e)
+returns-3 c = let k = c .before .before .before in λ e. alike-ids _ _ _ _ (k .if2 .left) refl (c .same .ensures .0 e)
 
 pub alike-spec : {M : Type 1} → statement M
 alike-spec =
@@ -71,7 +68,6 @@ alike-spec =
     (tie.spec
     returns
     returns-2
-    cast-n
     add-same
     mul-same
     sub-same

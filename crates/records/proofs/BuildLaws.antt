@@ -4,7 +4,7 @@ use Prim.Native.Nat.{ℕ, zero, suc, _+_, _*_, _-_, _≤_, _<_}
 use native.Mathlib.Omega.{arith}
 use native.Mathlib.Nat.{add-suc, add-zero}
 use native.Mathlib.Numerals.{add-one}
-use native.Mathlib.Decide.{ℕ-discrete}
+use native.Mathlib.Decide.{ℕ-discrete, decLt}
 use mathlib.Core.Path.{_≡_, refl, sym, ap, _∙_}
 use mathlib.Core.Bool.{Bool, true, false, not, false≢true}
 use mathlib.Core.List.{List, [], _∷_}
@@ -18,7 +18,7 @@ use Rattle.rules.specs.Growth.{plain}
 use Rattle.rules.specs.Contour.{firstSolid, contour, cutShort}
 use Rattle.rules.specs.Records.{Rec, fresh, at, has, others, onceAll, counted, addSpan, records}
 use Rattle.rules.specs.Refusals.{mostSpans}
-use Rattle.laws.proofs.Basics.{upto-next, tab-at, length-tab}
+use Rattle.laws.proofs.Basics.{if-ind, upto-next, tab-at, length-tab}
 use Rattle.laws.proofs.Cells.{passed}
 use Rattle.laws.proofs.Strides.{answered}
 use Rattle.field.specs.Lent.{Celled, Stands}
@@ -43,7 +43,7 @@ use Rattle.records.proofs.CellLaws.{any-twins}
 use Rattle.records.proofs.JoinLaws.{others-from}
 use Rattle.records.proofs.CountLaws.{many-passes, many-none, mine-not}
 use Rattle.records.proofs.RowLaws.{pool-fits, list-parts, floor-parts, step-then}
-use Rattle.records.proofs.KnownLaws.{known-made, known-none, known-alike}
+use Rattle.records.proofs.KnownLaws.{known-run, known-made, known-few, known-alike}
 use Rattle.records.proofs.NameLaws.{own-name, lists-under, floors-below}
 
 -- ---------------------------------------------------------------- the rule's count, part by part
@@ -228,14 +228,14 @@ pub record Running (F : Field) (ids : List ℕ) (m top c : ℕ) (ws₀ ws : List
   pub size : length ws ≡ length ws₀
   pub after : (j : ℕ) → 16 * m + 70 * length ids ≤ j → getD ws j 0 ≡ getD ws₀ j 0
 
--- the records of the last cell's spans have what these take from it
+-- the records of the spans of the last cell with several have what these take from it
 pub record Knowing (ids : List ℕ) (m : ℕ) (last : Spans) (ws : List ℕ) : Type 0 where
   pub known : Known ids last (recsOf ws m)
   pub lies : Lies ids last
 
 -- before the first cell there is none
 pub know-start : (ids : List ℕ) (m : ℕ) (last : Spans) (ws : List ℕ) → last .size ≡ 0 → Knowing ids m last ws
-know-start ids m last ws z = record { known = known-none ids last (recsOf ws m) z; lies = record { inside = λ h. absurd (omega arith) } }
+know-start ids m last ws z = record { known = known-few ids last (recsOf ws m) (omega arith); lies = record { inside = λ h. absurd (omega arith) } }
 
 module _ (F : Field) (ids : List ℕ) (m : ℕ) (ws₀ : List ℕ) (B : Blank ids m ws₀) (ws : List ℕ) (N : Renewed ids m m ws₀ ws) where
   new-row : (i : ℕ) → i < m → Row ids m 0 0 i ws
@@ -345,17 +345,24 @@ module _ (F : Field) (ids : List ℕ) (plan : Plan) (ws₀ p : List ℕ) (g : Gi
       pub cell-lies : Lies ids cell
       cell-lies = record { inside = run-enter .inside }
 
-      -- a cell like the last one is known
-      pub know-enter : (last : Spans) → Knowing ids (plan .records) last ws → Alike ids last cell → Known ids cell (recsOf ws (plan .records))
-      know-enter last k e = known-alike ids last cell (recsOf ws (plan .records)) (k .known) e
+      module _ (last : Spans) (k : Knowing ids (plan .records) last ws) where
+        -- a cell like the last one is known, and so is one with few spans
+        pub know-enter : (1 < cell .size → Alike ids last cell) → Known ids cell (recsOf ws (plan .records))
+        know-enter e = elim (decLt 1 (cell .size)) [
+          | yes h ↦ known-alike ids last cell (recsOf ws (plan .records)) (k .known) (e h)
+          | no h ↦ known-few ids cell (recsOf ws (plan .records)) (omega arith)
+        ]
 
-      -- and each is once it is done
-      pub know-next : (t : ℕ) (ws′ : List ℕ) → Entered plan (F .area) ids cell (cell .size) top ws t ws′ → Knowing ids (plan .records) cell ws′
-      unfolding recsOf
-      know-next t ws′ D = record {
-        known = rw (D .same) (known-made (netAt (plan .table) (F .area) ws) ids cell (recsOf ws (plan .records)) (λ x pl. omega (arith, R .keeping .below x pl, view-length ws (plan .records) (7 * plan .records) (11 * plan .records))));
-        lies = cell-lies;
-      }
+        -- each is once it is done, and the last one stays known
+        pub know-next : (t : ℕ) (ws′ : List ℕ) → Entered plan (F .area) ids cell (cell .size) top ws t ws′ → (next : Spans) → next ≡ (if ltb 1 (cell .size) then cell else last)
+            → Knowing ids (plan .records) next ws′
+        unfolding recsOf
+        know-next t ws′ D next e = rw e (if-ind (λ (x : Spans). Knowing ids (plan .records) x ws′) (ltb 1 (cell .size))
+            (λ _. record {
+              known = rw (D .same) (known-made (netAt (plan .table) (F .area) ws) ids cell (recsOf ws (plan .records)) (λ x pl. omega (arith, R .keeping .below x pl, view-length ws (plan .records) (7 * plan .records) (11 * plan .records))));
+              lies = cell-lies;
+            })
+            (λ _. record { known = rw (D .same) (known-run (netAt (plan .table) (F .area) ws) ids cell last (cell .size) (recsOf ws (plan .records)) (k .known)); lies = k .lies }))
 
       module _ (h : c < F .w * F .h) (t : ℕ) (ws′ : List ℕ) (D : Entered plan (F .area) ids cell (cell .size) top ws t ws′) where
         first-next : firstOf (F .count) (c + 1) ≡ firstOf (F .count) c + cell .size

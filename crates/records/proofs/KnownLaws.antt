@@ -21,6 +21,7 @@ use Rattle.records.specs.Cell.{twin, twins, othersFrom, Alike}
 use Rattle.records.specs.Rows.{plusOne, overlaid, floored, celled, contoured, Took, Known}
 use Rattle.records.specs.Build.{added}
 use Rattle.records.specs.declared.cell.Spans.{Spans}
+use Rattle.records.proofs.CellLaws.{twins-alone, others-alone}
 
 -- ---------------------------------------------------------------- a list that ids join once
 
@@ -140,9 +141,9 @@ module _ (N : Net) (ids : List ℕ) (cell : Spans) where
   grows-run zero rs i = grows-still (at rs i)
   grows-run (suc k) rs i = grows-then (at rs i) (at (run k rs) i) _ (grows-run k rs i) (grows-added (cell .from + k) (run k rs) i)
 
-  -- what is known stays known
-  pub known-run : (k : ℕ) (rs : List Rec) → Known ids cell rs → Known ids cell (run k rs)
-  known-run k rs v = record { took = λ s l u pl. took-then ids s (cell .size) (cell .from) _ _ (v .took s l u pl) (grows-run k rs (getD ids s 0)) }
+  -- what is known of any cell stays known
+  pub known-run : (other : Spans) (k : ℕ) (rs : List Rec) → Known ids other rs → Known ids other (run k rs)
+  known-run other k rs v = record { took = λ s l u pl. took-then ids s (other .size) (other .from) _ _ (v .took s l u pl) (grows-run k rs (getD ids s 0)) }
 
   -- after k spans of the cell the records of these have what they take
   took-run : (k : ℕ) (rs : List Rec) → ((x : ℕ) → plain (getD ids x 0) ≡ true → getD ids x 0 < length rs) → (s : ℕ) → cell .from ≤ s → s < cell .from + k → plain (getD ids s 0) ≡ true
@@ -159,9 +160,16 @@ module _ (N : Net) (ids : List ℕ) (cell : Spans) where
   pub known-made : (rs : List Rec) → ((x : ℕ) → plain (getD ids x 0) ≡ true → getD ids x 0 < length rs) → Known ids cell (run (cell .size) rs)
   known-made rs b = record { took = λ s l u pl. took-run (cell .size) rs b s l u pl }
 
--- a cell with no spans
-pub known-none : (ids : List ℕ) (cell : Spans) (rs : List Rec) → cell .size ≡ 0 → Known ids cell rs
-known-none ids cell rs z = record { took = λ s l u. absurd (omega arith) }
+-- a cell with one span, or none
+pub known-few : (ids : List ℕ) (cell : Spans) (rs : List Rec) → cell .size ≤ 1 → Known ids cell rs
+unfolding any
+known-few ids cell rs z = record { took = λ s l u pl. alone s (cell .size) (cell .from) (omega arith) (omega arith) }
+  where
+    alone : (s n t : ℕ) → n ≡ 1 → t ≡ s → Took ids s n t (at rs (getD ids s 0))
+    alone s n t p q = rw (p, q) (record {
+      floors = λ v e. absurd (false≢true (rw (others-alone ids s) at e));
+      overlap = λ e. absurd (false≢true (rw (twins-alone ids s (getD ids s 0)) at e));
+    })
 
 -- ---------------------------------------------------------------- two cells with the same ids
 

@@ -1,6 +1,7 @@
 // The records of all regions, in one pass over the cells.
 use crate::cell::Spans;
-use crate::cell::alike;
+use crate::cell::is_known;
+use crate::cell::last_of;
 use crate::fresh::renew;
 use crate::grow::Plan;
 use crate::grow::add_cell;
@@ -141,8 +142,8 @@ pub fn build_records(
     let mut last = Spans { from: 0, size: 0 };
     for c in 0..w * h {
         let cell = spans_of(index, count, c);
-        let known = alike(ids, last, cell);
+        let known = is_known(ids, last, cell);
         top = add_spans(area, con, ids, ws, plan, cell, known, top);
-        last = cell;
+        last = last_of(last, cell);
     }
 }

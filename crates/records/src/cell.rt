@@ -7,7 +7,8 @@ ghost use mathlib.Core.Path.{_≡_};
 ghost use mathlib.Core.Bool.{true, false};
 ghost use Prim.Native.Nat.{_+_, _≤_, _<_};
 ghost use lib.ListN.{length, getD, take};
-ghost use Rattle.rules.specs.Base.{_or_};
+ghost use lib.Dec.{ltb};
+ghost use Rattle.rules.specs.Base.{_or_, if_then_else_};
 ghost use Rattle.rules.specs.Records.{once, onceAll};
 ghost use Rattle.rules.specs.Refusals.{mostSpans};
 ghost use Rattle.records.specs.Cell.{twin, twins, othersFrom, joinOne, Lies, Alike, Found, Joined, JoinedAll, Roomy};
@@ -43,14 +44,14 @@ fn same(l: &[u16], k: &[u16]) -> bool
     true
 }
 
-// Have the spans of a cell the ids of those of the last one, layer by layer? Then their records have all that they take from it. A no decides only how
-// fast: a span alone in its cell takes nothing there, so that for it the answer is no.
-pub(crate) fn alike(ids: &[u16], last: Spans, cell: Spans) -> bool
+// Do the records of a cell's spans have all that these take from it? Those of the last cell's have what these take from theirs; so do others with the same
+// ids, layer by layer; and a span alone in its cell takes nothing. A no decides only how fast.
+pub(crate) fn is_known(ids: &[u16], last: Spans, cell: Spans) -> bool
     requires { ⌜ (length (now ids) ≤ mostSpans) × Lies (now ids) last × Lies (now ids) cell ⌝ }
-    ensures { λ r. ⌜ (r ≡ true → Alike (now (ids .entry)) last cell) ⌝ }
+    ensures { λ r. ⌜ (r ≡ true → 1 < cell .size → Alike (now (ids .entry)) last cell) ⌝ }
 {
     if cell.size < 2 {
-        return false;
+        return true;
     }
     if last.size != cell.size {
         return false;
@@ -59,6 +60,16 @@ pub(crate) fn alike(ids: &[u16], last: Spans, cell: Spans) -> bool
     let a = last.from;
     let b = cell.from;
     same(&ids[b..b + n], &ids[a..a + n])
+}
+
+// The last cell with several spans.
+pub(crate) fn last_of(last: Spans, cell: Spans) -> Spans
+    ensures { λ r. ⌜ r ≡ (if ltb 1 (cell .size) then cell else last) ⌝ }
+{
+    if cell.size < 2 {
+        return last;
+    }
+    cell
 }
 
 // Met before, or other is another span and has the id.

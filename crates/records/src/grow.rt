@@ -163,8 +163,8 @@ pub(crate) fn add_contour(
     add_list(con, ids, ws, plan, span, r, top)
 }
 
-// The span, of id r, adds one to its record; of its cell it takes floors and overlap, unless the record is known to have them. There are none where it
-// is the only one. What the pool has, up to top, only the contract reads.
+// The span, of id r, adds one to its record; of its cell it takes floors and overlap, unless the record is known to have them. What the pool has, up to
+// top, only the contract reads.
 pub(crate) fn add_cell(
     ids: &[u16],
     ws: &mut [u16],
@@ -183,9 +183,6 @@ pub(crate) fn add_cell(
 {
     ws[m + r] += 1;
     if known {
-        return;
-    }
-    if cell.size == 1 {
         return;
     }
     let twin = add_floors(ids, ws, m, top, span, r, cell);

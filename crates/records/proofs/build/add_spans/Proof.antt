@@ -34,7 +34,7 @@ add-span-requires : tie.Need-add-span-requires Inv-loop μ-loop
 add-span-requires c κs = let i = c .before .before in
     let l = i .before in
     let v = l .loop .inv in
-    (entered-stand _ _ _ _ _ _ _ (S l .pre .0) _ _ _ v (i .loop-test .taken) _ (c .at .ensures), λ k. rw (v .same) (known-run _ _ _ _ _ (S l .pre .1 k)))
+    (entered-stand _ _ _ _ _ _ _ (S l .pre .0) _ _ _ v (i .loop-test .taken) _ (c .at .ensures), λ k. rw (v .same) (known-run _ _ _ _ _ _ (S l .pre .1 k)))
 
 add-j : tie.Need-add-j Inv-loop μ-loop
 add-j c = search needs

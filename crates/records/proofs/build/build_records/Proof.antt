@@ -57,8 +57,8 @@ spans-of-requires c κs = let l = c .before in
     let b = l .before in
     cell-in (F b) _ (P b) _ _ (S b .pre .0) (S b .pre .1 .1) (N b .renew .ensures) _ _ _ (l .loop .inv .0) (c .loop-test .taken)
 
-alike-requires : tie.Need-alike-requires Inv-loop μ-loop
-alike-requires c κs = let l = c .before .before in
+is-known-requires : tie.Need-is-known-requires Inv-loop μ-loop
+is-known-requires c κs = let l = c .before .before in
     let b = l .before in
     let R = l .loop .inv .0 in
     (R .keeping .spans, l .loop .inv .1 .lies, cell-lies (F b) _ (P b) _ _ (S b .pre .0) (S b .pre .1 .1) (N b .renew .ensures) _ _ _ R _ (c .spans-of .ensures .0) (c .spans-of .ensures .1))
@@ -70,24 +70,27 @@ add-spans-requires c κs = let a = c .before in
     let b = l .before in
     let R = l .loop .inv .0 in (
       run-enter (F b) _ (P b) _ _ (S b .pre .0) (S b .pre .1 .1) (N b .renew .ensures) _ _ _ R _ (k .spans-of .ensures .0) (k .spans-of .ensures .1),
-      λ y. know-enter (F b) _ (P b) _ _ (S b .pre .0) (S b .pre .1 .1) (N b .renew .ensures) _ _ _ R _ (k .spans-of .ensures .0) (k .spans-of .ensures .1) _ (l .loop .inv .1) (a .alike .ensures y),
+      λ y. know-enter (F b) _ (P b) _ _ (S b .pre .0) (S b .pre .1 .1) (N b .renew .ensures) _ _ _ R _ (k .spans-of .ensures .0) (k .spans-of .ensures .1) _ (l .loop .inv .1) (a .is-known .ensures y),
     )
 
+last-of-requires : tie.Need-last-of-requires Inv-loop μ-loop
+last-of-requires c κs = search needs
+
 add-c : tie.Need-add-c Inv-loop μ-loop
-add-c c = let i = c .before .before .before .before .before .before in omega (arith, grid (i .before .before), i .loop-test .taken)
+add-c c = let i = c .before .before .before .before .before .before .before in omega (arith, grid (i .before .before), i .loop-test .taken)
 
 loop-less : tie.Need-loop-less Inv-loop μ-loop
 loop-less c = search needs
 
 loop-again : tie.Need-loop-again Inv-loop μ-loop
-loop-again c = let a = c .before .before in
+loop-again c = let a = c .before .before .before in
     let k = a .before .before .before in
     let i = k .before in
     let l = i .before in
     let b = l .before in
     let R = l .loop .inv .0 in (
       run-next (F b) _ (P b) _ _ (S b .pre .0) (S b .pre .1 .1) (N b .renew .ensures) _ _ _ R _ (k .spans-of .ensures .0) (k .spans-of .ensures .1) (i .loop-test .taken) _ _ (a .add-spans .ensures),
-      know-next (F b) _ (P b) _ _ (S b .pre .0) (S b .pre .1 .1) (N b .renew .ensures) _ _ _ R _ (k .spans-of .ensures .0) (k .spans-of .ensures .1) _ _ (a .add-spans .ensures),
+      know-next (F b) _ (P b) _ _ (S b .pre .0) (S b .pre .1 .1) (N b .renew .ensures) _ _ _ R _ (k .spans-of .ensures .0) (k .spans-of .ensures .1) _ (l .loop .inv .1) _ _ (a .add-spans .ensures) _ (c .last-of .ensures),
     )
 
 same-length : tie.Need-same-length Inv-loop μ-loop
@@ -110,8 +113,9 @@ build-records-spec =
     mul-c-end
     loop-holds
     spans-of-requires
-    alike-requires
+    is-known-requires
     add-spans-requires
+    last-of-requires
     add-c
     loop-less
     loop-again

@@ -1,11 +1,11 @@
 -- `add_cell` is the rule's `celled`: one more span, then floors, then overlap, each a step on record r.
--- Counting first gives the floors of this span their room; a span alone in its cell has no more to give, nor has one whose record has all (KnownLaws).
+-- Counting first gives the floors of this span their room; where the record has what the span takes (KnownLaws), there is no more to do.
 use lib.ListN.{length-set}
 use Prim.Native.Nat.{_<_}
 use mathlib.Core.Path.{refl, _∙_}
 use lib.ListN.{length}
 use denote.Ref.{now}
-use Rattle.records.proofs.ContourLaws.{own-in, count-fits, counted-keeping, counted-slack, cell-known, cell-alone, cell-step}
+use Rattle.records.proofs.ContourLaws.{own-in, count-fits, counted-keeping, counted-slack, cell-known, cell-step}
 use native.Mathlib.Omega.{arith}
 use Rattle.records.proofs.grow.add_cell.Statement.{statement}
 use Rattle.records.proofs.grow.add_cell.Tie as tie
@@ -39,34 +39,26 @@ returns c = let b = c .before in
     let p = S b .pre in
     cell-known _ _ _ _ _ (p .0 .0) _ _ _ (p .1 .0 .0) (p .1 .0 .1) (here b) (p .1 .1 (c .if1 .taken))
 
-same-length-2 : tie.Need-same-length-2
-same-length-2 c = simp length-set
-
-returns-2 : tie.Need-returns-2
-returns-2 c = let b = c .before .before .before in
-    let p = S b .pre in
-    cell-alone _ _ _ _ _ (p .0 .0) _ _ _ (p .1 .0 .0) (p .1 .0 .1) (here b) (c .if2 .taken) (p .0 .1 .lower) (p .0 .1 .upper)
-
 add-floors-requires : tie.Need-add-floors-requires
-add-floors-requires c κs = let b = c .before .before .before .before in
+add-floors-requires c κs = let b = c .before .before in
     let p = S b .pre in
     (counted-keeping _ _ _ _ _ (p .0 .0) _ 0 0 (p .1 .0 .0) (p .1 .0 .1) (here b) _ refl, own-in _ _ _ _ _ (p .0 .0) _ 0 0 (p .1 .0 .0) (p .1 .0 .1) (here b), counted-slack _ _ _ _ _ (p .0 .0) _ 0 0 (p .1 .0 .0) (p .1 .0 .1) (here b) _ refl, p .0 .1)
 
 add-overlap-requires : tie.Need-add-overlap-requires
 add-overlap-requires c κs = let f = c .before .before .before in
-    let b = f .before .before .before .before .before in
+    let b = f .before .before .before in
     let p = S b .pre in
     (own-in _ _ _ _ _ (p .0 .0) _ 0 0 (p .1 .0 .0) (p .1 .0 .1) (here b), omega (arith, f .add-floors .ensures .0 .keeping .room))
 
-same-length-3 : tie.Need-same-length-3
-same-length-3 c = let o = c .before .before in
+same-length-2 : tie.Need-same-length-2
+same-length-2 c = let o = c .before .before in
     let f = o .before .before .before .before in
     o .add-overlap .kept .0 ∙ f .add-floors .kept .1 .0 ∙ simp length-set
 
-returns-3 : tie.Need-returns-3
-returns-3 c = let o = c .before .before in
+returns-2 : tie.Need-returns-2
+returns-2 c = let o = c .before .before in
     let f = o .before .before .before .before in
-    let b = f .before .before .before .before .before in
+    let b = f .before .before .before in
     let p = S b .pre in
     cell-step _ _ _ _ _ (p .0 .0) _ _ _ (p .1 .0 .0) (p .1 .0 .1) (here b) _ refl _ _ _ (f .add-floors .ensures .0) (f .add-floors .ensures .1) (o .add-overlap .ensures)
 
@@ -81,9 +73,7 @@ add-cell-spec =
     slice-write-ws
     same-length
     returns
-    same-length-2
-    returns-2
     add-floors-requires
     add-overlap-requires
-    same-length-3
-    returns-3)
+    same-length-2
+    returns-2)

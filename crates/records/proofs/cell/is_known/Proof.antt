@@ -7,8 +7,8 @@ use mathlib.Core.Path.{refl}
 use mathlib.Core.Bool.{false≢true}
 use lib.ListN.{length}
 use Rattle.records.proofs.CellLaws.{alike-ids}
-use Rattle.records.proofs.cell.alike.Statement.{statement}
-use Rattle.records.proofs.cell.alike.Tie as tie
+use Rattle.records.proofs.cell.is_known.Statement.{statement}
+use Rattle.records.proofs.cell.is_known.Tie as tie
 
 -- the entry
 abbrev S : tie.Else2 → tie.Start
@@ -21,7 +21,7 @@ lies-last : (c : tie.Else2) → S c .args .last .from + S c .args .cell .size �
 lies-last c = let e = c .if2 .left in omega (arith, e, S c .pre .1 .inside (omega (arith, e, c .before .before .before .if1 .left)))
 
 returns : tie.Need-returns
-returns c = λ e. absurd (false≢true e)
+returns c = λ _ h. absurd (omega (arith, h, c .if1 .taken))
 
 returns-2 : tie.Need-returns-2
 returns-2 c = λ e. absurd (false≢true e)
@@ -60,10 +60,10 @@ same-requires : tie.Need-same-requires
 same-requires c κs = search needs
 
 returns-3 : tie.Need-returns-3
-returns-3 c = let k = c .before .before .before in λ e. alike-ids _ _ _ _ (k .if2 .left) refl (c .same .ensures .0 e)
+returns-3 c = let k = c .before .before .before in λ e _. alike-ids _ _ _ _ (k .if2 .left) refl (c .same .ensures .0 e)
 
-pub alike-spec : {M : Type 1} → statement M
-alike-spec =
+pub is-known-spec : {M : Type 1} → statement M
+is-known-spec =
     tie.close
     (tie.spec
     returns

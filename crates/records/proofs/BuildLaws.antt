@@ -36,7 +36,7 @@ use Rattle.records.specs.Cell.{twins, othersFrom, Lies, Alike}
 use Rattle.records.specs.Rows.{mine, Row, Keeping, Known, Step, plusOne, overlaid, floored, celled, contoured, traced, tracedCut}
 use Rattle.records.specs.Fresh.{Renewed}
 use Rattle.records.specs.Stock.{Given, Reach, Blank, Built}
-use Rattle.records.specs.Build.{added, Standing, Added, Entering, Entered}
+use Rattle.records.specs.Build.{added, Standing, Added, Entering, Entered, Knowing}
 use Rattle.records.specs.declared.cell.Spans.{Spans}
 use Rattle.records.specs.declared.grow.Plan.{Plan}
 use Rattle.records.proofs.CellLaws.{any-twins}
@@ -218,6 +218,34 @@ module _ (plan : Plan) (ar cs ids : List ℕ) (cell : Spans) (top : ℕ) (ws₀ 
   pub entered-end : (j t : ℕ) (ws : List ℕ) → Entered plan ar ids cell j top ws₀ t ws → cell .size ≤ j → Entered plan ar ids cell (cell .size) top ws₀ t ws
   entered-end j t ws D h = let q : j ≡ cell .size = omega (arith, D .low) in rw q at D
 
+-- ---------------------------------------------------------------- what is known of a cell
+
+module _ (plan : Plan) (ar cs ids : List ℕ) (cell last : Spans) (top : ℕ) (ws : List ℕ) (E : Entering plan ar cs ids cell top ws) (k : Knowing ids (plan .records) last ws) where
+  pub cell-lies : Lies ids cell
+  cell-lies = record { inside = E .inside }
+
+  -- of one like the last one all is, and of one with few spans
+  pub know-enter : (1 < cell .size → Alike ids last cell) → Known ids cell (recsOf ws (plan .records))
+  know-enter e = elim (decLt 1 (cell .size)) [
+    | yes h ↦ known-alike ids last cell (recsOf ws (plan .records)) (k .known) (e h)
+    | no h ↦ known-few ids cell (recsOf ws (plan .records)) (omega arith)
+  ]
+
+  -- of each all is once it is done, and of the last one it stays known
+  pub know-next : 0 < cell .size → (t : ℕ) (ws′ : List ℕ) → Entered plan ar ids cell (cell .size) top ws t ws′ → (next : Spans) → next ≡ (if ltb 1 (cell .size) then cell else last)
+      → Knowing ids (plan .records) next ws′
+  unfolding recsOf
+  know-next h t ws′ D next e = rw e (if-ind (λ (x : Spans). Knowing ids (plan .records) x ws′) (ltb 1 (cell .size))
+      (λ _. record {
+        known = rw (D .same) (known-made (netAt (plan .table) ar ws) ids cell (recsOf ws (plan .records)) (λ x pl. omega (arith, E .keeping h .below x pl, view-length ws (plan .records) (7 * plan .records) (11 * plan .records))));
+        lies = cell-lies;
+      })
+      (λ _. record { known = rw (D .same) (known-run (netAt (plan .table) ar ws) ids cell last (cell .size) (recsOf ws (plan .records)) (k .known)); lies = k .lies }))
+
+  -- an empty one
+  pub entered-none : cell .size ≡ 0 → Entered plan ar ids cell (cell .size) top ws top ws
+  entered-none z = entered-end plan ar cs ids cell top ws E 0 top ws (entered-start plan ar cs ids cell top ws E) (omega arith)
+
 -- ---------------------------------------------------------------- all cells
 
 -- after the cells before c, the pool filled up to top
@@ -227,11 +255,6 @@ pub record Running (F : Field) (ids : List ℕ) (m top c : ℕ) (ws₀ ws : List
   pub same : recsOf ws m ≡ upto (firstOf (F .count) c) (addSpan F ids) (tab m 0 fresh)
   pub size : length ws ≡ length ws₀
   pub after : (j : ℕ) → 16 * m + 70 * length ids ≤ j → getD ws j 0 ≡ getD ws₀ j 0
-
--- the records of the spans of the last cell with several have what these take from it
-pub record Knowing (ids : List ℕ) (m : ℕ) (last : Spans) (ws : List ℕ) : Type 0 where
-  pub known : Known ids last (recsOf ws m)
-  pub lies : Lies ids last
 
 -- before the first cell there is none
 pub know-start : (ids : List ℕ) (m : ℕ) (last : Spans) (ws : List ℕ) → last .size ≡ 0 → Knowing ids m last ws
@@ -341,28 +364,6 @@ module _ (F : Field) (ids : List ℕ) (plan : Plan) (ws₀ p : List ℕ) (g : Gi
         inside = λ h. (let z = layer-stands F ok c (cell .size - 1) (omega (arith, es)) .span in omega (arith, g .idents, ef));
         keeping = λ h. rw (first-here h) (R .keeping);
       }
-
-      pub cell-lies : Lies ids cell
-      cell-lies = record { inside = run-enter .inside }
-
-      module _ (last : Spans) (k : Knowing ids (plan .records) last ws) where
-        -- a cell like the last one is known, and so is one with few spans
-        pub know-enter : (1 < cell .size → Alike ids last cell) → Known ids cell (recsOf ws (plan .records))
-        know-enter e = elim (decLt 1 (cell .size)) [
-          | yes h ↦ known-alike ids last cell (recsOf ws (plan .records)) (k .known) (e h)
-          | no h ↦ known-few ids cell (recsOf ws (plan .records)) (omega arith)
-        ]
-
-        -- each is once it is done, and the last one stays known
-        pub know-next : (t : ℕ) (ws′ : List ℕ) → Entered plan (F .area) ids cell (cell .size) top ws t ws′ → (next : Spans) → next ≡ (if ltb 1 (cell .size) then cell else last)
-            → Knowing ids (plan .records) next ws′
-        unfolding recsOf
-        know-next t ws′ D next e = rw e (if-ind (λ (x : Spans). Knowing ids (plan .records) x ws′) (ltb 1 (cell .size))
-            (λ _. record {
-              known = rw (D .same) (known-made (netAt (plan .table) (F .area) ws) ids cell (recsOf ws (plan .records)) (λ x pl. omega (arith, R .keeping .below x pl, view-length ws (plan .records) (7 * plan .records) (11 * plan .records))));
-              lies = cell-lies;
-            })
-            (λ _. record { known = rw (D .same) (known-run (netAt (plan .table) (F .area) ws) ids cell last (cell .size) (recsOf ws (plan .records)) (k .known)); lies = k .lies }))
 
       module _ (h : c < F .w * F .h) (t : ℕ) (ws′ : List ℕ) (D : Entered plan (F .area) ids cell (cell .size) top ws t ws′) where
         first-next : firstOf (F .count) (c + 1) ≡ firstOf (F .count) c + cell .size

@@ -1,7 +1,6 @@
 // The records of all regions, in one pass over the cells.
 use crate::cell::Spans;
-use crate::cell::is_known;
-use crate::cell::last_of;
+use crate::cell::look_back;
 use crate::fresh::renew;
 use crate::grow::Plan;
 use crate::grow::add_cell;
@@ -22,7 +21,7 @@ ghost use Rattle.table.specs.View.{recsOf};
 ghost use Rattle.records.specs.Map.{recordsEnd};
 ghost use Rattle.records.specs.Rows.{Known};
 ghost use Rattle.records.specs.Stock.{Given, Blank, Built};
-ghost use Rattle.records.specs.Build.{Standing, Added, Entering, Entered};
+ghost use Rattle.records.specs.Build.{spansAt, Standing, Added, Entering, Entered, Knowing};
 
 // A span of a region is added to its record. Gives the pool's new end.
 fn count_span(
@@ -107,11 +106,50 @@ fn add_spans(
 // The spans of cell c.
 fn spans_of(index: &[u32], count: &[u8], c: usize) -> Spans
     requires { ⌜ (c < length (now index)) × (c < length (now count)) ⌝ }
-    ensures { λ r. ⌜ (r .from ≡ getD (now (index .entry)) c 0) × (r .size ≡ getD (now (count .entry)) c 0) ⌝ }
+    ensures { λ r. ⌜ r ≡ spansAt (now (index .entry)) (now (count .entry)) c ⌝ }
 {
     Spans {
         from: at32(index, c),
         size: at8(count, c),
+    }
+}
+
+// The pool's end, and the last cell with several spans.
+pub struct Turn {
+    pub top: usize,
+    pub last: Spans,
+}
+
+// The spans of cell c are added. An empty cell is passed over at once.
+fn add_cell_at(
+    index: &[u32],
+    count: &[u8],
+    area: &[u8],
+    con: &[u8],
+    ids: &[u16],
+    ws: &mut [u16],
+    plan: Plan,
+    c: usize,
+    t: Turn,
+) -> Turn
+    requires { ⌜ (c < length (now index)) × (c < length (now count)) ⌝ }
+    requires { ⌜ (let cell = spansAt (now index) (now count) c in
+        Entering plan (now area) (now con) (now ids) cell (t .top) (now ws) × Knowing (now ids) (plan .records) (t .last) (now ws)) ⌝ }
+    ensures { λ r. ⌜ (let cell = spansAt (now (index .entry)) (now (count .entry)) c in
+        let ids₀ = now (ids .entry) in
+        Entered plan (now (area .entry)) ids₀ cell (cell .size) (t .top) (now (ws .entry)) (r .top) (now (ws .exit))
+        × Knowing ids₀ (plan .records) (r .last) (now (ws .exit))) ⌝ }
+{
+    let cell = spans_of(index, count, c);
+    if cell.size == 0 {
+        return t;
+    }
+    let last = t.last;
+    let back = look_back(ids, last, cell);
+    let next = back.last;
+    Turn {
+        top: add_spans(area, con, ids, ws, plan, cell, back.known, t.top),
+        last: next,
     }
 }
 
@@ -138,12 +176,11 @@ pub fn build_records(
         table,
     };
     renew(ids, ws, next + 1);
-    let mut top = 0;
-    let mut last = Spans { from: 0, size: 0 };
+    let mut t = Turn {
+        top: 0,
+        last: Spans { from: 0, size: 0 },
+    };
     for c in 0..w * h {
-        let cell = spans_of(index, count, c);
-        let known = is_known(ids, last, cell);
-        top = add_spans(area, con, ids, ws, plan, cell, known, top);
-        last = last_of(last, cell);
+        t = add_cell_at(index, count, area, con, ids, ws, plan, c, t);
     }
 }

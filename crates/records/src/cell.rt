@@ -44,15 +44,11 @@ fn same(l: &[u16], k: &[u16]) -> bool
     true
 }
 
-// Do the records of a cell's spans have all that these take from it? Those of the last cell's have what these take from theirs; so do others with the same
-// ids, layer by layer; and a span alone in its cell takes nothing. A no decides only how fast.
-pub(crate) fn is_known(ids: &[u16], last: Spans, cell: Spans) -> bool
-    requires { ⌜ (length (now ids) ≤ mostSpans) × Lies (now ids) last × Lies (now ids) cell ⌝ }
-    ensures { λ r. ⌜ (r ≡ true → 1 < cell .size → Alike (now (ids .entry)) last cell) ⌝ }
+// Have the spans of two cells the same ids, layer by layer? A no decides only how fast.
+fn alike(ids: &[u16], last: Spans, cell: Spans) -> bool
+    requires { ⌜ (length (now ids) ≤ mostSpans) × Lies (now ids) last × Lies (now ids) cell × (0 < cell .size) ⌝ }
+    ensures { λ r. ⌜ (r ≡ true → Alike (now (ids .entry)) last cell) ⌝ }
 {
-    if cell.size < 2 {
-        return true;
-    }
     if last.size != cell.size {
         return false;
     }
@@ -62,14 +58,38 @@ pub(crate) fn is_known(ids: &[u16], last: Spans, cell: Spans) -> bool
     same(&ids[b..b + n], &ids[a..a + n])
 }
 
-// The last cell with several spans.
-pub(crate) fn last_of(last: Spans, cell: Spans) -> Spans
-    ensures { λ r. ⌜ r ≡ (if ltb 1 (cell .size) then cell else last) ⌝ }
+// The last cell with several spans, and whether the records of this one's have all that these take from it. Filled up, as `Spans` is without gaps.
+pub struct Looked {
+    pub last: Spans,
+    pub known: bool,
+    pub fill1: u8,
+    pub fill2: u16,
+    pub fill4: u32,
+}
+
+// The records of the last cell's spans have what these take from theirs; so have others with the same ids, layer by layer; and a span alone in its cell
+// takes nothing.
+pub(crate) fn look_back(ids: &[u16], last: Spans, cell: Spans) -> Looked
+    requires { ⌜ (length (now ids) ≤ mostSpans) × Lies (now ids) last × Lies (now ids) cell ⌝ }
+    ensures { λ r. ⌜ (r .last ≡ (if ltb 1 (cell .size) then cell else last)) ⌝ }
+    ensures { λ r. ⌜ (r .known ≡ true → 1 < cell .size → Alike (now (ids .entry)) last cell) ⌝ }
 {
     if cell.size < 2 {
-        return last;
+        return Looked {
+            last,
+            known: true,
+            fill1: 0,
+            fill2: 0,
+            fill4: 0,
+        };
     }
-    cell
+    Looked {
+        last: cell,
+        known: alike(ids, last, cell),
+        fill1: 0,
+        fill2: 0,
+        fill4: 0,
+    }
 }
 
 // Met before, or other is another span and has the id.

@@ -7,18 +7,19 @@ use mathlib.Core.Path.{refl, _∙_}
 use Rattle.rules.specs.Field.{Field}
 use Rattle.field.specs.Lent.{lent}
 use Rattle.field.proofs.Passed.{sound-reached}
+use Rattle.records.specs.Build.{spansAt, Knowing}
 use Rattle.records.specs.declared.grow.Plan.{Plan}
-use Rattle.records.proofs.BuildLaws.{Running, Knowing, run-start, know-start, cell-in, cell-lies, run-enter, know-enter, run-next, know-next, built}
+use Rattle.records.proofs.BuildLaws.{Running, run-start, know-start, cell-in, run-enter, run-next, built}
 use borrow.Author.Needs.{needs}
 use native.Mathlib.Omega.{arith}
 use Rattle.records.proofs.build.build_records.Statement.{statement}
 use Rattle.records.proofs.build.build_records.Tie as tie
 
 abbrev Inv-loop : tie.InvT-loop
-Inv-loop w h index count area con ids ws₀ table next plan top₀ last₀ c₀ c-end ws top last c = Running (lent w h index count area con) ids (next + 1) top c ws₀ ws × Knowing ids (next + 1) last ws
+Inv-loop w h index count area con ids ws₀ table next plan t₀ c₀ c-end ws t c = Running (lent w h index count area con) ids (next + 1) (t .top) c ws₀ ws × Knowing ids (next + 1) (t .last) ws
 
 abbrev μ-loop : tie.MeasureT-loop
-μ-loop w h index count area con ids ws₀ table next plan top₀ last₀ c₀ c-end ws top last c = w * h - c
+μ-loop w h index count area con ids ws₀ table next plan t₀ c₀ c-end ws t c = w * h - c
 
 -- after the records are new
 abbrev N : tie.After-slice-known2 Inv-loop μ-loop → tie.After-renew Inv-loop μ-loop
@@ -52,45 +53,30 @@ mul-c-end c = omega (arith, grid c)
 loop-holds : tie.Need-loop-holds Inv-loop μ-loop
 loop-holds c = (run-start (F c) _ _ _ (S c .pre .1 .0) _ (N c .renew .ensures), know-start _ _ _ _ refl)
 
-spans-of-requires : tie.Need-spans-of-requires Inv-loop μ-loop
-spans-of-requires c κs = let l = c .before in
-    let b = l .before in
-    cell-in (F b) _ (P b) _ _ (S b .pre .0) (S b .pre .1 .1) (N b .renew .ensures) _ _ _ (l .loop .inv .0) (c .loop-test .taken)
-
-is-known-requires : tie.Need-is-known-requires Inv-loop μ-loop
-is-known-requires c κs = let l = c .before .before in
-    let b = l .before in
-    let R = l .loop .inv .0 in
-    (R .keeping .spans, l .loop .inv .1 .lies, cell-lies (F b) _ (P b) _ _ (S b .pre .0) (S b .pre .1 .1) (N b .renew .ensures) _ _ _ R _ (c .spans-of .ensures .0) (c .spans-of .ensures .1))
-
-add-spans-requires : tie.Need-add-spans-requires Inv-loop μ-loop
-add-spans-requires c κs = let a = c .before in
-    let k = a .before in
-    let l = k .before .before in
+add-cell-at-requires : tie.Need-add-cell-at-requires Inv-loop μ-loop
+unfolding spansAt
+add-cell-at-requires c κs = let i = c .before in
+    let l = i .before in
     let b = l .before in
     let R = l .loop .inv .0 in (
-      run-enter (F b) _ (P b) _ _ (S b .pre .0) (S b .pre .1 .1) (N b .renew .ensures) _ _ _ R _ (k .spans-of .ensures .0) (k .spans-of .ensures .1),
-      λ y. know-enter (F b) _ (P b) _ _ (S b .pre .0) (S b .pre .1 .1) (N b .renew .ensures) _ _ _ R _ (k .spans-of .ensures .0) (k .spans-of .ensures .1) _ (l .loop .inv .1) (a .is-known .ensures y),
+      cell-in (F b) _ (P b) _ _ (S b .pre .0) (S b .pre .1 .1) (N b .renew .ensures) _ _ _ R (i .loop-test .taken),
+      (run-enter (F b) _ (P b) _ _ (S b .pre .0) (S b .pre .1 .1) (N b .renew .ensures) _ _ _ R _ refl refl, l .loop .inv .1),
     )
 
-last-of-requires : tie.Need-last-of-requires Inv-loop μ-loop
-last-of-requires c κs = search needs
-
 add-c : tie.Need-add-c Inv-loop μ-loop
-add-c c = let i = c .before .before .before .before .before .before .before in omega (arith, grid (i .before .before), i .loop-test .taken)
+add-c c = let i = c .before .before .before .before in omega (arith, grid (i .before .before), i .loop-test .taken)
 
 loop-less : tie.Need-loop-less Inv-loop μ-loop
 loop-less c = search needs
 
 loop-again : tie.Need-loop-again Inv-loop μ-loop
-loop-again c = let a = c .before .before .before in
-    let k = a .before .before .before in
-    let i = k .before in
+unfolding spansAt
+loop-again c = let a = c .before .before in
+    let i = a .before .before in
     let l = i .before in
-    let b = l .before in
-    let R = l .loop .inv .0 in (
-      run-next (F b) _ (P b) _ _ (S b .pre .0) (S b .pre .1 .1) (N b .renew .ensures) _ _ _ R _ (k .spans-of .ensures .0) (k .spans-of .ensures .1) (i .loop-test .taken) _ _ (a .add-spans .ensures),
-      know-next (F b) _ (P b) _ _ (S b .pre .0) (S b .pre .1 .1) (N b .renew .ensures) _ _ _ R _ (k .spans-of .ensures .0) (k .spans-of .ensures .1) _ (l .loop .inv .1) _ _ (a .add-spans .ensures) _ (c .last-of .ensures),
+    let b = l .before in (
+      run-next (F b) _ (P b) _ _ (S b .pre .0) (S b .pre .1 .1) (N b .renew .ensures) _ _ _ (l .loop .inv .0) _ refl refl (i .loop-test .taken) _ _ (a .add-cell-at .ensures .0),
+      a .add-cell-at .ensures .1,
     )
 
 same-length : tie.Need-same-length Inv-loop μ-loop
@@ -112,10 +98,7 @@ build-records-spec =
     renew-requires
     mul-c-end
     loop-holds
-    spans-of-requires
-    is-known-requires
-    add-spans-requires
-    last-of-requires
+    add-cell-at-requires
     add-c
     loop-less
     loop-again

@@ -1,4 +1,4 @@
--- Both cells have several spans, so they lie among the ids, and what `same` finds of their parts is what the layers have (CellLaws). Assumes nothing.
+-- Both cells have spans, as many, so they lie among the ids, and what `same` finds of their parts is what the layers have (CellLaws). Assumes nothing.
 use Prim.Native.Nat.{_+_, _≤_}
 use native.Mathlib.Omega.{arith}
 use borrow.Author.Needs.{needs}
@@ -7,24 +7,21 @@ use mathlib.Core.Path.{refl}
 use mathlib.Core.Bool.{false≢true}
 use lib.ListN.{length}
 use Rattle.records.proofs.CellLaws.{alike-ids}
-use Rattle.records.proofs.cell.is_known.Statement.{statement}
-use Rattle.records.proofs.cell.is_known.Tie as tie
+use Rattle.records.proofs.cell.alike.Statement.{statement}
+use Rattle.records.proofs.cell.alike.Tie as tie
 
 -- the entry
-abbrev S : tie.Else2 → tie.Start
-S c = c .before .before .before .before .before .before
+abbrev S : tie.Else1 → tie.Start
+S c = c .before .before .before .before
 
-lies : (c : tie.Else2) → S c .args .cell .from + S c .args .cell .size ≤ length (now (S c .args .ids))
-lies c = S c .pre .2 .inside (omega (arith, c .before .before .before .if1 .left))
+lies : (c : tie.Else1) → S c .args .cell .from + S c .args .cell .size ≤ length (now (S c .args .ids))
+lies c = S c .pre .2 .inside (S c .pre .3)
 
-lies-last : (c : tie.Else2) → S c .args .last .from + S c .args .cell .size ≤ length (now (S c .args .ids))
-lies-last c = let e = c .if2 .left in omega (arith, e, S c .pre .1 .inside (omega (arith, e, c .before .before .before .if1 .left)))
+lies-last : (c : tie.Else1) → S c .args .last .from + S c .args .cell .size ≤ length (now (S c .args .ids))
+lies-last c = let e = c .if1 .left in omega (arith, e, S c .pre .1 .inside (omega (arith, e, S c .pre .3)))
 
 returns : tie.Need-returns
-returns c = λ _ h. absurd (omega (arith, h, c .if1 .taken))
-
-returns-2 : tie.Need-returns-2
-returns-2 c = λ e. absurd (false≢true e)
+returns c = λ e. absurd (false≢true e)
 
 add-same : tie.Need-add-same
 add-same c = omega (arith, lies c, S c .pre .0)
@@ -59,15 +56,14 @@ part-same-end-2 c = lies-last (c .before)
 same-requires : tie.Need-same-requires
 same-requires c κs = search needs
 
-returns-3 : tie.Need-returns-3
-returns-3 c = let k = c .before .before .before in λ e _. alike-ids _ _ _ _ (k .if2 .left) refl (c .same .ensures .0 e)
+returns-2 : tie.Need-returns-2
+returns-2 c = let k = c .before .before .before in λ e. alike-ids _ _ _ _ (k .if1 .left) refl (c .same .ensures .0 e)
 
-pub is-known-spec : {M : Type 1} → statement M
-is-known-spec =
+pub alike-spec : {M : Type 1} → statement M
+alike-spec =
     tie.close
     (tie.spec
     returns
-    returns-2
     add-same
     mul-same
     sub-same
@@ -79,4 +75,4 @@ is-known-spec =
     part-same-start-2
     part-same-end-2
     same-requires
-    returns-3)
+    returns-2)

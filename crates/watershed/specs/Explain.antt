@@ -74,11 +74,6 @@ withRoom reason from id long number y l = record {
 unfoldable pub roomReason : ℕ → ℕ → List ℕ → ℕ → Reason
 roomReason r a t k = if eqb a none then flooded r t k else expanded r a t k
 
--- the story's spans are numbers of 16 bits
-pub record Fits (y : Story) : Type 0 where
-  pub from : y .from ≤ none
-  pub objecting : y .objecting ≤ none
-
 -- growth is done, and nothing stopped it: the rule's ids and next id, zeros where it worked, the field's net in the table, and span s's story
 pub record Grown (F : Field) (dist : List ℕ) (most border table s next : ℕ) (y : Story) (ids ws : List ℕ) : Type 0 where
   pub passes : regionRefusal F (length dist ∷ length ids ∷ []) (length ws) dist most ≡ 0

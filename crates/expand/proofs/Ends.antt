@@ -216,7 +216,7 @@ front-entries : (n a fill : ℕ) (ids ws ws′ : List ℕ) → listAt ws′ a fi
 unfolding frontOf
 front-entries n a fill ids ws ws′ s h o = record { filled = h; spans = λ j l z. all-at (Unheld n ids) ws′ a fill (rw s (o .entries)) j l z .0 }
 
-pub kept-clear : (n a e fill : ℕ) (ws ws₂ : List ℕ) → fill ≤ n → a + n ≤ e → n ≤ a → Clear e (e + 4 * n) ws → Kept n a fill ws ws₂ → Clear e (e + 4 * n) ws₂
+kept-clear : (n a e fill : ℕ) (ws ws₂ : List ℕ) → fill ≤ n → a + n ≤ e → n ≤ a → Clear e (e + 4 * n) ws → Kept n a fill ws ws₂ → Clear e (e + 4 * n) ws₂
 kept-clear n a e fill ws ws₂ h l o c k = record { blank = λ x g u. k .same x (omega arith) (inr (omega arith)) ∙ c .blank x g u }
 
 module _ (ar : List ℕ) (a e b fill level p : ℕ) (ids ws ws₁ : List ℕ) (fl : p ≡ e + 3 * length ar) (y : Using (length ids) a fill ids ws ws₁ fill)
@@ -227,9 +227,6 @@ module _ (ar : List ℕ) (a e b fill level p : ℕ) (ids ws ws₁ : List ℕ) (f
 
   pub gone-sizes : Sizes (length ar) a e b ids₃ ws₃
   gone-sizes = sizes-kept ids₃ ws₃ (g .sizes) (r .size₁) (r .size₂ ∙ raised .size ∙ y .size)
-
-  gone-idents : length ids₃ ≡ length ar
-  gone-idents = gone-sizes .idents
 
   gone-stack : (x : ℕ) → a ≤ x → x < a + fill → getD ws₃ x 0 ≡ getD ws₂ x 0
   gone-stack x l u = r .kept x (omega (arith, g .sizes .low)) (omega (arith, g .sizes .apart, g .entries .filled))

@@ -3,16 +3,15 @@
 use mathlib.Core.Path.{_≡_, refl, sym, ap, _∙_}
 use mathlib.Core.Bool.{Bool, true, false, true≢false}
 use mathlib.Core.List.{List, map}
-use Prim.Native.Nat.{ℕ, zero, suc, _+_, _-_, _*_, _≤_, _<_}
+use Prim.Native.Nat.{ℕ, suc, _+_, _-_, _*_, _≤_, _<_}
 use native.Mathlib.Omega.{arith}
 use native.Mathlib.Decide.{ℕ-discrete}
 use lib.ListN.{length, getD}
-use lib.Dec.{eqb}
 use borrow.Author.Tests.{eq-eqb, ne-eqb, leb-true, leb-false}
 use Rattle.rules.specs.Base.{_and_, if_then_else_, any}
 use Rattle.rules.specs.Field.{none}
 use Rattle.rules.specs.Net.{Net, spans, near, areaOf}
-use Rattle.rules.specs.Growth.{Marks, Taken, flagged, plain, takes, finds, Spread, round}
+use Rattle.rules.specs.Growth.{Marks, Taken, flagged, takes, finds, Spread, round}
 use Rattle.rules.specs.Refusals.{mostSpans}
 use Rattle.rules.specs.Reasons.{Story, tookFrom, gives, source, roundTells, roundsTell}
 use Rattle.laws.proofs.Basics.{and-both, both, if-ind}
@@ -22,7 +21,7 @@ use Rattle.net.proofs.Tables.{area-none, near-at, spans-at}
 use Rattle.flood.specs.Stack.{marksAt}
 use Rattle.expand.specs.Layout.{Sight, fresh, listAt}
 use Rattle.expand.specs.Front.{Queued, Board, Spans, Front, frontOf}
-use Rattle.expand.specs.Told.{Sought, sourceAt, Took, RoundTold}
+use Rattle.expand.specs.Told.{Sought, sourceAt, RoundTold}
 use Rattle.expand.proofs.Waves.{has, keep-in, keep-out, changes}
 use Rattle.expand.proofs.Fronts.{change-queued, queued-change}
 use Rattle.expand.proofs.Looks.{no₁, no₂, no₃, near-a, own-area, at-area, at-id, at-far}

@@ -10,9 +10,8 @@ use lib.ListN.{length, getD, set, length-set, List·getD-eq-default}
 use lib.Seq.{getD-set-same, getD-set-other, set-getD}
 use Rattle.rules.specs.Field.{none}
 use Rattle.rules.specs.Refusals.{mostSpans}
-use Rattle.net.specs.Table.{lastPlace}
 use Rattle.expand.specs.Layout.{fresh, flagged, Past, Entries, Using}
-use Rattle.expand.specs.Front.{Flagging, Entering, Leaving}
+use Rattle.expand.specs.Front.{Entering, Leaving}
 use Rattle.expand.proofs.Sources.{fresh-unheld}
 use Rattle.expand.proofs.Waves.{fresh-zero, fresh-some}
 use Rattle.expand.proofs.Stacks.{using-start, using-next, using-beside}

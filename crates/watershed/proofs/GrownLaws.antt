@@ -16,7 +16,7 @@ use Rattle.rules.specs.Reasons.{Story, story, Merging, goneWith, mergings, trai
 use Rattle.laws.proofs.Lengths.{records-length, filtered-length}
 use Rattle.rooms.specs.Dense.{lower, lowered, shifted}
 use Rattle.rooms.proofs.Dense.{lower-at, formed-is}
-use Rattle.rooms.proofs.Rooms.{accepted, entry-rooms}
+use Rattle.rooms.proofs.Rooms.{entry-rooms}
 use Rattle.rooms.proofs.Entry.{first-some}
 use Rattle.reasons.proofs.Groups.{gone-fits}
 use Rattle.reasons.proofs.Room.{trail-room}

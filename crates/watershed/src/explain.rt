@@ -21,7 +21,7 @@ use wipe::wipe;
 ghost use mathlib.Core.Path.{_≡_};
 ghost use mathlib.Core.List.{List, [], _∷_, _++_};
 ghost use Prim.Native.Nat.{ℕ, _+_, _-_, _*_, _≤_, _<_};
-ghost use lib.ListN.{length, getD, take, replicate};
+ghost use lib.ListN.{length, take, replicate};
 ghost use Rattle.rules.specs.Refusals.{regionRefusal};
 ghost use Rattle.rules.specs.Outcomes.{Sizes};
 ghost use Rattle.rules.specs.Reasons.{trail, reasonOf, explainRefusal, unexplained, explains, explainOutcome};

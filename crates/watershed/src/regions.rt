@@ -26,7 +26,6 @@ ghost use mathlib.Core.Logic.{_⊎_};
 ghost use mathlib.Core.List.{[], _∷_};
 ghost use Prim.Native.Nat.{_+_, _≤_};
 ghost use lib.ListN.{length, replicate};
-ghost use lib.Dec.{ltb};
 ghost use Rattle.rules.specs.Base.{any};
 ghost use Rattle.rules.specs.Field.{Bytes};
 ghost use Rattle.rules.specs.Refusals.{mostSpans, tooFar, regionRefusal};

@@ -13,7 +13,7 @@ use Rattle.rules.specs.Base.{_and_, if_then_else_}
 use Rattle.rules.specs.Net.{Net, areaOf}
 use Rattle.rules.specs.Contour.{firstSolid}
 use Rattle.rules.specs.Growth.{plain}
-use Rattle.rules.specs.Records.{Rec, at, fresh, onceAll}
+use Rattle.rules.specs.Records.{Rec, at, fresh}
 use Rattle.laws.proofs.Basics.{many-le, or-no}
 use Rattle.space.specs.Space.{sec}
 use Rattle.net.specs.Table.{netAt}
@@ -29,7 +29,7 @@ use Rattle.records.specs.Map.{poolIn}
 use Rattle.records.specs.Stock.{Reach}
 use Rattle.records.proofs.KnownLaws.{celled-took}
 use Rattle.records.proofs.RowLaws.{list-parts, floor-parts, count-room, step-then, store-start, store-end}
-use Rattle.records.proofs.StepLaws.{step-none, overlaid-not, step-one, step-area, step-marked}
+use Rattle.records.proofs.StepLaws.{step-none, step-one, step-area, step-marked}
 use Rattle.records.proofs.TraceLaws.{list-tracing}
 
 -- a contour reads no area, so it is the same with ids in their place

@@ -2,7 +2,6 @@
 -- are added, its records have all that they take from it, and so have those of a cell with the same ids, layer by layer (`Known`). Assumes nothing.
 use Prim.Native.Nat.{ℕ, zero, suc, _+_, _-_, _≤_, _<_}
 use native.Mathlib.Omega.{arith}
-use native.Mathlib.Numerals.{add-one}
 use native.Mathlib.Decide.{ℕ-discrete, decLt}
 use mathlib.Core.Path.{_≡_, refl, sym, ap, _∙_}
 use mathlib.Core.Bool.{Bool, true, false, not, false≢true}
@@ -174,7 +173,7 @@ known-few ids cell rs z = record { took = λ s l u pl. alone s (cell .size) (cel
 -- ---------------------------------------------------------------- two cells with the same ids
 
 module _ (ids : List ℕ) (s v : ℕ) where
-  pub others-alike : (n t u : ℕ) → ((i : ℕ) → i < n → getD ids (t + i) 0 ≡ getD ids (u + i) 0) → ((i : ℕ) → i < n → eqb (t + i) s ≡ eqb (u + i) v) → othersFrom ids s n t ≡ othersFrom ids v n u
+  others-alike : (n t u : ℕ) → ((i : ℕ) → i < n → getD ids (t + i) 0 ≡ getD ids (u + i) 0) → ((i : ℕ) → i < n → eqb (t + i) s ≡ eqb (u + i) v) → othersFrom ids s n t ≡ othersFrom ids v n u
   unfolding othersFrom keep tab if_then_else_
   others-alike zero t u h k = refl
   others-alike (suc n) t u h k =

@@ -4,7 +4,7 @@ use Prim.Native.Nat.{_<_}
 use native.Mathlib.Omega.{arith}
 use borrow.Author.Needs.{needs}
 use denote.Ref.{now}
-use mathlib.Core.Path.{_≡_, sym, ap, _∙_}
+use mathlib.Core.Path.{sym, ap, _∙_}
 use Rattle.records.specs.Build.{spansAt}
 use Rattle.records.specs.declared.cell.Spans.{Spans}
 use Rattle.records.proofs.BuildLaws.{cell-lies, know-enter, know-next, entered-none}

@@ -9,12 +9,13 @@ use Rattle.rules.specs.Base.{_and_, _or_, if_then_else_, many}
 use Rattle.rules.specs.Net.{Net, areaOf}
 use Rattle.rules.specs.Growth.{plain}
 use Rattle.rules.specs.Contour.{firstSolid, contour, cutShort}
-use Rattle.rules.specs.Records.{Rec, at, onceAll}
+use Rattle.rules.specs.Records.{Rec, at, has, onceAll}
 use Rattle.rules.specs.Refusals.{mostSpans}
 use Rattle.contour.specs.Pool.{pooled}
 use Rattle.table.specs.Map.{border, areasAt, overlapsAt, visitsAt, spareAt, cutsAt, poolAt, halfOf, floorsFrom, floorRoom, recordsEnd}
 use Rattle.table.specs.View.{recsOf, listStart, listEnd, listIn, floorsStart, floorsEnd, floorsIn}
 use Rattle.records.specs.Cell.{twins, othersFrom}
+use Rattle.records.specs.declared.cell.Spans.{Spans}
 
 -- how many spans have an id below i: the room of record i's floors begins there
 unfoldable pub slot : List ℕ → ℕ → ℕ
@@ -137,6 +138,17 @@ contoured N ids s r =
 -- what a span takes from its cell, the n spans from t on
 unfoldable pub celled : List ℕ → ℕ → ℕ → ℕ → Rec → Rec
 celled ids s n t r = floored (othersFrom ids s n t) (overlaid (twins ids s (getD ids s 0) n t) (plusOne r))
+
+-- ---- what a record has already
+
+-- what span s takes from its cell, the n spans from t on, record x has: floors, and overlap where another of them has the span's id
+pub record Took (ids : List ℕ) (s n t : ℕ) (x : Rec) : Type 0 where
+  pub floors : (v : ℕ) → has (othersFrom ids s n t) v ≡ true → has (x .floors) v ≡ true
+  pub overlap : twins ids s (getD ids s 0) n t ≡ true → x .overlap ≡ true
+
+-- so have the records of all spans of a cell
+pub record Known (ids : List ℕ) (cell : Spans) (rs : List Rec) : Type 0 where
+  pub took : (s : ℕ) → cell .from ≤ s → s < cell .from + cell .size → plain (getD ids s 0) ≡ true → Took ids s (cell .size) (cell .from) (at rs (getD ids s 0))
 
 -- ---- what the parts of a count leave
 

@@ -25,13 +25,14 @@ ghost use mathlib.Core.Bool.{true};
 ghost use Prim.Native.Nat.{_+_, _*_, _≤_, _<_};
 ghost use lib.ListN.{length, getD};
 ghost use Rattle.rules.specs.Growth.{plain};
+ghost use Rattle.rules.specs.Records.{at};
 ghost use Rattle.net.specs.Table.{netAt};
 ghost use Rattle.contour.specs.Pool.{Start};
 ghost use Rattle.table.specs.Map.{spareAt, poolAt};
-ghost use Rattle.table.specs.View.{listStart, listEnd};
+ghost use Rattle.table.specs.View.{listStart, listEnd, recsOf};
 ghost use Rattle.records.specs.Map.{poolIn};
 ghost use Rattle.records.specs.Cell.{twins, othersFrom, Within};
-ghost use Rattle.records.specs.Rows.{Keeping, Step, Slack, Traced, traced, tracedCut, marked, cutMarked, floored, withContour, contoured, celled};
+ghost use Rattle.records.specs.Rows.{Keeping, Took, Step, Slack, Traced, traced, tracedCut, marked, cutMarked, floored, withContour, contoured, celled};
 ghost use Rattle.records.specs.Stock.{Reach};
 
 // Overlap is set where another span of a cell has the id r too.
@@ -165,8 +166,8 @@ pub(crate) fn add_contour(
     add_list(con, ids, ws, plan, span, r, top)
 }
 
-// The span, of id r, adds one to its record; of its cell it takes floors and overlap, and there are none where it is the only one.
-// What the pool has, up to top, only the contract reads.
+// The span, of id r, adds one to its record; of its cell it takes floors and overlap, unless the record is known to have them. What the pool has, up to
+// top, only the contract reads.
 pub(crate) fn add_cell(
     ids: &[u16],
     ws: &mut [u16],
@@ -175,14 +176,16 @@ pub(crate) fn add_cell(
     span: SpanIx,
     r: usize,
     cell: Spans,
+    known: bool,
 )
     requires { ⌜ Keeping (now ids) m top (span .0) (now ws) × Within (now ids) (span .0) cell ⌝ }
     requires { ⌜ (r ≡ getD (now ids) (span .0) 0) × (plain (getD (now ids) (span .0) 0) ≡ true) ⌝ }
+    requires { ⌜ (known ≡ true → Took (now ids) (span .0) (cell .size) (cell .from) (at (recsOf (now ws) m) r)) ⌝ }
     ensures { λ _. ⌜ (let f = celled (now (ids .entry)) (span .0) (cell .size) (cell .from) in
         Step f (now (ids .entry)) m r top (span .0 + 1) (now (ws .entry)) (now (ws .exit))) ⌝ }
 {
     ws[m + r] += 1;
-    if cell.size == 1 {
+    if known {
         return;
     }
     let twin = add_floors(ids, ws, m, top, span, r, cell);

@@ -12,7 +12,7 @@ use lib.ListN.{length, getD, set, take, length-set, length-append, length-map}
 use lib.Seq.{getD-set-same, getD-set-other}
 use lib.Dec.{eqb, ltb}
 use borrow.Author.Tests.{eq-eqb, ne-eqb, ltb-true, not-true}
-use Rattle.rules.specs.Base.{_and_, keep, tab, many}
+use Rattle.rules.specs.Base.{_and_, _or_, keep, tab, many}
 use Rattle.rules.specs.Field.{Field, spans, cellOf}
 use Rattle.rules.specs.Net.{netOf}
 use Rattle.rules.specs.Growth.{plain}

@@ -14,7 +14,7 @@ ghost use mathlib.Core.Path.{_≡_};
 ghost use Prim.Native.Nat.{_+_, _-_, _≤_, _<_};
 ghost use Rattle.table.specs.Map.{wideEnd, listsAt};
 ghost use Rattle.table.specs.View.{Parts};
-ghost use Rattle.pool.specs.Pool.{lenAt, Laid, Sides};
+ghost use Rattle.pool.specs.Pool.{lenAt, Sides};
 ghost use Rattle.pool.specs.Forms.{PoolIn, LaidIn, PairIn, RelistedIn};
 
 // How long record r's list is.

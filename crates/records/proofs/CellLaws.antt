@@ -18,7 +18,7 @@ use Rattle.rules.specs.Records.{has, once}
 use Rattle.laws.proofs.Basics.{if-ind, or-right, or-no, or-yes, or-swap}
 use Rattle.laws.proofs.Plain.{plain-flagged, plain-yes}
 use Rattle.table.proofs.SearchLaws.{has-cons, place-other, place-first}
-use Rattle.records.specs.Cell.{twin, twins, othersFrom, joinOne, Alike, Found, Joined}
+use Rattle.records.specs.Cell.{twin, twins, othersFrom, joinOne, Alike, Found, JoinedOne}
 use Rattle.records.specs.declared.cell.Spans.{Spans}
 
 -- ---------------------------------------------------------------- ids of regions, as the code tests for them
@@ -157,13 +157,13 @@ found-place l n r p h e = let z : n - 0 ≡ n = omega arith in rw (e, z) (place-
 -- ---------------------------------------------------------------- one joins
 
 module _ (part : List ℕ) (len r p : ℕ) (f : Found part len r p) (h : len < length part) where
-  pub once-there : p < len → Joined (once (take len part) r) len part len
+  pub once-there : p < len → JoinedOne (once (take len part) r) len part len
   unfolding once if_then_else_
   once-there g =
       let z : has (take len part) r ≡ true = sym (f .there) ∙ lt-ltb p len g in
       record { same = rw z; low = omega arith; high = omega arith; within = omega arith }
 
-  pub once-new : len ≤ p → Joined (once (take len part) r) len (set part len r) (len + 1)
+  pub once-new : len ≤ p → JoinedOne (once (take len part) r) len (set part len r) (len + 1)
   unfolding once if_then_else_
   once-new g =
       let z : has (take len part) r ≡ false = sym (f .there) ∙ le-ltb p len g in
@@ -175,15 +175,15 @@ module _ (part : List ℕ) (len r p : ℕ) (f : Found part len r p) (h : len < l
       }
 
 module _ (ids part : List ℕ) (s t len : ℕ) (h : len ≤ length part) where
-  pub join-self : t ≡ s → Joined (joinOne ids s t (take len part)) len part len
+  pub join-self : t ≡ s → JoinedOne (joinOne ids s t (take len part)) len part len
   unfolding joinOne if_then_else_ _and_
   join-self e = record { same = rw (eq-eqb t s e); low = omega arith; high = omega arith; within = h }
 
   module _ (n : t ≡ s → ⊥) where
-    pub join-not : plain (getD ids t 0) ≡ false → Joined (joinOne ids s t (take len part)) len part len
+    pub join-not : plain (getD ids t 0) ≡ false → JoinedOne (joinOne ids s t (take len part)) len part len
     unfolding joinOne if_then_else_ _and_
     join-not f = record { same = rw (ne-eqb t s n, f); low = omega arith; high = omega arith; within = h }
 
-    pub join-yes : plain (getD ids t 0) ≡ true → (part′ : List ℕ) (k : ℕ) → Joined (once (take len part) (getD ids t 0)) len part′ k → Joined (joinOne ids s t (take len part)) len part′ k
+    pub join-yes : plain (getD ids t 0) ≡ true → (part′ : List ℕ) (k : ℕ) → JoinedOne (once (take len part) (getD ids t 0)) len part′ k → JoinedOne (joinOne ids s t (take len part)) len part′ k
     unfolding joinOne if_then_else_ _and_
     join-yes y part′ k j = rw (ne-eqb t s n, y) j

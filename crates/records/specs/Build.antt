@@ -9,8 +9,8 @@ use Rattle.rules.specs.Growth.{plain}
 use Rattle.rules.specs.Records.{Rec, at}
 use Rattle.net.specs.Table.{netAt}
 use Rattle.contour.specs.Ways.{Ways}
+use Rattle.table.specs.Map.{recordsEnd}
 use Rattle.table.specs.View.{recsOf}
-use Rattle.records.specs.Map.{recordsEnd}
 use Rattle.records.specs.Cell.{Within, Lies}
 use Rattle.records.specs.Rows.{Keeping, Known, celled, contoured}
 use Rattle.records.specs.Stock.{Reach}

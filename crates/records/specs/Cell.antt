@@ -34,7 +34,7 @@ pub record Found (l : List ℕ) (n r p : ℕ) : Type 0 where
   pub there : ltb p n ≡ has (take n l) r
 
 -- what joining leaves: the list l, from 0 on
-pub record Joined (l : List ℕ) (len : ℕ) (part′ : List ℕ) (k : ℕ) : Type 0 where
+pub record JoinedOne (l : List ℕ) (len : ℕ) (part′ : List ℕ) (k : ℕ) : Type 0 where
   pub same : take k part′ ≡ l
   pub low : len ≤ k
   pub high : k ≤ len + 1

@@ -11,7 +11,7 @@ ghost use lib.Dec.{ltb};
 ghost use Rattle.rules.specs.Base.{_or_, if_then_else_};
 ghost use Rattle.rules.specs.Records.{once, onceAll};
 ghost use Rattle.rules.specs.Refusals.{mostSpans};
-ghost use Rattle.records.specs.Cell.{twin, twins, othersFrom, joinOne, Lies, Alike, Found, Joined, JoinedAll, Roomy};
+ghost use Rattle.records.specs.Cell.{twin, twins, othersFrom, joinOne, Lies, Alike, Found, JoinedOne, JoinedAll, Roomy};
 
 // The spans of a cell: size of them, from `from` on. Two numbers of one size: bytes that no field has would be copied with each cell (docs/PERFORMANCE.md).
 pub struct Spans {
@@ -130,7 +130,7 @@ fn find(part: &[u16], n: usize, r: u16, guess: usize) -> usize
 // r joins the list once.
 fn add_unique_floor_region(part: &mut [u16], l: Listed, r: u16) -> Listed
     requires { ⌜ l .len < length (now part) ⌝ }
-    ensures { λ k. ⌜ Joined (once (take (l .len) (now (part .entry))) r) (l .len) (now (part .exit)) (k .len) ⌝ }
+    ensures { λ k. ⌜ JoinedOne (once (take (l .len) (now (part .entry))) r) (l .len) (now (part .exit)) (k .len) ⌝ }
 {
     let len = l.len;
     let p = find(part, len, r, l.next);
@@ -150,7 +150,7 @@ fn join_one(ids: &[u16], part: &mut [u16], span: SpanIx, other: SpanIx, l: Liste
     requires { ⌜ l .len ≤ length (now part) ⌝ }
     requires { ⌜ ((other .0 ≡ span .0 → ⊥) → l .len < length (now part)) ⌝ }
     ensures { λ k. ⌜ (let joined = joinOne (now (ids .entry)) (span .0) (other .0) (take (l .len) (now (part .entry))) in
-        Joined joined (l .len) (now (part .exit)) (k .len)) ⌝ }
+        JoinedOne joined (l .len) (now (part .exit)) (k .len)) ⌝ }
     ensures { λ k. ⌜ (other .0 ≡ span .0 → k .len ≡ l .len) ⌝ }
 {
     let t = other.0;

@@ -25,7 +25,7 @@ use Rattle.space.specs.Space.{Clear}
 use Rattle.space.proofs.Laws.{sec-take}
 use Rattle.net.specs.Table.{netAt}
 use Rattle.growth.specs.Grow.{growthRoom}
-use Rattle.records.specs.Map.{recordsEnd, floorsFrom}
+use Rattle.table.specs.Map.{recordsEnd, floorsFrom}
 use Rattle.records.specs.Stock.{Given, Blank, Built}
 use Rattle.merge.specs.Ready.{Ready}
 use Rattle.merge.specs.Told.{mergingsAt, ToldRegions}

@@ -27,7 +27,7 @@ ghost use Rattle.rules.specs.Outcomes.{Sizes};
 ghost use Rattle.rules.specs.Reasons.{trail, reasonOf, explainRefusal, unexplained, explains, explainOutcome};
 ghost use Rattle.field.specs.Lent.{lent};
 ghost use Rattle.flood.specs.Stories.{storyOf};
-ghost use Rattle.records.specs.Map.{recordsEnd};
+ghost use Rattle.table.specs.Map.{recordsEnd};
 ghost use Rattle.records.specs.Stock.{Given, Blank, Built};
 ghost use Rattle.trail.specs.Noted.{mergingsFrom};
 ghost use Rattle.watershed.specs.Explain.{explained, withoutRoom, withRoom, roomReason, Grown, Living, Explains};

@@ -37,7 +37,7 @@ ghost use Rattle.space.specs.Space.{sec, Clear};
 ghost use Rattle.field.specs.Lent.{lent};
 ghost use Rattle.flood.specs.Stories.{storyOf};
 ghost use Rattle.growth.specs.Grow.{growthRoom};
-ghost use Rattle.records.specs.Map.{floorsFrom};
+ghost use Rattle.table.specs.Map.{floorsFrom};
 ghost use Rattle.checker.specs.Answer.{numberOf, verdictNumber};
 ghost use Rattle.watershed.specs.Answer.{AnswersRegions, GivesRooms};
 ghost use Rattle.watershed.specs.Form.{formOf};

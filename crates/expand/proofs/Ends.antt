@@ -23,7 +23,7 @@ use Rattle.net.specs.Table.{netAt, Mutual}
 use Rattle.net.proofs.Tables.{net-same}
 use Rattle.flood.specs.Stack.{marksAt}
 use Rattle.expand.specs.Layout.{fresh, mostAt, listAt, Sizes, Past, Entries, Kept, Given, Unheld, Ok, Using}
-use Rattle.expand.specs.Front.{Up, Entry, Flagging, frontOf, Lit, Gone, Settled}
+use Rattle.expand.specs.Front.{Up, Entry, Flagging, Entering, Leaving, frontOf, Lit, Gone, Settled}
 use Rattle.expand.proofs.Lists.{listAt-cong, length-listAt, listAt-sec, all-at, all-of, marks-same}
 use Rattle.expand.proofs.Sources.{fresh-unheld}
 use Rattle.expand.proofs.Waves.{fresh-twice, map-twice}
@@ -41,26 +41,16 @@ take-same n ws ws′ h l s =
 pub sizes-kept : {n a e b : ℕ} {ids ws : List ℕ} (ids′ ws′ : List ℕ) → Sizes n a e b ids ws → length ids′ ≡ length ids → length ws′ ≡ length ws → Sizes n a e b ids′ ws′
 sizes-kept ids′ ws′ z p q = record { few = z .few; idents = p ∙ z .idents; low = z .low; apart = z .apart; past = z .past; room = omega (arith, z .room); close = z .close }
 
--- the stack's section, and that of changes and flags
-module _ (n a e b fill : ℕ) (ids ws : List ℕ) (z : Sizes n a e b ids ws) where
-  sizes-part : Past (length ids) a (a + length ids) ws
-  sizes-part = rw (z .idents) (record { few = z .few; low = z .low; room = omega (arith, z .apart, z .past, z .room); close = omega (arith, z .apart, z .past, z .close) })
+-- the stack's section, and all that lies past it up to the flags' end
+module _ (n a e b : ℕ) (ids ws : List ℕ) (z : Sizes n a e b ids ws) (f : ℕ) (p : f ≡ e + 3 * n) where
+  pub sizes-part : Past (length ids) a (f + length ids) ws
+  sizes-part = rw (z .idents) (record { few = z .few; low = z .low; room = omega (arith, z .past, z .room); close = omega (arith, z .past, z .close) })
 
-  sizes-stack : Past n a e ws
-  sizes-stack = record { few = z .few; low = z .low; room = omega (arith, z .past, z .room); close = omega (arith, z .past, z .close) }
+  pub sizes-apart : a + length ids ≤ f
+  sizes-apart = omega (arith, z .apart, z .idents)
 
-  sizes-flags : Past n e (e + 4 * n) ws
-  sizes-flags = record { few = z .few; low = omega (arith, z .low, z .apart); room = omega (arith, z .past, z .room); close = omega (arith, z .past, z .close) }
-
--- the flags alone
-flags-part : {n e : ℕ} {ws : List ℕ} → Past n e (e + 4 * n) ws → Past n (e + 3 * n) (e + 3 * n + n) ws
-flags-part z = record { few = z .few; low = omega (arith, z .low); room = omega (arith, z .room); close = omega (arith, z .close) }
-
-pub given-part : (n a e b fill : ℕ) (ids ws : List ℕ) → Given n a e b fill ids ws → Past (length ids) a (a + length ids) ws
-given-part n a e b fill ids ws g = sizes-part n a e b fill ids ws (g .sizes)
-
-pub given-entries : (n a e b fill : ℕ) (ids ws : List ℕ) → Given n a e b fill ids ws → Entries (length ids) a fill ws
-given-entries n a e b fill ids ws g = rw (g .sizes .idents) (g .entries)
+pub entries-at : {n a e b fill : ℕ} {ids ws : List ℕ} → Sizes n a e b ids ws → Entries n a fill ws → Entries (length ids) a fill ws
+entries-at z es = rw (z .idents) es
 
 -- ---------------------------------------------------------------- before the rounds
 
@@ -78,16 +68,10 @@ module _ (n a e b fill : ℕ) (ids ws ws₁ : List ℕ) (y : Using (length ids) 
   held-at : (j : ℕ) → j < fill → Unheld n ids (getD ws₁ (a + j) 0)
   held-at = all-at (Unheld n ids) ws₁ a fill (rw used-list unheld)
 
-  pub used-sizes : Sizes n a e b ids ws₁
+  used-sizes : Sizes n a e b ids ws₁
   used-sizes = sizes-kept ids ws₁ (g .sizes) refl (used .size)
 
-  pub used-above : (f : ℕ) → f ≡ e + 3 * n → Past n f (f + n) ws₁
-  used-above f p = rw p (flags-part (sizes-flags n a e b fill ids ws₁ used-sizes))
-
-  pub used-apart : (f : ℕ) → f ≡ e + 3 * n → a + n ≤ f
-  used-apart f p = omega (arith, g .sizes .apart)
-
-  pub used-entries : Entries n a fill ws₁
+  used-entries : Entries n a fill ws₁
   used-entries = record { filled = g .entries .filled; spans = λ j h z. held-at j h z .0 }
 
   used-front : frontOf n a fill ids ws₁ ≡ frontOf n a fill ids ws
@@ -138,6 +122,10 @@ module _ (ar : List ℕ) (a e b fill : ℕ) (ids ws ws₁ : List ℕ) (y : Using
   lit-net : netAt b ar ws₂ ≡ netAt b ar ws
   lit-net = net-same b ar ws ws₂ (g .sizes .room) (f .size ∙ y .size) (lit-past (length ar) a e b fill ids ws ws₁ y g ws₂ f)
 
+-- flags are up for n spans, the number of ids
+pub raised-at : {n a f fill : ℕ} {ids ws ws₂ : List ℕ} (v : Entering a f fill ids ws ws₂ fill) → length ids ≡ n → Flagging n a f fill 1 (v .used) ws₂ fill
+raised-at v i = rw i at (v .raised)
+
 -- as the code has it, with the flags from p on
 module _ (ar : List ℕ) (a e b fill p : ℕ) (ids ws ws₁ : List ℕ) (q : p ≡ e + 3 * length ar) (y : Using (length ids) a fill ids ws ws₁ fill) (g : Given (length ar) a e b fill ids ws)
     (ws₂ : List ℕ) (f : Flagging (length ar) a p fill 1 ws₁ ws₂ fill) where
@@ -168,50 +156,42 @@ most-some level fill most q = elim (ℕ-discrete level 0) [
 
 -- ---------------------------------------------------------------- the end
 
-module _ (n a e fill : ℕ) (ws : List ℕ) (o : Past n e (e + 4 * n) ws) (z : a + n ≤ e) (r : ℕ) (fl : r ≡ e + 3 * n) where
-  pub dim-flags : Past n r (r + n) ws
-  dim-flags = rw fl (flags-part o)
+-- the flags, from r on, are down, the stack is marked, and the k changes are wiped
+module _ (a e fill k r : ℕ) (ids ws ws₂ : List ℕ) (fl : r ≡ e + 3 * length ids) (z : a + length ids ≤ e) (h : k ≤ length ids) (p : Past (length ids) a (r + length ids) ws)
+    (es : Entries (length ids) a fill ws) (v : Leaving a r fill ids ws ws₂ fill) where
+  pub left-end : e + 3 * k ≤ length ws₂
+  left-end = omega (arith, p .room, v .lowered .size, v .marked .size)
 
-  pub dim-apart : a + n ≤ r
-  dim-apart = omega arith
+  -- with the flags' place written out
+  dimmed : Flagging (length ids) a (e + 3 * length ids) fill 0 ws (v .dim) fill
+  dimmed = rw fl at (v .lowered)
 
-module _ (n a e fill k : ℕ) (ids ws ws₁ : List ℕ) (i : length ids ≡ n) (p : Past n a e ws) (o : Past n e (e + 4 * n) ws) (z : a + n ≤ e) (es : Entries n a fill ws) (h : k ≤ n)
-    (r : ℕ) (fl : r ≡ e + 3 * n) (f₀ : Flagging n a r fill 0 ws ws₁ fill) where
-  dimmed : Flagging n a (e + 3 * n) fill 0 ws ws₁ fill
-  dimmed = rw fl at f₀
-
-  dim-stack : (x : ℕ) → a ≤ x → x < a + fill → getD ws₁ x 0 ≡ getD ws x 0
+  dim-stack : (x : ℕ) → a ≤ x → x < a + fill → getD (v .dim) x 0 ≡ getD ws x 0
   dim-stack x l u = dimmed .same x (inl (omega (arith, es .filled)))
 
-  pub dim-part : Past (length ids) a (a + length ids) ws₁
-  dim-part = rw i (record { few = p .few; low = p .low; room = omega (arith, o .room, dimmed .size); close = omega (arith, o .close) })
+  module _ (ws₃ : List ℕ) (size : length ws₃ ≡ length ws₂) (q : Clear e (e + 3 * k) ws₃) (wiped : Frame e (e + 3 * k) ws₂ ws₃) where
+    flag-is : (x : ℕ) → getD ws₃ (e + 3 * length ids + x) 0 ≡ getD (v .dim) (e + 3 * length ids + x) 0
+    flag-is x = getD-after (e + 3 * length ids + x) wiped (omega arith) ∙ v .marked .unseen (e + 3 * length ids + x) (inr (omega (arith, es .filled)))
 
-  pub dim-entries : Entries (length ids) a fill ws₁
-  dim-entries = rw i (record { filled = es .filled; spans = λ j g y. let q = dim-stack (a + j) (omega arith) (omega arith) in rw q (es .spans j g (λ r. y (q ∙ r))) })
+    size₃ : length ws₃ ≡ length ws
+    size₃ = size ∙ v .marked .size ∙ dimmed .size
 
-  module _ (ws₂ : List ℕ) (y : Using (length ids) a fill ids ws₁ ws₂ fill) where
-    pub dim-end : e + 3 * k ≤ length ws₂
-    dim-end = omega (arith, o .room, dimmed .size, y .size)
+    pub settled : Settled (length ids) a e fill k ids ws ws₃
+    settled = record {
+      size = size₃;
+      marks = take-same (length ids) ws ws₃ (omega (arith, p .low, p .room)) size₃
+          (λ x l. getD-before x wiped (omega (arith, p .low)) ∙ v .marked .unseen x (inl (omega (arith, p .low))) ∙ dimmed .same x (inl (omega (arith, p .low))));
+      stack = listAt-cong ws₂ ws₃ a fill (λ x l u. getD-before x wiped (omega (arith, es .filled))) ∙ used-stack (length ids) a fill ids (v .dim) ws₂ (v .marked)
+          ∙ ap (λ (t : List ℕ). map (fresh ids) t) (listAt-cong ws (v .dim) a fill dim-stack);
+      queue = q .blank;
+      rest = λ x s t u. ⊎-elim (λ (l : x < e). getD-before x wiped l) (λ (l : e + 3 * k ≤ x). getD-after x wiped l) t ∙ v .marked .unseen x s
+          ∙ dimmed .same x (⊎-elim (λ (l : x < e + 3 * length ids). inl l) (λ (l : e + 4 * length ids ≤ x). inr (omega arith)) u);
+      down = λ j l u. flag-is (getD ws (a + j) 0) ∙ dimmed .done j l u;
+      else = λ x l. ⊎-elim (λ (t : getD (v .dim) (e + 3 * length ids + x) 0 ≡ getD ws (e + 3 * length ids + x) 0). inl (flag-is x ∙ t)) (λ (t : Entry ws a fill x). inr t) (dimmed .else x l);
+    }
 
-    module _ (ws₃ : List ℕ) (size : length ws₃ ≡ length ws₂) (q : Clear e (e + 3 * k) ws₃) (wiped : Frame e (e + 3 * k) ws₂ ws₃) where
-      flag-is : (x : ℕ) → getD ws₃ (e + 3 * n + x) 0 ≡ getD ws₁ (e + 3 * n + x) 0
-      flag-is x = getD-after (e + 3 * n + x) wiped (omega arith) ∙ y .unseen (e + 3 * n + x) (inr (omega (arith, es .filled)))
-
-      size₃ : length ws₃ ≡ length ws
-      size₃ = size ∙ y .size ∙ dimmed .size
-
-      pub settled : Settled n a e fill k ids ws ws₃
-      settled = record {
-        size = size₃;
-        marks = take-same n ws ws₃ (omega (arith, p .low, p .room)) size₃
-            (λ x l. getD-before x wiped (omega (arith, o .low)) ∙ y .unseen x (inl (omega (arith, p .low))) ∙ dimmed .same x (inl (omega (arith, o .low))));
-        stack = listAt-cong ws₂ ws₃ a fill (λ x l u. getD-before x wiped (omega (arith, es .filled))) ∙ used-stack (length ids) a fill ids ws₁ ws₂ y
-            ∙ ap (λ (t : List ℕ). map (fresh ids) t) (listAt-cong ws ws₁ a fill dim-stack);
-        queue = q .blank;
-        rest = λ x s t u. ⊎-elim (λ (l : x < e). getD-before x wiped l) (λ (l : e + 3 * k ≤ x). getD-after x wiped l) t ∙ y .unseen x s ∙ dimmed .same x (⊎-elim (λ (l : x < e + 3 * n). inl l) (λ (l : e + 4 * n ≤ x). inr (omega arith)) u);
-        down = λ j l u. flag-is (getD ws (a + j) 0) ∙ dimmed .done j l u;
-        else = λ x l. ⊎-elim (λ (t : getD ws₁ (e + 3 * n + x) 0 ≡ getD ws (e + 3 * n + x) 0). inl (flag-is x ∙ t)) (λ (t : Entry ws a fill x). inr t) (dimmed .else x l);
-      }
+pub settled-at : {n a e fill k : ℕ} {ids ws ws′ : List ℕ} → length ids ≡ n → Settled (length ids) a e fill k ids ws ws′ → Settled n a e fill k ids ws ws′
+settled-at i s = rw i at s
 
 -- ---------------------------------------------------------------- done
 
@@ -236,7 +216,7 @@ front-entries : (n a fill : ℕ) (ids ws ws′ : List ℕ) → listAt ws′ a fi
 unfolding frontOf
 front-entries n a fill ids ws ws′ s h o = record { filled = h; spans = λ j l z. all-at (Unheld n ids) ws′ a fill (rw s (o .entries)) j l z .0 }
 
-pub kept-clear : (n a e fill : ℕ) (ws ws₂ : List ℕ) → fill ≤ n → a + n ≤ e → n ≤ a → Clear e (e + 4 * n) ws → Kept n a fill ws ws₂ → Clear e (e + 4 * n) ws₂
+kept-clear : (n a e fill : ℕ) (ws ws₂ : List ℕ) → fill ≤ n → a + n ≤ e → n ≤ a → Clear e (e + 4 * n) ws → Kept n a fill ws ws₂ → Clear e (e + 4 * n) ws₂
 kept-clear n a e fill ws ws₂ h l o c k = record { blank = λ x g u. k .same x (omega arith) (inr (omega arith)) ∙ c .blank x g u }
 
 module _ (ar : List ℕ) (a e b fill level p : ℕ) (ids ws ws₁ : List ℕ) (fl : p ≡ e + 3 * length ar) (y : Using (length ids) a fill ids ws ws₁ fill)
@@ -245,17 +225,8 @@ module _ (ar : List ℕ) (a e b fill level p : ℕ) (ids ws ws₁ : List ℕ) (f
   raised : Flagging (length ar) a (e + 3 * length ar) fill 1 ws₁ ws₂ fill
   raised = rw fl at f₀
 
-  gone-sizes : Sizes (length ar) a e b ids₃ ws₃
+  pub gone-sizes : Sizes (length ar) a e b ids₃ ws₃
   gone-sizes = sizes-kept ids₃ ws₃ (g .sizes) (r .size₁) (r .size₂ ∙ raised .size ∙ y .size)
-
-  pub gone-idents : length ids₃ ≡ length ar
-  gone-idents = gone-sizes .idents
-
-  pub gone-below : Past (length ar) a e ws₃
-  gone-below = sizes-stack (length ar) a e b fill ids₃ ws₃ gone-sizes
-
-  pub gone-above : Past (length ar) e (e + 4 * length ar) ws₃
-  gone-above = sizes-flags (length ar) a e b fill ids₃ ws₃ gone-sizes
 
   gone-stack : (x : ℕ) → a ≤ x → x < a + fill → getD ws₃ x 0 ≡ getD ws₂ x 0
   gone-stack x l u = r .kept x (omega (arith, g .sizes .low)) (omega (arith, g .sizes .apart, g .entries .filled))

@@ -10,57 +10,34 @@ use lib.Seq.{getD-set-same, getD-set-other}
 use borrow.Author.Tests.{eq-eqb, ne-eqb}
 use Rattle.rules.specs.Base.{if_then_else_}
 use Rattle.rules.specs.Field.{none}
-use Rattle.net.specs.Table.{lastPlace}
-use Rattle.expand.specs.Layout.{flagged, Past, Entries}
+use Rattle.expand.specs.Layout.{flagged}
 use Rattle.expand.specs.Front.{Entry, Flagging}
 
 module _ (f s v : ℕ) (ws : List ℕ) where
-  flagged-no : s ≡ none → flagged f s v ws ≡ ws
+  pub flagged-no : s ≡ none → flagged f s v ws ≡ ws
   unfolding flagged if_then_else_
   flagged-no z = rw (eq-eqb _ _ z)
 
-  flagged-yes : (s ≡ none → ⊥) → flagged f s v ws ≡ set ws (f + s) v
+  pub flagged-yes : (s ≡ none → ⊥) → flagged f s v ws ≡ set ws (f + s) v
   unfolding flagged if_then_else_
   flagged-yes z = rw (ne-eqb _ _ z)
-
--- as the code has it
-module _ (f i s v : ℕ) (ws : List ℕ) (q : s ≡ getD ws i 0) where
-  pub flag-used : s ≡ none → ws ≡ flagged f (getD ws i 0) v ws
-  flag-used z = rw (← q) (sym (flagged-no f s v ws z))
-
-  pub flag-set : (s ≡ none → ⊥) → set ws (f + s) v ≡ flagged f (getD ws i 0) v ws
-  flag-set z = rw (← q) (sym (flagged-yes f s v ws z))
-
-  pub flag-in : ((getD ws i 0 ≡ none → ⊥) → f + getD ws i 0 < length ws) → (s ≡ none → ⊥) → f + s < length ws
-  flag-in h z = rw q (h (λ g. z (q ∙ g)))
 
 module _ (n a f fill v : ℕ) (ws₀ : List ℕ) where
   pub flagging-start : Flagging n a f fill v ws₀ ws₀ 0
   flagging-start = record { within = omega arith; size = refl; same = λ x y. refl; done = λ i h. absurd (omega arith); else = λ x h. inl refl }
 
-  module _ (ws : List ℕ) (j : ℕ) (t : Flagging n a f fill v ws₀ ws j) (p : Past n f (f + n) ws₀) (z : a + n ≤ f) (es : Entries n a fill ws₀) (h : j < fill) where
+  module _ (ws : List ℕ) (j : ℕ) (t : Flagging n a f fill v ws₀ ws j) (apart : a + fill ≤ f) (h : j < fill) where
     entry-same : getD ws (a + j) 0 ≡ getD ws₀ (a + j) 0
-    entry-same = t .same (a + j) (inl (omega (arith, es .filled)))
-
-    entry-span : (getD ws (a + j) 0 ≡ none → ⊥) → getD ws (a + j) 0 < n
-    entry-span y = rw entry-same (es .spans j h (λ q. y (entry-same ∙ q)))
-
-    pub flagging-entry : (getD ws (a + j) 0 ≡ none → ⊥) → f + getD ws (a + j) 0 < length ws
-    flagging-entry y = omega (arith, entry-span y, p .room, t .size)
-
-    pub flagging-at : a + j < length ws
-    flagging-at = omega (arith, es .filled, p .room, t .size)
-
-    pub flagging-small : a + j ≤ lastPlace
-    flagging-small = omega (arith, es .filled, p .close)
+    entry-same = t .same (a + j) (inl (omega arith))
 
     more : (x : ℕ) → Entry ws₀ a j x → Entry ws₀ a (j + 1) x
     more x y = record { at = y .at; below = omega (arith, y .below); is = y .is }
 
-    pub flagging-next : (ws′ : List ℕ) → ws′ ≡ flagged f (getD ws (a + j) 0) v ws → Flagging n a f fill v ws₀ ws′ (j + 1)
-    flagging-next ws′ q = elim (ℕ-discrete (getD ws (a + j) 0) none) [
-      | yes y ↦ rw (q ∙ flagged-no f (getD ws (a + j) 0) v ws y) (skip y)
-      | no y ↦ rw (q ∙ flagged-yes f (getD ws (a + j) 0) v ws y) (go (getD ws (a + j) 0) entry-same (entry-span y) (flagging-entry y))
+    -- the flag of the next entry, s, is v
+    pub flagging-next : (s : ℕ) → s ≡ getD ws (a + j) 0 → ((s ≡ none → ⊥) → s < n) → f + n ≤ length ws → Flagging n a f fill v ws₀ (flagged f s v ws) (j + 1)
+    flagging-next s q span room = elim (ℕ-discrete s none) [
+      | yes y ↦ rw (flagged-no f s v ws y) (skip (sym q ∙ y))
+      | no y ↦ (let l = span y in rw (flagged-yes f s v ws y) (go s (q ∙ entry-same) l (omega arith)))
     ]
       where
         skip : getD ws (a + j) 0 ≡ none → Flagging n a f fill v ws₀ ws (j + 1)
@@ -95,5 +72,22 @@ module _ (n a f fill v : ℕ) (ws₀ : List ℕ) where
           ];
         }
 
-  pub flagging-end : (ws : List ℕ) (j : ℕ) → Flagging n a f fill v ws₀ ws j → fill ≤ j → Flagging n a f fill v ws₀ ws fill
-  flagging-end ws j t h = let q : j ≡ fill = omega (arith, t .within) in rw q at t
+    -- place a + j of the stack, whose flag is not set yet, is set to y in both
+    pub flagging-beside : (y : ℕ) → a + j < length ws → Flagging n a f fill v (set ws₀ (a + j) y) (set ws (a + j) y) j
+    flagging-beside y room = record {
+      within = t .within;
+      size = length-set ws (a + j) y ∙ t .size ∙ sym (length-set ws₀ (a + j) y);
+      same = λ x o. elim (ℕ-discrete x (a + j)) [
+        | yes e ↦ rw e (getD-set-same ws (a + j) y 0 room ∙ sym (getD-set-same ws₀ (a + j) y 0 (omega (arith, t .size))))
+        | no e ↦ getD-set-other ws (a + j) x y 0 e ∙ t .same x o ∙ sym (getD-set-other ws₀ (a + j) x y 0 e)
+      ];
+      done = λ i l u.
+          let e = before i l in
+          rw e (getD-set-other ws (a + j) (f + getD ws₀ (a + i) 0) y 0 (λ z. omega arith) ∙ t .done i l (λ z. u (e ∙ z)));
+      else = λ x l. ⊎-elim
+          (λ (z : getD ws (f + x) 0 ≡ getD ws₀ (f + x) 0). inl (getD-set-other ws (a + j) (f + x) y 0 (λ e. omega arith) ∙ z ∙ sym (getD-set-other ws₀ (a + j) (f + x) y 0 (λ e. omega arith))))
+          (λ (z : Entry ws₀ a j x). inr (record { at = z .at; below = z .below; is = before (z .at) (z .below) ∙ z .is })) (t .else x l);
+    }
+      where
+        before : (i : ℕ) → i < j → getD (set ws₀ (a + j) y) (a + i) 0 ≡ getD ws₀ (a + i) 0
+        before i l = getD-set-other ws₀ (a + j) (a + i) y 0 (λ e. omega arith)

@@ -52,7 +52,3 @@ module _ (N : Net) (m : Marks) (s : ℕ) where
   pub finds-used : s ≡ none → finds N m s ≡ true → ⊥
   unfolding finds _and_
   finds-used h z = false≢true (rw (eq-eqb s none h) at z)
-
-  pub written-cons : (es : List ℕ) (out : Marks) → written N m (s ∷ es) out ≡ written N m es (wrote N m s out)
-  unfolding written
-  written-cons es out = refl

@@ -11,5 +11,6 @@ pub mod Tellings
 pub mod Wholes
 pub mod Flagged
 pub mod Stacks
+pub mod Walks
 pub mod Ends
 pub mod Blanks

@@ -3,26 +3,25 @@
 use mathlib.Core.Path.{_≡_, refl, sym, ap, _∙_}
 use mathlib.Core.Bool.{Bool, true, false, true≢false}
 use mathlib.Core.List.{List, map}
-use Prim.Native.Nat.{ℕ, zero, suc, _+_, _-_, _*_, _≤_, _<_}
+use Prim.Native.Nat.{ℕ, suc, _+_, _-_, _*_, _≤_, _<_}
 use native.Mathlib.Omega.{arith}
 use native.Mathlib.Decide.{ℕ-discrete}
 use lib.ListN.{length, getD}
-use lib.Dec.{eqb}
 use borrow.Author.Tests.{eq-eqb, ne-eqb, leb-true, leb-false}
 use Rattle.rules.specs.Base.{_and_, if_then_else_, any}
 use Rattle.rules.specs.Field.{none}
-use Rattle.rules.specs.Net.{Net, near, areaOf}
-use Rattle.rules.specs.Growth.{Marks, Taken, flagged, plain, takes, finds, Spread, round}
+use Rattle.rules.specs.Net.{Net, spans, near, areaOf}
+use Rattle.rules.specs.Growth.{Marks, Taken, flagged, takes, finds, Spread, round}
 use Rattle.rules.specs.Refusals.{mostSpans}
 use Rattle.rules.specs.Reasons.{Story, tookFrom, gives, source, roundTells, roundsTell}
 use Rattle.laws.proofs.Basics.{and-both, both, if-ind}
 use Rattle.laws.proofs.Plain.{plain-zero, plain-flagged, plain-yes}
 use Rattle.net.specs.Table.{netAt, Closed}
-use Rattle.net.proofs.Tables.{area-none, near-at}
+use Rattle.net.proofs.Tables.{area-none, near-at, spans-at}
 use Rattle.flood.specs.Stack.{marksAt}
 use Rattle.expand.specs.Layout.{Sight, fresh, listAt}
 use Rattle.expand.specs.Front.{Queued, Board, Spans, Front, frontOf}
-use Rattle.expand.specs.Told.{Sought, sourceAt, Took, RoundTold}
+use Rattle.expand.specs.Told.{Sought, sourceAt, RoundTold}
 use Rattle.expand.proofs.Waves.{has, keep-in, keep-out, changes}
 use Rattle.expand.proofs.Fronts.{change-queued, queued-change}
 use Rattle.expand.proofs.Looks.{no₁, no₂, no₃, near-a, own-area, at-area, at-id, at-far}
@@ -161,6 +160,26 @@ module _ (N : Net) (m : Marks) (ws : List ℕ) (n e lo hi : ℕ) (y : Story) (v 
       took = λ _. record { at = i; from = k .from; to = sought-in z; is = k .found (sought-in z); told = rw (← ef, ← eo) refl };
       still = λ f. absurd (f (record { at = i; from = k .from; to = sought-in z; is = k .found (sought-in z) }));
     }
+
+-- and whose id it takes is a number of 16 bits: a span, or none
+near-small : (N : Net) (s d : ℕ) → Closed N → s < spans N → d < 4 → near N s d < 65536
+near-small N s d c h l = elim (ℕ-discrete (near N s d) none) [
+  | yes z ↦ omega arith
+  | no z ↦ omega (arith, c .inside s d h l z, c .few)
+]
+
+source-small : (N : Net) (m : Marks) (s far : ℕ) → Closed N → s < spans N → sourceAt N m s far < 65536
+unfolding sourceAt
+source-small N m s far c h =
+    let side : (d : ℕ) → d < 4 → near N s d < 65536 = λ d l. near-small N s d c h l in
+    if-ind (λ x. x < 65536) (gives N m s far 0) (λ _. side 0 (omega arith)) (λ _.
+    if-ind (λ x. x < 65536) (gives N m s far 1) (λ _. side 1 (omega arith)) (λ _.
+    if-ind (λ x. x < 65536) (gives N m s far 2) (λ _. side 2 (omega arith)) (λ _. side 3 (omega arith))))
+
+pub told-small : (b : ℕ) (ar ids ws : List ℕ) (s far o : ℕ) → Sight b ar ids ws s → o ≡ sourceAt (netAt b ar ws) (marksAt (length ar) ids ws) s far → o < 65536
+told-small b ar ids ws s far o v e =
+    let h : s < spans (netAt b ar ws) = rw (spans-at b ar ws) (v .span) in
+    omega (arith, e, source-small (netAt b ar ws) (marksAt (length ar) ids ws) s far (v .closed) h)
 
 pub told-sight : (b : ℕ) (ar ids ws : List ℕ) (e k s : ℕ) → Closed (netAt b ar ws) → Board (length ar) e b k ids ws → s < length ar → Sight b ar ids ws s
 told-sight b ar ids ws e k s c v h = record { closed = c; room = v .room; close = v .close; idents = v .idents; low = omega (arith, v .low, v .past); span = h }

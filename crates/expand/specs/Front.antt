@@ -15,7 +15,7 @@ use Rattle.laws.proofs.NextId.{zeros}
 use Rattle.space.specs.Space.{Clear}
 use Rattle.net.specs.Table.{netAt, lastPlace}
 use Rattle.flood.specs.Stack.{marksAt}
-use Rattle.expand.specs.Layout.{fresh, listAt, changesAt, applied, Sizes, Entries, Ok}
+use Rattle.expand.specs.Layout.{fresh, listAt, changesAt, applied, Sizes, Entries, Ok, Using}
 
 -- the flag of span x is up
 abbrev pub Up : ℕ → ℕ → List ℕ → ℕ → Type 0
@@ -126,6 +126,19 @@ pub record Flagging (n a f fill v : ℕ) (ws₀ ws : List ℕ) (j : ℕ) : Type 
   pub same : (x : ℕ) → (x < f) ⊎ (f + n ≤ x) → getD ws x 0 ≡ getD ws₀ x 0
   pub done : (i : ℕ) → i < j → (getD ws₀ (a + i) 0 ≡ none → ⊥) → getD ws (f + getD ws₀ (a + i) 0) 0 ≡ v
   pub else : (x : ℕ) → x < n → (getD ws (f + x) 0 ≡ getD ws₀ (f + x) 0) ⊎ Entry ws₀ a j x
+
+-- before the rounds, in one walk: of the entries before j those that have an id are marked used, with which alone the workspace is `used`, and the flags
+-- of the others are up
+pub record Entering (a f fill : ℕ) (ids ws₀ ws : List ℕ) (j : ℕ) : Type 0 where
+  pub used : List ℕ
+  pub marked : Using (length ids) a fill ids ws₀ used j
+  pub raised : Flagging (length ids) a f fill 1 used ws j
+
+-- after them: the flags of the entries before j are down, with which alone the workspace is `dim`, and those that have an id are marked used
+pub record Leaving (a f fill : ℕ) (ids ws₀ ws : List ℕ) (j : ℕ) : Type 0 where
+  pub dim : List ℕ
+  pub lowered : Flagging (length ids) a f fill 0 ws₀ dim j
+  pub marked : Using (length ids) a fill ids dim ws j
 
 -- ---------------------------------------------------------------- rounds
 

@@ -1,8 +1,8 @@
 // The expansion of a stack at a level, and of all that is left at the end.
 use crate::Stack;
-use crate::flags::flag_all;
+use crate::flags::enter_all;
+use crate::flags::leave_all;
 use crate::round::rounds;
-use field::place::NO_SPAN;
 use field::read::at8;
 use field::read::at16;
 use flood::story::Story;
@@ -10,53 +10,19 @@ use net::Sections;
 use space::clear_part;
 ghost use mathlib.Core.Path.{_≡_};
 ghost use Prim.Native.Nat.{_+_, _*_, _<_, _≤_};
-ghost use lib.ListN.{length, getD, set, drop};
-ghost use Rattle.rules.specs.Field.{none};
+ghost use lib.ListN.{length, drop};
 ghost use Rattle.rules.specs.Growth.{expand, expandStrays, blank};
 ghost use Rattle.rules.specs.Reasons.{expandTells};
 ghost use Rattle.rules.specs.Refusals.{mostSpans};
 ghost use Rattle.space.specs.Space.{sec};
-ghost use Rattle.net.specs.Table.{netAt, lastPlace, Mutual};
+ghost use Rattle.net.specs.Table.{netAt, Mutual};
 ghost use Rattle.flood.specs.Stack.{marksAt};
 ghost use Rattle.flood.specs.Stories.{storyOf};
-ghost use Rattle.expand.specs.Layout.{fresh, mostAt, pushAt, fillAt, Past, Entries, Kept, Given, Using, Filling, Last};
+ghost use Rattle.expand.specs.Layout.{mostAt, pushAt, fillAt, Past, Entries, Kept, Given, Filling, Last};
 ghost use Rattle.expand.specs.Front.{Settled};
-
-// A used entry: NO_SPAN in 16 bits.
-const USED: u16 = 65535;
 
 // How many rounds an expansion has at a level above 0.
 const ROUNDS: usize = 8;
-
-// The entry at i is marked used if it has an id.
-fn use_one(ids: &[u16], ws: &mut [u16], i: usize)
-    requires { ⌜ (i < length (now ws)) × (length (now ids) ≤ mostSpans) × (i ≤ lastPlace) ⌝ }
-    requires span { ⌜ ((getD (now ws) i 0 ≡ none → ⊥) → getD (now ws) i 0 < length (now ids)) ⌝ }
-    ensures { λ _. ⌜ now (ws .exit) ≡ set (now (ws .entry)) i (fresh (now (ids .entry)) (getD (now (ws .entry)) i 0)) ⌝ }
-{
-    let e = at16(ws, i);
-    if e == NO_SPAN {
-        return;
-    }
-    if at16(ids, e) == 0 {
-        return;
-    }
-    ws[i] = USED;
-}
-
-// "first, entries that have an id are marked used"
-fn use_up(ids: &[u16], ws: &mut [u16], stack: Stack)
-    requires { ⌜ Past (length (now ids)) (stack .at) (stack .at + length (now ids)) (now ws) ⌝ }
-    requires { ⌜ Entries (length (now ids)) (stack .at) (stack .fill) (now ws) ⌝ }
-    ensures { λ _. ⌜ (let n = length (now (ids .entry)) in
-        Using n (stack .at) (stack .fill) (now (ids .entry)) (now (ws .entry)) (now (ws .exit)) (stack .fill)) ⌝ }
-{
-    let mut j: usize = 0;
-    while j < stack.fill {
-        use_one(ids, ws, stack.at + j);
-        j += 1;
-    }
-}
 
 // "at a level above 0, so does the eighth round"
 fn most_rounds(level: u16, fill: usize) -> usize
@@ -70,14 +36,14 @@ fn most_rounds(level: u16, fill: usize) -> usize
 }
 
 // After the rounds, with k changes noted: flags and changes are zeroed, and entries that have an id now are marked used.
-fn settle(ids: &[u16], ws: &mut [u16], n: usize, at: Sections, stack: Stack, k: usize)
-    requires { ⌜ (length (now ids) ≡ n) × (at .stack ≡ at .changes + 3 * n) × (stack .at + n ≤ at .changes) × (k ≤ n) ⌝ }
-    requires { ⌜ Past n (stack .at) (at .changes) (now ws) × Past n (at .changes) (at .changes + 4 * n) (now ws) ⌝ }
-    requires { ⌜ Entries n (stack .at) (stack .fill) (now ws) ⌝ }
-    ensures { λ _. ⌜ Settled n (stack .at) (at .changes) (stack .fill) k (now (ids .entry)) (now (ws .entry)) (now (ws .exit)) ⌝ }
+fn settle(ids: &[u16], ws: &mut [u16], at: Sections, stack: Stack, k: usize)
+    requires { ⌜ (let n = length (now ids) in
+        (at .stack ≡ at .changes + 3 * n) × (stack .at + n ≤ at .changes) × (k ≤ n)
+        × Past n (stack .at) (at .stack + n) (now ws) × Entries n (stack .at) (stack .fill) (now ws)) ⌝ }
+    ensures { λ _. ⌜ (let n = length (now (ids .entry)) in
+        Settled n (stack .at) (at .changes) (stack .fill) k (now (ids .entry)) (now (ws .entry)) (now (ws .exit))) ⌝ }
 {
-    flag_all(ws, n, at.stack, stack, 0);
-    use_up(ids, ws, stack);
+    leave_all(ids, ws, at.stack, stack);
     clear_part(ws, at.changes, at.changes + 3 * k);
 }
 
@@ -113,12 +79,10 @@ pub fn expand_regions(
         let before = marksAt (length (now (area .entry))) (now (ids .entry)) (now (ws .entry)) in
         storyOf (r .story) ≡ expandTells net level before (sec (stack .at) (stack .fill) (now (ws .entry))) (storyOf story)) ⌝ }
 {
-    let n = area.len();
-    use_up(ids, ws, stack);
-    flag_all(ws, n, at.stack, stack, 1);
+    enter_all(ids, ws, at.stack, stack);
     let most = most_rounds(level, stack.fill);
     let t = rounds(area, ids, ws, at, stack, most, story);
-    settle(ids, ws, n, at, stack, t.noted);
+    settle(ids, ws, at, stack, t.noted);
     let told = t.story;
     Expanded {
         strays: t.strays,

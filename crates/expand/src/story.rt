@@ -1,8 +1,8 @@
 // What a round does to the watched span.
 use crate::look::source;
-use field::place::NO_SPAN;
 use field::place::SpanIx;
 use field::read::at16;
+use flood::story::NOBODY;
 use flood::story::Story;
 use net::Sections;
 ghost use Prim.Native.Nat.{_+_, _*_, _<_, _≤_};
@@ -45,18 +45,18 @@ pub(crate) fn tell_round(
         let marks = marksAt (length (now (area .entry))) (now (ids .entry)) (now (ws .entry)) in
         RoundTold net marks (now (ws .entry)) (at .changes) lo hi (storyOf story) (storyOf r)) ⌝ }
 {
-    let s = story.span;
-    if s == NO_SPAN {
+    if story.span == NOBODY {
         return story;
     }
+    let s = story.span as usize;
     let i = queued(ws, at.changes, lo, hi, s);
     if i == hi {
         return story;
     }
     let far = at16(ws, at.changes + 3 * i + 2);
     Story {
-        span: s,
-        from: source(area, ids, ws, at.table, SpanIx(s), far),
+        span: story.span,
+        from: source(area, ids, ws, at.table, SpanIx(s), far) as u16,
         gave: story.gave,
         objecting: story.objecting,
     }

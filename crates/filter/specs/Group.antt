@@ -1,5 +1,4 @@
--- The filter, as the code goes through it. A group under way lies in the spare columns: who waits at 5m, last in last, and who is found at 6m.
--- The tables of parts stand at 7m (lists) and 11m (floors).
+-- The filter, as the code goes through it. A group under way lies in the two spare columns: who waits, last in last, and who is found.
 use Prim.Native.Nat.{ℕ, suc, _+_, _-_, _*_, _≤_, _<_}
 use mathlib.Core.Path.{_≡_}
 use mathlib.Core.Bool.{Bool, not}
@@ -13,7 +12,20 @@ use Rattle.rules.specs.Filter.{seen, Gather, gather, total, removeAll}
 use Rattle.rules.specs.Reasons.{groupCount}
 use Rattle.laws.proofs.FilterEnds.{ahead}
 use Rattle.space.specs.Space.{stackAt}
-use Rattle.table.specs.View.{part, recsOf, Held}
+use Rattle.table.specs.Map.{spareAt}
+use Rattle.table.specs.View.{part, recsOf, RecordsIn}
+
+-- the first of the spare columns
+abbrev pub waitingAt : ℕ → ℕ
+waitingAt m = spareAt m
+
+-- the second
+abbrev pub foundAt : ℕ → ℕ
+foundAt m = 6 * m
+
+-- the f found
+abbrev pub foundIn : List ℕ → ℕ → ℕ → List ℕ
+foundIn ws m f = part (foundAt m) (foundAt m + f) ws
 
 -- one entry of a neighbour list
 unfoldable pub reachOne : ℕ → Gather → Gather
@@ -23,30 +35,34 @@ reachOne r g =
     else record { todo = q .id ∷ g .todo; recs = set (g .recs) r (seen q); found = g .found }
 
 unfoldable pub groupAt : List ℕ → ℕ → ℕ → ℕ → Gather
-groupAt ws m top f = record { todo = stackAt ws (5 * m) top; recs = recsOf ws m; found = part (6 * m) (6 * m + f) ws }
+groupAt ws m top f = record { todo = stackAt ws (waitingAt m) top; recs = recsOf ws m; found = foundIn ws m f }
 
 -- those that wait are records, and there is room for those not visited
 pub record Waiting (m top : ℕ) (ws : List ℕ) : Type 0 where
-  pub held : Held m (7 * m) (11 * m) ws
+  pub held : RecordsIn m ws
   pub fits : top ≤ m
-  pub room : ahead (stackAt ws (5 * m) top) (recsOf ws m) ≤ m
-  pub waits : (x : ℕ) → x < top → getD ws (5 * m + x) 0 < m
-  pub blank : (x : ℕ) → top ≤ x → x < m → getD ws (5 * m + x) 0 ≡ 0
+  pub room : ahead (stackAt ws (waitingAt m) top) (recsOf ws m) ≤ m
+  pub waits : (x : ℕ) → x < top → getD ws (waitingAt m + x) 0 < m
+  pub blank : (x : ℕ) → top ≤ x → x < m → getD ws (waitingAt m + x) 0 ≡ 0
 
 pub record Found (m f : ℕ) (ws : List ℕ) : Type 0 where
-  pub found : (x : ℕ) → x < f → getD ws (6 * m + x) 0 < m
-  pub blank : (x : ℕ) → f ≤ x → x < m → getD ws (6 * m + x) 0 ≡ 0
+  pub found : (x : ℕ) → x < f → getD ws (foundAt m + x) 0 < m
+  pub blank : (x : ℕ) → f ≤ x → x < m → getD ws (foundAt m + x) 0 ≡ 0
+
+-- records that can be read, f of them found
+abbrev pub Gathered : ℕ → ℕ → List ℕ → Type 0
+Gathered m f ws = RecordsIn m ws × Found m f ws × (f ≤ m)
 
 -- before and after each group
 pub record Calm (m : ℕ) (ws : List ℕ) : Type 0 where
-  pub held : Held m (7 * m) (11 * m) ws
-  pub blank : (x : ℕ) → x < 2 * m → getD ws (5 * m + x) 0 ≡ 0
+  pub held : RecordsIn m ws
+  pub blank : (x : ℕ) → x < 2 * m → getD ws (spareAt m + x) 0 ≡ 0
 
 -- the first that waits is found
 pub record Popped (m top f r : ℕ) (ws ws′ : List ℕ) : Type 0 where
-  pub waited : stackAt ws (5 * m) top ≡ r ∷ stackAt ws′ (5 * m) (top - 1)
+  pub waited : stackAt ws (waitingAt m) top ≡ r ∷ stackAt ws′ (waitingAt m) (top - 1)
   pub recs : recsOf ws′ m ≡ recsOf ws m
-  pub found : part (6 * m) (6 * m + (f + 1)) ws′ ≡ part (6 * m) (6 * m + f) ws ++ (r ∷ [])
+  pub found : foundIn ws′ m (f + 1) ≡ foundIn ws m f ++ (r ∷ [])
 
 unfoldable pub listsFlagged : List ℕ → Bool
 listsFlagged l = any flagged l

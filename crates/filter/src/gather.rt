@@ -2,6 +2,9 @@
 use region::RegionId;
 use table::at;
 use table::end_of;
+use table::map::LISTS;
+use table::map::SPARE;
+use table::map::VISITED;
 use table::start_of;
 ghost use mathlib.Core.Path.{_≡_};
 ghost use mathlib.Core.List.{[], _∷_};
@@ -10,43 +13,45 @@ ghost use lib.ListN.{getD, set};
 ghost use Rattle.rules.specs.Records.{at as recOf};
 ghost use Rattle.rules.specs.Filter.{seen, reach, gather};
 ghost use Rattle.space.specs.Space.{Frame, stackAt};
-ghost use Rattle.table.specs.View.{recsOf, listAt};
-ghost use Rattle.filter.specs.Group.{reachOne, groupAt, Waiting, Found, Calm, Popped};
+ghost use Rattle.table.specs.Map.{Names, visitsAt, spareAt, listsAt};
+ghost use Rattle.table.specs.View.{recsOf, listIn};
+ghost use Rattle.filter.specs.Group.{waitingAt, foundAt, reachOne, groupAt, Waiting, Found, Calm, Popped};
+
+// The two spare columns: those that wait, and those that are found.
+const WAITING: usize = SPARE;
+
+pub(crate) const FOUND: usize = SPARE + 1;
 
 // One entry r of a neighbour list: a live record not yet visited waits its turn. Gives how many wait.
 fn reach_one(ws: &mut [u16], m: usize, r: u16, top: usize) -> usize
-    requires { ⌜ Waiting m top (now ws) ⌝ }
-    requires { ⌜ (r < 32768 → r < m) ⌝ }
-    ensures { λ n. ⌜ Waiting m n (now (ws .exit)) ⌝ }
+    requires { ⌜ Waiting m top (now ws) × Names m r ⌝ }
     ensures { λ n. ⌜ ((f : ℕ) → groupAt (now (ws .exit)) m n f ≡ reachOne r (groupAt (now (ws .entry)) m top f)) ⌝ }
-    ensures { λ _. ⌜ Frame (4 * m) (6 * m) (now (ws .entry)) (now (ws .exit)) ⌝ }
+    ensures { λ n. ⌜ Waiting m n (now (ws .exit)) × Frame (visitsAt m) (foundAt m) (now (ws .entry)) (now (ws .exit)) ⌝ }
 {
     if RegionId::BORDER_REGION.0 <= r {
         return top;
     }
     let q = r as usize;
-    if ws[4 * m + q] != 0 {
+    if ws[VISITED * m + q] != 0 {
         return top;
     }
     if ws[q] == 0 {
         return top;
     }
-    ws[5 * m + top] = ws[q];
-    ws[4 * m + q] = 1;
+    ws[WAITING * m + top] = ws[q];
+    ws[VISITED * m + q] = 1;
     top + 1
 }
 
 // All entries of record i's list.
 fn reach(ws: &mut [u16], m: usize, i: usize, top: usize) -> usize
-    requires { ⌜ Waiting m top (now ws) ⌝ }
-    requires { ⌜ i < m ⌝ }
-    ensures { λ n. ⌜ Waiting m n (now (ws .exit)) ⌝ }
-    ensures { λ n. ⌜ (let list = listAt (now (ws .entry)) m (7 * m) i in
+    requires { ⌜ Waiting m top (now ws) × (i < m) ⌝ }
+    ensures { λ n. ⌜ (let list = listIn (now (ws .entry)) m i in
         (f : ℕ) → groupAt (now (ws .exit)) m n f ≡ reach list (groupAt (now (ws .entry)) m top f)) ⌝ }
-    ensures { λ _. ⌜ Frame (4 * m) (6 * m) (now (ws .entry)) (now (ws .exit)) ⌝ }
+    ensures { λ n. ⌜ Waiting m n (now (ws .exit)) × Frame (visitsAt m) (foundAt m) (now (ws .entry)) (now (ws .exit)) ⌝ }
 {
-    let e = end_of(ws, m, 7 * m, i);
-    let mut k = start_of(ws, m, 7 * m, i);
+    let e = end_of(ws, m, LISTS * m, i);
+    let mut k = start_of(ws, m, LISTS * m, i);
     let mut n = top;
     while k < e {
         let r = ws[k];
@@ -58,46 +63,36 @@ fn reach(ws: &mut [u16], m: usize, i: usize, top: usize) -> usize
 
 // Record i is visited and waits alone.
 pub(crate) fn enter(ws: &mut [u16], m: usize, i: usize)
-    requires { ⌜ Calm m (now ws) ⌝ }
-    requires { ⌜ i < m ⌝ }
-    requires { ⌜ getD (now ws) (4 * m + i) 0 ≡ 0 ⌝ }
-    ensures { λ _. ⌜ Waiting m 1 (now (ws .exit)) ⌝ }
-    ensures { λ _. ⌜ Found m 0 (now (ws .exit)) ⌝ }
+    requires { ⌜ Calm m (now ws) × (i < m) × (getD (now ws) (visitsAt m + i) 0 ≡ 0) ⌝ }
+    ensures { λ _. ⌜ Waiting m 1 (now (ws .exit)) × Found m 0 (now (ws .exit)) ⌝ }
     ensures { λ _. ⌜ (let records = recsOf (now (ws .entry)) m in
         groupAt (now (ws .exit)) m 1 0 ≡ record { todo = i ∷ []; recs = set records i (seen (recOf records i)); found = [] }) ⌝ }
-    ensures { λ _. ⌜ Frame (4 * m) (6 * m) (now (ws .entry)) (now (ws .exit)) ⌝ }
+    ensures { λ _. ⌜ Frame (visitsAt m) (foundAt m) (now (ws .entry)) (now (ws .exit)) ⌝ }
 {
-    ws[5 * m] = i as u16;
-    ws[4 * m + i] = 1;
+    ws[WAITING * m] = i as u16;
+    ws[VISITED * m + i] = 1;
 }
 
 // The record that came last is found.
 fn pop(ws: &mut [u16], m: usize, top: usize, f: usize) -> usize
-    requires { ⌜ Waiting m top (now ws) ⌝ }
-    requires { ⌜ Found m f (now ws) ⌝ }
-    requires { ⌜ 0 < top ⌝ }
-    requires { ⌜ f < m ⌝ }
-    ensures { λ r. ⌜ Popped m top f r (now (ws .entry)) (now (ws .exit)) ⌝ }
-    ensures { λ r. ⌜ r < m ⌝ }
-    ensures { λ _. ⌜ Waiting m (top - 1) (now (ws .exit)) ⌝ }
-    ensures { λ _. ⌜ Found m (f + 1) (now (ws .exit)) ⌝ }
-    ensures { λ _. ⌜ Frame (5 * m) (7 * m) (now (ws .entry)) (now (ws .exit)) ⌝ }
+    requires { ⌜ Waiting m top (now ws) × Found m f (now ws) ⌝ }
+    requires { ⌜ (0 < top) × (f < m) ⌝ }
+    ensures { λ r. ⌜ Popped m top f r (now (ws .entry)) (now (ws .exit)) × (r < m) ⌝ }
+    ensures { λ _. ⌜ Waiting m (top - 1) (now (ws .exit)) × Found m (f + 1) (now (ws .exit)) ⌝ }
+    ensures { λ _. ⌜ Frame (spareAt m) (listsAt m) (now (ws .entry)) (now (ws .exit)) ⌝ }
 {
-    let r = ws[5 * m + (top - 1)];
-    ws[5 * m + (top - 1)] = 0;
-    ws[6 * m + f] = r;
+    let r = ws[WAITING * m + (top - 1)];
+    ws[WAITING * m + (top - 1)] = 0;
+    ws[FOUND * m + f] = r;
     r as usize
 }
 
 // The whole group of the one that waits. Gives how many are found.
 pub(crate) fn gather(ws: &mut [u16], m: usize) -> usize
-    requires { ⌜ Waiting m 1 (now ws) ⌝ }
-    requires { ⌜ Found m 0 (now ws) ⌝ }
-    ensures { λ f. ⌜ groupAt (now (ws .exit)) m 0 f ≡ gather (suc m) (stackAt (now (ws .entry)) (5 * m) 1) (recsOf (now (ws .entry)) m) [] ⌝ }
-    ensures { λ f. ⌜ f ≤ m ⌝ }
-    ensures { λ _. ⌜ Waiting m 0 (now (ws .exit)) ⌝ }
-    ensures { λ f. ⌜ Found m f (now (ws .exit)) ⌝ }
-    ensures { λ _. ⌜ Frame (4 * m) (7 * m) (now (ws .entry)) (now (ws .exit)) ⌝ }
+    requires { ⌜ Waiting m 1 (now ws) × Found m 0 (now ws) ⌝ }
+    ensures { λ f. ⌜ groupAt (now (ws .exit)) m 0 f ≡ gather (suc m) (stackAt (now (ws .entry)) (waitingAt m) 1) (recsOf (now (ws .entry)) m) [] ⌝ }
+    ensures { λ f. ⌜ (f ≤ m) × Waiting m 0 (now (ws .exit)) × Found m f (now (ws .exit)) ⌝ }
+    ensures { λ _. ⌜ Frame (visitsAt m) (listsAt m) (now (ws .entry)) (now (ws .exit)) ⌝ }
 {
     let mut top = 1;
     let mut f = 0;

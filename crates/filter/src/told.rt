@@ -8,6 +8,7 @@ ghost use Rattle.rules.specs.Base.{_and_, if_then_else_};
 ghost use Rattle.rules.specs.Filter.{filtered};
 ghost use Rattle.rules.specs.Reasons.{goneWith};
 ghost use Rattle.space.specs.Space.{Frame};
+ghost use Rattle.table.specs.Map.{spareAt};
 ghost use Rattle.table.specs.View.{recsOf};
 ghost use Rattle.filter.specs.Group.{Calm};
 
@@ -28,8 +29,7 @@ fn gone(before: u16, after: u16, count: usize, told: usize) -> usize
 pub fn filter_told(ws: &mut [u16], m: usize, least: u16, r: usize) -> usize
     requires { ⌜ Calm m (now ws) × (r < m) ⌝ }
     ensures { λ _. ⌜ recsOf (now (ws .exit)) m ≡ filtered least (recsOf (now (ws .entry)) m) ⌝ }
-    ensures { λ _. ⌜ Calm m (now (ws .exit)) ⌝ }
-    ensures { λ _. ⌜ Frame 0 (5 * m) (now (ws .entry)) (now (ws .exit)) ⌝ }
+    ensures { λ _. ⌜ Calm m (now (ws .exit)) × Frame 0 (spareAt m) (now (ws .entry)) (now (ws .exit)) ⌝ }
     ensures { λ k. ⌜ k ≡ goneWith least r m (recsOf (now (ws .entry)) m) ⌝ }
 {
     let mut told = 0;
@@ -47,8 +47,7 @@ pub fn filter_told(ws: &mut [u16], m: usize, least: u16, r: usize) -> usize
 pub fn filter(ws: &mut [u16], m: usize, least: u16)
     requires { ⌜ Calm m (now ws) ⌝ }
     ensures { λ _. ⌜ recsOf (now (ws .exit)) m ≡ filtered least (recsOf (now (ws .entry)) m) ⌝ }
-    ensures { λ _. ⌜ Calm m (now (ws .exit)) ⌝ }
-    ensures { λ _. ⌜ Frame 0 (5 * m) (now (ws .entry)) (now (ws .exit)) ⌝ }
+    ensures { λ _. ⌜ Calm m (now (ws .exit)) × Frame 0 (spareAt m) (now (ws .entry)) (now (ws .exit)) ⌝ }
 {
     if 0 < m {
         filter_told(ws, m, least, 0);

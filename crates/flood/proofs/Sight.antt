@@ -94,12 +94,7 @@ unfolding orElse
 orElse-zero zero = refl
 orElse-zero (suc a) = refl
 
-orElse-first : (a b : ℕ) → (a ≡ 0 → ⊥) → orElse a b ≡ a
-unfolding orElse
-orElse-first zero b k = absurd (k refl)
-orElse-first (suc a) b k = refl
-
-pub objects-from : (N : Net) (m : Marks) (q : Seed) (c : ℕ) → objects N m q c ≡ eqb (seesFrom N m q c 4 0) 2
+objects-from : (N : Net) (m : Marks) (q : Seed) (c : ℕ) → objects N m q c ≡ eqb (seesFrom N m q c 4 0) 2
 unfolding objects seesFrom
 objects-from N m q c = rw (orElse-zero (sees N m q c 3))
 
@@ -117,11 +112,7 @@ module _ (N : Net) (m : Marks) (q : Seed) (s d : ℕ) (v : Looking N m q s d) wh
     unfolding seesFrom
     now-on = rw e (rw left at (v .same))
 
-    pub looking-first : (l ≡ 0 → ⊥) → l ≡ seesFrom N m q s 4 0
-    unfolding orElse
-    looking-first k = sym (now-on ∙ orElse-first l (seesFrom N m q s (4 - (d + 1)) (d + 1)) k)
-
-    pub looking-past : l ≡ 0 → Looking N m q s (d + 1)
+    looking-past : l ≡ 0 → Looking N m q s (d + 1)
     unfolding orElse
     looking-past z = record { few = omega arith; same = rw z at now-on }
 
@@ -138,12 +129,6 @@ module _ (N : Net) (m : Marks) (q : Seed) (s d : ℕ) (v : Looking N m q s d) wh
     looking-on a b =
         let z : l ≡ 0 = sees-cases (λ x. l ≡ x → l ≡ 0) (λ y. y) (λ y. absurd (a y)) (λ y. absurd (b y)) N m q s d e in
         looking-past z
-
-  pub looking-nothing : 4 ≤ d → 0 ≡ seesFrom N m q s 4 0
-  unfolding seesFrom
-  looking-nothing h =
-      let z : 4 - d ≡ 0 = omega arith in
-      sym (rw z at (v .same))
 
   pub looking-done : 4 ≤ d → false ≡ objects N m q s
   unfolding seesFrom

@@ -22,9 +22,8 @@ use Rattle.space.specs.Space.{stackAt}
 use Rattle.rules.specs.Refusals.{mostSpans}
 use Rattle.space.proofs.Laws.{stackAt-pop, length-sec}
 use Rattle.flood.specs.declared.flow.Height.{Height}
-use Rattle.flood.specs.Looks.{seesFrom}
 use Rattle.flood.specs.Stack.{marksAt, flowAt, Placed, Blank, Flooding, Kept, Begins}
-use Rattle.flood.proofs.Sight.{objects-from}
+use Rattle.flood.proofs.Visits.{popped-marks}
 use Rattle.flood.proofs.Floods.{first, begun, start-flow, Running, running-start, running-falls, running-on}
 
 -- ---------------------------------------------------------------- the objecting span
@@ -93,18 +92,25 @@ module _ (N : Net) (m : Marks) (q : Seed) (c : ℕ) (y : Story) where
   unfolding visitTells if_then_else_ _and_
   visit-other h = rw (ne-eqb c (y .span) h)
 
-  pub visit-calm : (l : ℕ) → l ≡ seesFrom N m q c 4 0 → (l ≡ 2 → ⊥) → y ≡ visitTells N m q c y
+  visit-calm : objects N m q c ≡ false → y ≡ visitTells N m q c y
   unfolding visitTells if_then_else_ _and_
-  visit-calm l e z = rw (objects-from N m q c, sym (at-no (seesFrom N m q c 4 0) l e z), and-no (eqb c (y .span)))
+  visit-calm z = rw (z, and-no (eqb c (y .span)))
 
-pub visit-back : (N : Net) (m : Marks) (q : Seed) (y : Story) (l : ℕ) → l ≡ seesFrom N m q (y .span) 4 0 → l ≡ 2 → (o : ℕ) → o ≡ objecting N m q (y .span)
-    → record { span = y .span; from = y .from; gave = q .id; objecting = o } ≡ visitTells N m q (y .span) y
-unfolding visitTells gaveBack if_then_else_ _and_
-visit-back N m q y l e z o eo = rw (eq-eqb (y .span) (y .span) refl, objects-from N m q (y .span), sym (at-yes (seesFrom N m q (y .span) 4 0) l e z), ← eo)
+  pub visit-back : c ≡ y .span → objects N m q c ≡ true → (o : ℕ) → o ≡ objecting N m q c
+      → record { span = y .span; from = y .from; gave = q .id; objecting = o } ≡ visitTells N m q c y
+  unfolding visitTells gaveBack if_then_else_ _and_
+  visit-back h z o e = rw (eq-eqb c (y .span) h, z, ← e)
 
--- the span on top is the one that is watched
-pub visit-own : (N : Net) (m : Marks) (q : Seed) (c : ℕ) (y y′ : Story) → c ≡ y .span → y′ ≡ visitTells N m q (y .span) y → y′ ≡ visitTells N m q c y
-visit-own N m q c y y′ h e = rw h e
+-- entry t is popped: ws₁ is the workspace without it, and N₁ the net there
+module _ (n stack t : ℕ) (ids ws ws₁ : List ℕ) (gone : ws₁ ≡ set ws (stack + t) 0) (low : n ≤ stack) (N N₁ : Net) (same : N₁ ≡ N) (q : Seed) (s x : ℕ) (is : s ≡ x) (y : Story) where
+  marks : marksAt n ids ws₁ ≡ marksAt n ids ws
+  marks = popped-marks n stack [] ids ws ws₁ t 0 gone low
+
+  pub popped-back : (y′ : Story) → y′ ≡ visitTells N₁ (marksAt n ids ws₁) q s y → y′ ≡ visitTells N (marksAt n ids ws) q x y
+  popped-back y′ e = rw (same, is, marks) at e
+
+  pub popped-calm : (r : Bool) → r ≡ objects N₁ (marksAt n ids ws₁) q s → r ≡ false → y ≡ visitTells N (marksAt n ids ws) q x y
+  popped-calm r o z = popped-back y (visit-calm N₁ (marksAt n ids ws₁) q s y (sym o ∙ z))
 
 -- ---------------------------------------------------------------- the loop
 

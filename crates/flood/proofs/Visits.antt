@@ -40,7 +40,7 @@ module _ (n stack id : ℕ) (ids ws : List ℕ) (h : Height) (g : Good n id (flo
 -- entry t is popped: ws₁ is the workspace without it, and N₁ the net there
 module _ (n stack : ℕ) (dist ids ws ws₁ : List ℕ) (t k : ℕ) (gone : ws₁ ≡ set ws (stack + t) 0) (low : n ≤ stack) where
   -- ids and source distances stay
-  popped-marks : marksAt n ids ws₁ ≡ marksAt n ids ws
+  pub popped-marks : marksAt n ids ws₁ ≡ marksAt n ids ws
   popped-marks =
       let a : n ≤ stack + t = omega arith in
       rw gone (ap (λ (l : List ℕ). record { ids = ids; src = l }) (take-set-le n ws (stack + t) 0 a))

@@ -2,7 +2,7 @@
 use crate::look::Seed;
 use crate::look::objects;
 use crate::story::Story;
-use crate::story::tell_visit;
+use crate::story::give_back;
 use field::place::NO_LAYER;
 use field::place::SpanIx;
 use field::place::connections;
@@ -15,7 +15,7 @@ ghost use Prim.Native.Nat.{_+_, _-_, _<_, _≤_};
 ghost use lib.ListN.{length, getD, set, drop};
 ghost use Rattle.rules.specs.Base.{upto};
 ghost use Rattle.rules.specs.Growth.{pushed, visit, flood};
-ghost use Rattle.rules.specs.Reasons.{floodTells};
+ghost use Rattle.rules.specs.Reasons.{visitTells, floodTells};
 ghost use Rattle.space.specs.Space.{tally};
 ghost use Rattle.net.specs.Table.{netAt, Lent, AtSpan};
 ghost use Rattle.flood.specs.Looks.{seedOf};
@@ -110,7 +110,13 @@ fn pop(ws: &mut [u16], i: usize) -> usize
     entry
 }
 
-// Pops a span and visits it; its place on the stack is zeroed.
+// The stack after a visit, and the story of the watched span.
+pub struct Visited {
+    pub height: Height,
+    pub story: Story,
+}
+
+// Pops a span and visits it; its place on the stack is zeroed. Tells what it did to the watched span.
 fn visit(
     area: &[u8],
     con: &[u8],
@@ -120,7 +126,8 @@ fn visit(
     at: Sections,
     seed: Seed,
     height: Height,
-) -> Height
+    story: Story,
+) -> Visited
     requires { ⌜ Lent (at .table) (now area) (now con) (now ws) × Placed (length (now area)) at (now dist) (now ids) ⌝ }
     requires { ⌜ Flooding (length (now area)) (at .stack) (seed .id) (now ids) (now ws) height × (0 < height .top) ⌝ }
     requires { ⌜ (0 < seed .id) × (seed .area < 256) ⌝ }
@@ -128,25 +135,36 @@ fn visit(
         let net = netAt (at .table) (now (area .entry)) (now (ws .entry)) in
         let popped = getD (now (ws .entry)) (at .stack + (height .top - 1)) 0 in
         let rest = flowAt n (at .stack) (now (ids .entry)) (now (ws .entry)) (record { top = height .top - 1; count = height .count }) in
-        flowAt n (at .stack) (now (ids .exit)) (now (ws .exit)) r ≡ visit net (now (dist .entry)) (seedOf seed) popped rest) ⌝ }
+        flowAt n (at .stack) (now (ids .exit)) (now (ws .exit)) (r .height) ≡ visit net (now (dist .entry)) (seedOf seed) popped rest) ⌝ }
     ensures { λ r. ⌜ (let n = length (now (area .entry)) in
-        Kept n (at .stack) (now (ws .entry)) (now (ws .exit)) × Blank n (at .stack) (r .top) (now (ws .exit))) ⌝ }
+        Kept n (at .stack) (now (ws .entry)) (now (ws .exit)) × Blank n (at .stack) (r .height .top) (now (ws .exit))) ⌝ }
+    ensures { λ r. ⌜ (let net = netAt (at .table) (now (area .entry)) (now (ws .entry)) in
+        let marks = marksAt (length (now (area .entry))) (now (ids .entry)) (now (ws .entry)) in
+        let popped = getD (now (ws .entry)) (at .stack + (height .top - 1)) 0 in
+        storyOf (r .story) ≡ visitTells net marks (seedOf seed) popped (storyOf story)) ⌝ }
 {
     let top = height.top - 1;
     let s = pop(ws, at.stack + top);
     let cons = connections(con, SpanIx(s));
     if objects(area, ids, ws, at.table, cons, SpanIx(s), seed) {
+        let told = give_back(area, ids, ws, at.table, cons, SpanIx(s), seed, story);
         ids[s] = 0;
-        return Height {
-            top,
-            count: height.count,
+        return Visited {
+            height: Height {
+                top,
+                count: height.count,
+            },
+            story: told,
         };
     }
     let counted = Height {
         top,
         count: height.count + 1,
     };
-    push_all(area, dist, ids, ws, at, cons, SpanIx(s), seed, counted)
+    Visited {
+        height: push_all(area, dist, ids, ws, at, cons, SpanIx(s), seed, counted),
+        story,
+    }
 }
 
 // Two below a level, but not below 0.
@@ -203,8 +221,9 @@ pub fn flood_region(
     let mut height = Height { top: 1, count: 0 };
     let mut told = story;
     while 0 < height.top {
-        told = tell_visit(area, con, ids, ws, at, seed, height, told);
-        height = visit(area, con, dist, ids, ws, at, seed, height);
+        let v = visit(area, con, dist, ids, ws, at, seed, height, told);
+        height = v.height;
+        told = v.story;
     }
     Flooded {
         count: height.count,

@@ -1,43 +1,42 @@
 // What growth does to one span, noted as it goes: "Why has this span no room?"
-use crate::flow::Height;
-use crate::look::NOTHING;
 use crate::look::OBJECTION;
 use crate::look::Seed;
 use crate::look::other;
 use crate::look::sees;
 use field::place::NO_SPAN;
 use field::place::SpanIx;
-use field::place::connections;
-use field::read::at16;
-use net::Sections;
 use net::neighbour;
 ghost use mathlib.Core.Path.{_≡_};
-ghost use Prim.Native.Nat.{_+_, _-_, _<_, _≤_};
-ghost use lib.ListN.{length, getD};
+ghost use mathlib.Core.Bool.{true};
+ghost use Prim.Native.Nat.{_<_};
+ghost use lib.ListN.{length};
 ghost use lib.Dec.{eqb};
-ghost use Rattle.rules.specs.Growth.{sees};
+ghost use Rattle.rules.specs.Growth.{sees, objects};
 ghost use Rattle.rules.specs.Reasons.{begins, objector, objecting, visitTells};
-ghost use Rattle.net.specs.Table.{netAt, Lent, AtSpan};
-ghost use Rattle.flood.specs.Looks.{seedOf, seesFrom};
-ghost use Rattle.flood.specs.Stack.{marksAt, Placed, Flooding};
+ghost use Rattle.net.specs.Table.{netAt, AtSpan};
+ghost use Rattle.flood.specs.Looks.{seedOf};
+ghost use Rattle.flood.specs.Stack.{marksAt};
 ghost use Rattle.flood.specs.Stories.{storyOf};
 
-// The span that is watched; the span whose id it took at an expansion, NO_SPAN until then; the id of the last flood that gave it back, 0 until then, and
-// the objecting span.
+// The span that is watched; the span whose id it took at an expansion, NOBODY until then; the id of the last flood that gave it back, 0 until then, and
+// the objecting span. Four numbers of 16 bits, since it goes through every flood: so it is one register.
 pub struct Story {
-    pub span: usize,
-    pub from: usize,
+    pub span: u16,
+    pub from: u16,
     pub gave: u16,
-    pub objecting: usize,
+    pub objecting: u16,
 }
 
-// The story of a span before growth; of NO_SPAN, for a build that watches none.
-pub fn begins(span: usize) -> Story
+// No span: NO_SPAN in 16 bits.
+pub const NOBODY: u16 = 65535;
+
+// The story of a span before growth; of NOBODY, for a build that watches none.
+pub fn begins(span: u16) -> Story
     ensures { λ r. ⌜ storyOf r ≡ begins span ⌝ }
 {
     Story {
         span,
-        from: NO_SPAN,
+        from: NOBODY,
         gave: 0,
         objecting: 0,
     }
@@ -75,7 +74,7 @@ fn objector(
     span: SpanIx,
     d: usize,
     seed: Seed,
-) -> usize
+) -> u16
     requires { ⌜ AtSpan table (now area) (now ws) cons (span .0) × (length (now ids) ≡ length (now area)) × (d < 4) ⌝ }
     ensures { λ r. ⌜ (let net = netAt table (now (area .entry)) (now (ws .entry)) in
         let marks = marksAt (length (now (area .entry))) (now (ids .entry)) (now (ws .entry)) in
@@ -83,13 +82,13 @@ fn objector(
 {
     let t = neighbour(ws, table, span, d).0;
     if t == NO_SPAN {
-        return NO_SPAN;
+        return NOBODY;
     }
     let region = ids[t];
     if other(region, seed.id) {
-        return t;
+        return t as u16;
     }
-    neighbour(ws, table, SpanIx(t), (d + 1) % 4).0
+    neighbour(ws, table, SpanIx(t), (d + 1) % 4).0 as u16
 }
 
 // The first in the order of looking.
@@ -101,7 +100,7 @@ fn objecting(
     cons: [u8; 4],
     span: SpanIx,
     seed: Seed,
-) -> usize
+) -> u16
     requires { ⌜ AtSpan table (now area) (now ws) cons (span .0) × (length (now ids) ≡ length (now area)) × (seed .area < 256) ⌝ }
     ensures { λ r. ⌜ (let net = netAt table (now (area .entry)) (now (ws .entry)) in
         let marks = marksAt (length (now (area .entry))) (now (ids .entry)) (now (ws .entry)) in
@@ -119,9 +118,8 @@ fn objecting(
     objector(area, ids, ws, table, cons, span, 3, seed)
 }
 
-// What a span that has the connections cons sees first, in direction order. Not `objects`: with a second caller it would be called, not inlined, at each
-// visit of each flood.
-fn first_sight(
+// A span that objects is given back: the flood's id and the objecting span are noted if it is the watched one.
+pub(crate) fn give_back(
     area: &[u8],
     ids: &[u16],
     ws: &[u16],
@@ -129,72 +127,23 @@ fn first_sight(
     cons: [u8; 4],
     span: SpanIx,
     seed: Seed,
-) -> u8
+    story: Story,
+) -> Story
     requires { ⌜ AtSpan table (now area) (now ws) cons (span .0) × (length (now ids) ≡ length (now area)) × (seed .area < 256) ⌝ }
+    requires { ⌜ (let net = netAt table (now area) (now ws) in
+        let marks = marksAt (length (now area)) (now ids) (now ws) in
+        objects net marks (seedOf seed) (span .0) ≡ true) ⌝ }
     ensures { λ r. ⌜ (let net = netAt table (now (area .entry)) (now (ws .entry)) in
         let marks = marksAt (length (now (area .entry))) (now (ids .entry)) (now (ws .entry)) in
-        r ≡ seesFrom net marks (seedOf seed) (span .0) 4 0) ⌝ }
+        storyOf r ≡ visitTells net marks (seedOf seed) (span .0) (storyOf story)) ⌝ }
 {
-    let mut d = 0;
-    while d < 4 {
-        let look = sees(area, ids, ws, table, cons, span, d, seed);
-        if look != NOTHING {
-            return look;
-        }
-        d += 1;
+    if span.0 != story.span as usize {
+        return story;
     }
-    NOTHING
-}
-
-// The watched span, popped next, objects: the flood gives it back.
-fn give_back(
-    area: &[u8],
-    con: &[u8],
-    ids: &[u16],
-    ws: &[u16],
-    table: usize,
-    seed: Seed,
-    story: Story,
-) -> Story
-    requires { ⌜ Lent table (now area) (now con) (now ws) × (length (now ids) ≡ length (now area)) × (story .span < length (now area)) × (seed .area < 256) ⌝ }
-    ensures { λ r. ⌜ (let net = netAt table (now (area .entry)) (now (ws .entry)) in
-        let marks = marksAt (length (now (area .entry))) (now (ids .entry)) (now (ws .entry)) in
-        storyOf r ≡ visitTells net marks (seedOf seed) (story .span) (storyOf story)) ⌝ }
-{
-    let s = story.span;
-    let cons = connections(con, SpanIx(s));
-    if first_sight(area, ids, ws, table, cons, SpanIx(s), seed) == OBJECTION {
-        return Story {
-            span: s,
-            from: story.from,
-            gave: seed.id,
-            objecting: objecting(area, ids, ws, table, cons, SpanIx(s), seed),
-        };
+    Story {
+        span: story.span,
+        from: story.from,
+        gave: seed.id,
+        objecting: objecting(area, ids, ws, table, cons, span, seed),
     }
-    story
-}
-
-// What the next visit of a flood does to the watched span.
-pub(crate) fn tell_visit(
-    area: &[u8],
-    con: &[u8],
-    ids: &[u16],
-    ws: &[u16],
-    at: Sections,
-    seed: Seed,
-    height: Height,
-    story: Story,
-) -> Story
-    requires { ⌜ Lent (at .table) (now area) (now con) (now ws) × (length (now ids) ≡ length (now area)) × (at .stack + length (now area) ≤ at .table) ⌝ }
-    requires { ⌜ Flooding (length (now area)) (at .stack) (seed .id) (now ids) (now ws) height × (0 < height .top) × (0 < seed .id) × (seed .area < 256) ⌝ }
-    ensures { λ r. ⌜ (let net = netAt (at .table) (now (area .entry)) (now (ws .entry)) in
-        let marks = marksAt (length (now (area .entry))) (now (ids .entry)) (now (ws .entry)) in
-        let popped = getD (now (ws .entry)) (at .stack + (height .top - 1)) 0 in
-        storyOf r ≡ visitTells net marks (seedOf seed) popped (storyOf story)) ⌝ }
-{
-    let s = at16(ws, at.stack + (height.top - 1));
-    if s == story.span {
-        return give_back(area, con, ids, ws, at.table, seed, story);
-    }
-    story
 }

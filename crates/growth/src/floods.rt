@@ -18,11 +18,9 @@ ghost use Rattle.flood.specs.Stack.{marksAt, Placed, Blank};
 ghost use Rattle.flood.specs.Stories.{storyOf};
 ghost use Rattle.growth.specs.Floods.{floodOne, oneTells, IdsBelowNext, FloodedFrom, EntriesAt};
 
-// The next id, and the story of the watched span. Filled up, as `expand`'s `Tries` is: one is made for each entry of a stack.
+// The next id, and the story of the watched span.
 pub struct Floods {
     pub next: u16,
-    pub fill2: u16,
-    pub fill4: u32,
     pub story: Story,
 }
 
@@ -54,20 +52,10 @@ fn flood_one(
         storyOf (r .story) ≡ oneTells net (now (dist .entry)) level entry before next (storyOf story)) ⌝ }
 {
     if entry == NO_SPAN {
-        return Floods {
-            next,
-            fill2: 0,
-            fill4: 0,
-            story,
-        };
+        return Floods { next, story };
     }
     if ids[entry] != RegionId::NONE.0 {
-        return Floods {
-            next,
-            fill2: 0,
-            fill4: 0,
-            story,
-        };
+        return Floods { next, story };
     }
     let f = flood_region(
         area,
@@ -83,17 +71,10 @@ fn flood_one(
     );
     let told = f.story;
     if f.count == 0 {
-        return Floods {
-            next,
-            fill2: 0,
-            fill4: 0,
-            story: told,
-        };
+        return Floods { next, story: told };
     }
     Floods {
         next: next + 1,
-        fill2: 0,
-        fill4: 0,
         story: told,
     }
 }
@@ -123,12 +104,7 @@ pub(crate) fn flood_all(
         let entries = sec (stack .at) (stack .fill) (now (ws .entry)) in
         (r .next ≡ 0x8000 → ⊥) → storyOf (r .story) ≡ floodsTell net (now (dist .entry)) level entries before next (storyOf story)) ⌝ }
 {
-    let mut f = Floods {
-        next,
-        fill2: 0,
-        fill4: 0,
-        story,
-    };
+    let mut f = Floods { next, story };
     let mut j: usize = 0;
     while j < stack.fill {
         let entry = at16(ws, stack.at + j);

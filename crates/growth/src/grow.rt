@@ -80,7 +80,7 @@ fn grow_painted(
     }
 }
 
-// From ids 0 to the grown ids, and the table of neighbours at its place; with the story of the watched span, if there is one (NO_SPAN where not).
+// From ids 0 to the grown ids, and the table of neighbours at its place; with the story of the watched span, if there is one (NOBODY where not).
 pub fn grow(
     w: usize,
     h: usize,
@@ -94,7 +94,7 @@ pub fn grow(
     table: usize,
     max_distance: u16,
     border_size: u16,
-    watched: usize,
+    watched: u16,
 ) -> Growth
     requires { ⌜ Poised w h (now index) (now count) (now area) (now con) table (now ids) (now ws) × (length (now dist) ≡ length (now area)) ⌝ }
     ensures { λ r. ⌜ (let F = lent w h (now (index .entry)) (now (count .entry)) (now (area .entry)) (now (con .entry)) in

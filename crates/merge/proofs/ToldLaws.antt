@@ -20,10 +20,13 @@ use Rattle.table.proofs.ViewLaws.{recs-length, id-at}
 use Rattle.filter.specs.Group.{Calm}
 use Rattle.pool.specs.Alike.{Alike, Joined}
 use Rattle.pool.specs.Fixed.{mergeOneF, mergedF}
-use Rattle.pool.specs.Pool.{Pool, Laid}
+use Rattle.pool.specs.Pool.{Pool}
+use Rattle.pool.specs.Forms.{PoolIn, LaidIn}
+use Rattle.pool.specs.declared.Half.{Half}
 use Rattle.pool.proofs.MergeLaws.{Both, alike-start, one-alike, round-alike, one-falls, owners, owners-most}
 use Rattle.merge.specs.declared.merge.Round.{Round}
 use Rattle.merge.specs.declared.told.Noted.{Noted}
+use Rattle.merge.specs.Rounds.{firstHalf}
 use Rattle.merge.specs.Told.{mergingsAt, tellsF, roundMergesF, mergingsF, mergeAt, MergedIn, NotedOne, NotedRound, NotedAll, FilteredIn, ToldRegions}
 use Rattle.rules.specs.Filter.{filtered}
 use Rattle.rules.specs.Numbering.{Regions, numbered}
@@ -37,14 +40,14 @@ use Rattle.merge.proofs.TurnLaws.{Rounds, rounds-start, rounds-go, roun
 pub part-length : (end : ℕ) (ws : List ℕ) → end ≤ length ws → length (take end ws) ≡ end
 part-length end ws h = length-take-le end ws h
 
-pub merged-in : (area i m p end : ℕ) (ws ys : List ℕ) (merges : ℕ) (r : Round) → end ≤ length ws → length ys ≡ length (take end ws)
-    → record { recs = recsOf ys m; merges = r .merges } ≡ mergeOneF area i (record { recs = recsOf (take end ws) m; merges = merges })
-    → Pool m p (r .now) (r .other) ys → r .merges ≤ merges + 1 → Laid m p (r .now) (r .other) (r .top) ys
-    → MergedIn area i m p end ws merges (ys ++ drop end ws) r
-merged-in area i m p end ws ys merges r h l e P k L =
+pub merged-in : (area i m end : ℕ) (ws ys : List ℕ) (g r : Round) → end ≤ length ws → length ys ≡ length (take end ws)
+    → record { recs = recsOf ys m; merges = r .merges } ≡ mergeOneF area i (record { recs = recsOf (take end ws) m; merges = g .merges })
+    → PoolIn m (r .half) ys → r .merges ≤ g .merges + 1 → LaidIn m (r .half) ys → r .half .size ≡ g .half .size
+    → MergedIn area i m end ws g (ys ++ drop end ws) r
+merged-in area i m end ws ys g r h l e P k L s =
     let n : length ys ≡ end = l ∙ length-take-le end ws h in
     let t = take-at ys (drop end ws) end n in
-    record { same = rw t e; pool = rw t P; more = k; laid = rw t L; past = drop-at ys (drop end ws) end n }
+    record { same = rw t e; pool = rw t P; more = k; sized = s; laid = rw t L; past = drop-at ys (drop end ws) end n }
 
 past-at : (end x : ℕ) (ws ws′ : List ℕ) → end ≤ x → drop end ws′ ≡ drop end ws → getD ws′ x 0 ≡ getD ws x 0
 past-at end x ws ws′ h e =
@@ -82,9 +85,9 @@ tells-some area i g l e = rw (ne-eqb _ _ e)
 pub pool-mid : (m p h o end : ℕ) (ws : List ℕ) → end ≤ length ws → Pool m p h o (take end ws) → 16 * m ≤ end
 pool-mid m p h o end ws l P = omega (arith, P .halves .past, P .halves .into, length-take-le end ws l)
 
-module _ (area i m p end : ℕ) (ws : List ℕ) (g : Noted) (h : i < m) (room : end + 2 * m ≤ length ws) (mid : 16 * m ≤ end)
+module _ (area i m end : ℕ) (ws : List ℕ) (g : Noted) (h : i < m) (room : end + 2 * m ≤ length ws) (mid : 16 * m ≤ end)
     (j : Joined (recsOf (take end ws) m)) (few : g .count + owners m (recsOf (take end ws) m) ≤ m)
-    (ws₁ : List ℕ) (r : Round) (k : MergedIn area i m p end ws (g .round .merges) ws₁ r) (size : length ws₁ ≡ length ws) where
+    (ws₁ : List ℕ) (r : Round) (k : MergedIn area i m end ws (g .round) ws₁ r) (size : length ws₁ ≡ length ws) where
   falls : owners m (recsOf (take end ws₁) m) + r .merges ≤ owners m (recsOf (take end ws) m) + g .round .merges
   falls =
       let f = one-falls area i m (record { recs = j .rs; merges = g .round .merges }) (mergeAt m end ws (g .round .merges)) (record { recs = j .alike; merges = refl }) h in
@@ -97,11 +100,12 @@ module _ (area i m p end : ℕ) (ws : List ℕ) (g : Noted) (h : i < m) (room : 
   kept = noted-same end (g .count) ws ws₁ (λ x l u. past-at end x ws ws₁ l (k .past))
 
   -- it merges nothing
-  pub noted-none : r .merges ≡ g .round .merges → NotedOne area i m p end ws g ws₁ (record { round = r; count = g .count })
+  pub noted-none : r .merges ≡ g .round .merges → NotedOne area i m end ws g ws₁ (record { round = r; count = g .count })
   noted-none e = record {
     same = k .same;
     pool = k .pool;
     more = k .more;
+    sized = k .sized;
     laid = k .laid;
     few = omega (arith, falls);
     told = kept ∙ sym (tells-none area i (mergeAt m end ws (g .round .merges)) (mergingsAt ws end (g .count)) (merges-is ∙ e));
@@ -142,11 +146,12 @@ module _ (area i m p end : ℕ) (ws : List ℕ) (g : Noted) (h : i < m) (room : 
         getD-set-other (set ws₁ (end + 2 * g .count) old) (end + 2 * g .count + 1) x new 0 (λ z. omega arith)
         ∙ getD-set-other ws₁ (end + 2 * g .count) x old 0 (λ z. omega arith)))
 
-    pub noted-some : NotedOne area i m p end ws g ws₂ (record { round = r; count = g .count + 1 })
+    pub noted-some : NotedOne area i m end ws g ws₂ (record { round = r; count = g .count + 1 })
     noted-some = record {
       same = rw part₂ (k .same);
       pool = rw part₂ (k .pool);
       more = k .more;
+      sized = k .sized;
       laid = rw part₂ (k .laid);
       few = rw part₂ (omega (arith, falls, more-by, few));
       told =
@@ -162,20 +167,21 @@ round-tells : (area k : ℕ) (g : Merge) (l : List Merging) → roundMergesF are
 unfolding roundMergesF
 round-tells area k g l = rw add-one
 
-module _ (area m p end : ℕ) (ws₀ : List ℕ) (count : ℕ) where
-  pub round-start : (h o top : ℕ) → Pool m p h o (take end ws₀) → Laid m p h o top (take end ws₀) → count + owners m (recsOf (take end ws₀) m) ≤ m
-      → NotedRound area 0 m p end ws₀ count ws₀ (record { round = record { now = h; other = o; top = top; merges = 0 }; count = count })
+module _ (area m end : ℕ) (ws₀ : List ℕ) (count : ℕ) where
+  pub round-start : (half : Half) → PoolIn m half (take end ws₀) → LaidIn m half (take end ws₀) → count + owners m (recsOf (take end ws₀) m) ≤ m
+      → NotedRound area 0 m (half .size) end ws₀ count ws₀ (record { round = record { half = half; merges = 0 }; count = count })
   unfolding upto roundMergesF
-  round-start h o top P L f = record { same = refl; less = omega arith; pool = P; laid = L; few = f; told = refl }
+  round-start half P L f = record { same = refl; less = omega arith; sized = refl; pool = P; laid = L; few = f; told = refl }
 
-  module _ (i : ℕ) (ws : List ℕ) (g : Noted) (v : NotedRound area i m p end ws₀ count ws g) where
+  module _ (i size : ℕ) (ws : List ℕ) (g : Noted) (v : NotedRound area i m size end ws₀ count ws g) where
     pub round-joined : Joined (recsOf (take end ws₀) m) → Joined (recsOf (take end ws) m)
     round-joined j = joined-at area m i (take end ws₀) (take end ws) (g .round .merges) j (v .same)
 
-    pub round-next : (ws′ : List ℕ) (r : Noted) → NotedOne area i m p end ws g ws′ r → NotedRound area (i + 1) m p end ws₀ count ws′ r
+    pub round-next : (ws′ : List ℕ) (r : Noted) → NotedOne area i m end ws g ws′ r → NotedRound area (i + 1) m size end ws₀ count ws′ r
     round-next ws′ r k = record {
       same = k .same ∙ ap (mergeOneF area i) (v .same) ∙ sym (upto-next i (mergeOneF area) (mergeAt m end ws₀ 0));
       less = omega (arith, k .more, v .less);
+      sized = k .sized ∙ v .sized;
       pool = k .pool;
       laid = k .laid;
       few = k .few;
@@ -184,7 +190,7 @@ module _ (area m p end : ℕ) (ws₀ : List ℕ) (count : ℕ) where
           ∙ sym (round-tells area i (mergeAt m end ws₀ 0) (mergingsAt ws₀ end count));
     }
 
-    pub round-done : i ≤ m → m ≤ i → NotedRound area m m p end ws₀ count ws g
+    pub round-done : i ≤ m → m ≤ i → NotedRound area m m size end ws₀ count ws g
     round-done h k = let e : i ≡ m = omega arith in rw e at v
 
 -- ---------------------------------------------------------------- all rounds
@@ -215,22 +221,22 @@ module _ (area k : ℕ) (rs : List Rec) (l : List Merging) where
   tells-last n = rw (eq-eqb _ 0 n)
 
 -- before each round
-pub record AllNoted (area m p end : ℕ) (ws₀ ws : List ℕ) (now other top count : ℕ) : Type 0 where
+pub record AllNoted (area m end : ℕ) (ws₀ ws : List ℕ) (half : Half) (count : ℕ) : Type 0 where
   pub size : length ws ≡ length ws₀
-  pub pool : Pool m p now other (take end ws)
-  pub laid : Laid m p now other top (take end ws)
+  pub pool : PoolIn m half (take end ws)
+  pub laid : LaidIn m half (take end ws)
   pub rounds : Rounds area m (take end ws₀) (take end ws)
   pub few : count + owners m (recsOf (take end ws) m) ≤ m
   pub fuel : ℕ
   pub enough : owners m (recsOf (take end ws) m) ≤ fuel
   pub told : mergingsF area (suc m) (recsOf (take end ws₀) m) [] ≡ mergingsF area (suc fuel) (recsOf (take end ws) m) (mergingsAt ws end count)
 
-pub all-start : (area m p end : ℕ) (ws : List ℕ) (h o : ℕ) → Pool m p h o (take end ws) → Joined (recsOf (take end ws) m) → AllNoted area m p end ws ws h o (h + p) 0
+pub all-start : (area m n end : ℕ) (ws : List ℕ) → PoolIn m (firstHalf m n) (take end ws) → Joined (recsOf (take end ws) m) → AllNoted area m end ws ws (firstHalf m n) 0
 unfolding mergingsAt
-all-start area m p end ws h o P j = record {
+all-start area m n end ws P j = record {
   size = refl;
   pool = P;
-  laid = laid-start m p h o (take end ws);
+  laid = laid-start m (4 * n) (16 * m) (16 * m + 4 * n) (take end ws);
   rounds = rounds-start area m (take end ws) j;
   few = omega (arith, owners-most m (recsOf (take end ws) m));
   fuel = m;
@@ -238,8 +244,8 @@ all-start area m p end ws h o P j = record {
   told = refl;
 }
 
-module _ (area m p end : ℕ) (ws₀ ws : List ℕ) (now other top count : ℕ) (v : AllNoted area m p end ws₀ ws now other top count)
-    (ws′ : List ℕ) (g : Noted) (k : NotedRound area m m p end ws count ws′ g) (size : length ws′ ≡ length ws) where
+module _ (area m end : ℕ) (ws₀ ws : List ℕ) (half : Half) (count : ℕ) (v : AllNoted area m end ws₀ ws half count)
+    (ws′ : List ℕ) (g : Noted) (k : NotedRound area m m (half .size) end ws count ws′ g) (size : length ws′ ≡ length ws) where
   whole : upto (length (recsOf (take end ws) m)) (mergeOneF area) (mergeAt m end ws 0) ≡ mergeAt m end ws′ (g .round .merges)
   whole = ap (λ (n : ℕ). upto n (mergeOneF area) (mergeAt m end ws 0)) (recs-length (take end ws) m) ∙ sym (k .same)
 
@@ -258,7 +264,7 @@ module _ (area m p end : ℕ) (ws₀ ws : List ℕ) (now other top count : ℕ) 
         ∙ ap (mergingsF area (suc n) (recsOf (take end ws′) m)) tells-whole,
   )
 
-  pub all-next : (g .round .merges ≡ 0 → ⊥) → AllNoted area m p end ws₀ ws′ (g .round .now) (g .round .other) (g .round .top) (g .count)
+  pub all-next : (g .round .merges ≡ 0 → ⊥) → AllNoted area m end ws₀ ws′ (g .round .half) (g .count)
   all-next z =
       let b = more (v .fuel) z (v .enough) (v .told) in
       record {
@@ -280,7 +286,7 @@ module _ (area m p end : ℕ) (ws₀ ws : List ℕ) (now other top count : ℕ) 
       let w : upto (length (recsOf (take end ws) m)) (mergeOneF area) (mergeAt m end ws 0) .merges ≡ 0 = ap (λ (x : Merge). x .merges) whole ∙ z in
       record {
         same = rounds-done area m (take end ws₀) (take end ws) (take end ws′) (g .round .merges) (k .same) (v .rounds) z;
-        calm = pool-calm m p (g .round .now) (g .round .other) (take end ws′) (k .pool);
+        calm = pool-calm m (g .round .half .size) (g .round .half .now) (g .round .half .other) (take end ws′) (k .pool);
         few = omega (arith, k .few);
         told = sym (tells-whole) ∙ still-tells area (length (recsOf (take end ws) m)) (mergeAt m end ws 0) (mergingsAt ws end count) w
             ∙ sym (v .told ∙ tells-last area (v .fuel) (recsOf (take end ws) m) (mergingsAt ws end count) w);

@@ -1,11 +1,12 @@
 -- What the records' stage hands over: m records (next id plus 1) in the workspace, of n spans with the ids `ids`.
--- From 16m on: the pool's two halves, 4n each, the lists in the first; then the floors.
+-- After the columns: the pool's two halves, the lists in the first; then the floors.
 use Prim.Native.Nat.{ℕ, _+_, _*_, _≤_, _<_}
 use mathlib.Core.Path.{_≡_}
 use mathlib.Core.List.{List}
 use lib.ListN.{length, getD}
 use Rattle.rules.specs.Refusals.{mostSpans}
-use Rattle.table.specs.View.{startOf, endOf, Held}
+use Rattle.table.specs.Map.{spareAt, poolAt, halfOf, floorsFrom, recordsEnd}
+use Rattle.table.specs.View.{listStart, listEnd, floorsStart, RecordsIn}
 use Rattle.numbering.specs.Number.{Spans}
 use Rattle.laws.specs.Sums.{sumTo}
 use Rattle.pool.specs.Pool.{lenAt, countAt}
@@ -13,18 +14,18 @@ use Rattle.pool.specs.Pool.{lenAt, countAt}
 pub record Ready (m n : ℕ) (ws ids : List ℕ) : Type 0 where
   pub records : m ≤ n + 6
   pub spans : n ≤ mostSpans
-  pub room : 16 * m + 70 * n ≤ length ws
+  pub room : recordsEnd m n ≤ length ws
   -- tables and parts in the workspace, ids and floors below m, what is listed flagged or below m
-  pub held : Held m (7 * m) (11 * m) ws
+  pub held : RecordsIn m ws
   -- lists in the first half, floors past the second
-  pub from : (r : ℕ) → r < m → 16 * m ≤ startOf ws m (7 * m) r
-  pub upto : (r : ℕ) → r < m → endOf ws m (7 * m) r ≤ 16 * m + 4 * n
-  pub floors : (r : ℕ) → r < m → 16 * m + 8 * n ≤ startOf ws m (11 * m) r
+  pub from : (r : ℕ) → r < m → poolAt m ≤ listStart ws m r
+  pub upto : (r : ℕ) → r < m → listEnd ws m r ≤ poolAt m + halfOf n
+  pub floors : (r : ℕ) → r < m → floorsFrom m n ≤ floorsStart ws m r
   -- all lists together, and all counts
-  pub lists : sumTo (lenAt ws m) m ≤ 4 * n
+  pub lists : sumTo (lenAt ws m) m ≤ halfOf n
   pub counts : sumTo (countAt ws m) m ≤ n
   -- the two spare columns are zeros
-  pub blank : (x : ℕ) → x < 2 * m → getD ws (5 * m + x) 0 ≡ 0
+  pub blank : (x : ℕ) → x < 2 * m → getD ws (spareAt m + x) 0 ≡ 0
   -- a live record bears its own number
   pub own : (x : ℕ) → x < m → (getD ws x 0 ≡ 0 → ⊥) → getD ws x 0 ≡ x
   -- a span's id is flagged or a record's

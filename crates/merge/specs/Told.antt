@@ -11,11 +11,13 @@ use Rattle.rules.specs.Merge.{Merge, merged}
 use Rattle.rules.specs.Numbering.{Regions, numbered}
 use Rattle.rules.specs.Reasons.{Merging, goneWith, mergings}
 use Rattle.space.specs.Space.{Frame}
+use Rattle.table.specs.Map.{spareAt}
 use Rattle.table.specs.View.{recsOf}
 use Rattle.filter.specs.Group.{Calm}
 use Rattle.pool.specs.Fixed.{mergeOneF, mergedF}
-use Rattle.pool.specs.Pool.{Pool, Laid}
+use Rattle.pool.specs.Forms.{PoolIn, LaidIn}
 use Rattle.pool.proofs.MergeLaws.{owners}
+use Rattle.merge.specs.Rounds.{roundAt}
 use Rattle.merge.specs.declared.merge.Round.{Round}
 use Rattle.merge.specs.declared.told.Noted.{Noted}
 
@@ -44,31 +46,34 @@ mergingsF area (suc k) rs l =
 
 -- the records before `end`, with so many merges in the round
 abbrev pub mergeAt : ℕ → ℕ → List ℕ → ℕ → Merge
-mergeAt m end ws merges = record { recs = recsOf (take end ws) m; merges = merges }
+mergeAt m end ws merges = roundAt m (take end ws) merges
 
 -- what a record's turn leaves: all past the records stays
-pub record MergedIn (area i m p end : ℕ) (ws : List ℕ) (merges : ℕ) (ws′ : List ℕ) (r : Round) : Type 0 where
-  pub same : mergeAt m end ws′ (r .merges) ≡ mergeOneF area i (mergeAt m end ws merges)
-  pub pool : Pool m p (r .now) (r .other) (take end ws′)
-  pub more : r .merges ≤ merges + 1
-  pub laid : Laid m p (r .now) (r .other) (r .top) (take end ws′)
+pub record MergedIn (area i m end : ℕ) (ws : List ℕ) (g : Round) (ws′ : List ℕ) (r : Round) : Type 0 where
+  pub same : mergeAt m end ws′ (r .merges) ≡ mergeOneF area i (mergeAt m end ws (g .merges))
+  pub pool : PoolIn m (r .half) (take end ws′)
+  pub more : r .merges ≤ g .merges + 1
+  pub sized : r .half .size ≡ g .half .size
+  pub laid : LaidIn m (r .half) (take end ws′)
   pub past : drop end ws′ ≡ drop end ws
 
 -- the same with its merge noted
-pub record NotedOne (area i m p end : ℕ) (ws : List ℕ) (g : Noted) (ws′ : List ℕ) (r : Noted) : Type 0 where
+pub record NotedOne (area i m end : ℕ) (ws : List ℕ) (g : Noted) (ws′ : List ℕ) (r : Noted) : Type 0 where
   pub same : mergeAt m end ws′ (r .round .merges) ≡ mergeOneF area i (mergeAt m end ws (g .round .merges))
-  pub pool : Pool m p (r .round .now) (r .round .other) (take end ws′)
+  pub pool : PoolIn m (r .round .half) (take end ws′)
   pub more : r .round .merges ≤ g .round .merges + 1
-  pub laid : Laid m p (r .round .now) (r .round .other) (r .round .top) (take end ws′)
+  pub sized : r .round .half .size ≡ g .round .half .size
+  pub laid : LaidIn m (r .round .half) (take end ws′)
   pub few : r .count + owners m (recsOf (take end ws′) m) ≤ m
   pub told : mergingsAt ws′ end (r .count) ≡ tellsF area i (mergeAt m end ws (g .round .merges)) (mergingsAt ws end (g .count))
 
 -- what the first i records of a round leave
-pub record NotedRound (area i m p end : ℕ) (ws : List ℕ) (count : ℕ) (ws′ : List ℕ) (r : Noted) : Type 0 where
+pub record NotedRound (area i m size end : ℕ) (ws : List ℕ) (count : ℕ) (ws′ : List ℕ) (r : Noted) : Type 0 where
   pub same : mergeAt m end ws′ (r .round .merges) ≡ upto i (mergeOneF area) (mergeAt m end ws 0)
   pub less : r .round .merges ≤ i
-  pub pool : Pool m p (r .round .now) (r .round .other) (take end ws′)
-  pub laid : Laid m p (r .round .now) (r .round .other) (r .round .top) (take end ws′)
+  pub sized : r .round .half .size ≡ size
+  pub pool : PoolIn m (r .round .half) (take end ws′)
+  pub laid : LaidIn m (r .round .half) (take end ws′)
   pub few : r .count + owners m (recsOf (take end ws′) m) ≤ m
   pub told : mergingsAt ws′ end (r .count) ≡ roundMergesF area i (mergeAt m end ws 0) (mergingsAt ws end count)
 
@@ -83,7 +88,7 @@ pub record NotedAll (area m end : ℕ) (ws ws′ : List ℕ) (count : ℕ) : Typ
 pub record FilteredIn (least r m end : ℕ) (ws ws′ : List ℕ) (k : ℕ) : Type 0 where
   pub same : recsOf (take end ws′) m ≡ filtered least (recsOf (take end ws) m)
   pub calm : Calm m (take end ws′)
-  pub frame : Frame 0 (5 * m) (take end ws) (take end ws′)
+  pub frame : Frame 0 (spareAt m) (take end ws) (take end ws′)
   pub gone : k ≡ goneWith least r m (recsOf (take end ws) m)
 
 -- what filter, merge and numbering come to, and what became of record r: its id after the filter, the count of its group, the merges noted from `end` on

@@ -2,13 +2,17 @@
 use pool::many;
 use table::at;
 use table::list_of;
+use table::map::AREAS;
+use table::map::FLOORS;
+use table::map::LISTS;
 use table::place;
 ghost use mathlib.Core.Path.{_≡_};
 ghost use Prim.Native.Nat.{_+_, _*_, _≤_, _<_};
 ghost use lib.ListN.{length};
 ghost use Rattle.rules.specs.Base.{any};
 ghost use Rattle.rules.specs.Merge.{place};
-ghost use Rattle.table.specs.View.{part, recAt, view, Below, Held};
+ghost use Rattle.table.specs.Map.{listsAt, floorPartsAt};
+ghost use Rattle.table.specs.View.{part, view, Below, recordAt, RecordsIn};
 ghost use Rattle.pool.specs.Fixed.{floorIs, floorIn, suitsF};
 
 // Does the list hold a record whose id is b?
@@ -28,22 +32,20 @@ fn any_floor(ws: &[u16], l: &[u16], b: u16) -> bool
 
 // The first record of id a, from i on, or m.
 fn next_record(ws: &[u16], m: usize, a: u16, i: usize) -> usize
-    requires { ⌜ m ≤ length (now ws) ⌝ }
-    requires { ⌜ i ≤ m ⌝ }
-    ensures { λ r. ⌜ r ≡ i + place (part i m (now (ws .entry))) a ⌝ }
-    ensures { λ r. ⌜ r ≤ m ⌝ }
+    requires { ⌜ (m ≤ length (now ws)) × (i ≤ m) ⌝ }
+    ensures { λ r. ⌜ (r ≡ i + place (part i m (now (ws .entry))) a) × (r ≤ m) ⌝ }
 {
     i + place(&ws[i..m], a)
 }
 
 // Has some record of id a a floor of id b?
 fn floor_in(ws: &[u16], m: usize, a: u16, b: u16) -> bool
-    requires { ⌜ Held m (7 * m) (11 * m) (now ws) ⌝ }
-    ensures { λ r. ⌜ r ≡ floorIn (now (ws .entry)) (view (now (ws .entry)) m (7 * m) (11 * m)) a b ⌝ }
+    requires { ⌜ RecordsIn m (now ws) ⌝ }
+    ensures { λ r. ⌜ r ≡ floorIn (now (ws .entry)) (view (now (ws .entry)) m (listsAt m) (floorPartsAt m)) a b ⌝ }
 {
     let mut i = next_record(ws, m, a, 0);
     while i < m {
-        if any_floor(ws, list_of(ws, m, 11 * m, i), b) {
+        if any_floor(ws, list_of(ws, m, FLOORS * m, i), b) {
             return true;
         }
         i = next_record(ws, m, a, i + 1);
@@ -53,18 +55,16 @@ fn floor_in(ws: &[u16], m: usize, a: u16, b: u16) -> bool
 
 // The same area, listed at most once, and not a floor.
 pub(crate) fn can_merge_with(ws: &[u16], m: usize, i: usize, j: usize) -> bool
-    requires { ⌜ Held m (7 * m) (11 * m) (now ws) ⌝ }
-    requires { ⌜ i < m ⌝ }
-    requires { ⌜ j < m ⌝ }
-    ensures { λ r. ⌜ (let records = view (now (ws .entry)) m (7 * m) (11 * m) in
-        let own = recAt (now (ws .entry)) m (7 * m) (11 * m) i in
-        let other = recAt (now (ws .entry)) m (7 * m) (11 * m) j in
+    requires { ⌜ RecordsIn m (now ws) × (i < m) × (j < m) ⌝ }
+    ensures { λ r. ⌜ (let records = view (now (ws .entry)) m (listsAt m) (floorPartsAt m) in
+        let own = recordAt (now (ws .entry)) m i in
+        let other = recordAt (now (ws .entry)) m j in
         r ≡ suitsF records own other) ⌝ }
 {
-    if ws[2 * m + i] != ws[2 * m + j] {
+    if ws[AREAS * m + i] != ws[AREAS * m + j] {
         return false;
     }
-    if 1 < many(list_of(ws, m, 7 * m, i), ws[j]) {
+    if 1 < many(list_of(ws, m, LISTS * m, i), ws[j]) {
         return false;
     }
     if floor_in(ws, m, ws[i], ws[j]) {

@@ -12,6 +12,7 @@ ghost use Rattle.rules.specs.Filter.{filtered};
 ghost use Rattle.rules.specs.Merge.{merged};
 ghost use Rattle.rules.specs.Numbering.{numbered};
 ghost use Rattle.rules.specs.Numbering as rules;
+ghost use Rattle.table.specs.Map.{spareAt, poolAt};
 ghost use Rattle.table.specs.View.{recsOf};
 ghost use Rattle.filter.specs.Group.{Calm};
 ghost use Rattle.numbering.specs.Number.{Column, Blank, Spans};
@@ -32,9 +33,7 @@ pub fn merge_and_filter_regions(
         ≡ numbered (merged «merge_region_size» (suc m) (filtered «min_region_area» (recsOf (now (ws .entry)) m))) (now (ids .entry))) ⌝ }
 {
     filter(ws, m, min_region_area);
-    let h = 16 * m;
-    let p = 4 * n;
-    merge_all(ws, m, p, merge_region_size, h, h + p);
+    merge_all(ws, m, n, merge_region_size);
     number(ids, ws, m)
 }
 
@@ -48,7 +47,8 @@ fn filter_in(ws: &mut [u16], end: usize, m: usize, least: u16, r: usize) -> usiz
 
 // The records before `end` are numbered.
 fn number_in(ids: &mut [u16], ws: &mut [u16], end: usize, m: usize) -> Regions
-    requires { ⌜ (end ≤ length (now ws)) × Column m (5 * m) (take end (now ws)) × Blank m (5 * m) (take end (now ws)) × Spans m (now ids) × (16 * m ≤ end) ⌝ }
+    requires { ⌜ (end ≤ length (now ws)) × Column m (spareAt m) (take end (now ws)) × Blank m (spareAt m) (take end (now ws))
+        × Spans m (now ids) × (poolAt m ≤ end) ⌝ }
     ensures { λ r. ⌜ (record { ids = now (ids .exit); most = r .«max_region»; over = r .overlaps; cut = r .cut }
         ≡ numbered (recsOf (take end (now (ws .entry))) m) (now (ids .entry))) ⌝ }
     ensures { λ _. ⌜ drop end (now (ws .exit)) ≡ drop end (now (ws .entry)) ⌝ }
@@ -83,9 +83,7 @@ pub fn merge_and_filter_told(
 {
     let group = filter_in(ws, end, m, min_region_area, r);
     let id = ws[r];
-    let h = 16 * m;
-    let p = 4 * n;
-    let merges = merge_all_noted(ws, end, m, p, merge_region_size, h, h + p);
+    let merges = merge_all_noted(ws, end, m, n, merge_region_size);
     let regions = number_in(ids, ws, end, m);
     Told {
         id,

@@ -2,16 +2,18 @@
 // from there on, two numbers a merge: the id that was absorbed, and the one that absorbed it.
 use crate::merge::Round;
 use crate::merge::merge_one;
+use pool::Half;
+use table::map::HALF;
+use table::map::POOL;
 ghost use mathlib.Core.Path.{_≡_};
-ghost use Prim.Native.Nat.{suc, _+_, _*_, _≤_, _<_};
+ghost use Prim.Native.Nat.{_+_, _*_, _≤_, _<_};
 ghost use lib.ListN.{length, take, set};
 ghost use Rattle.table.specs.View.{recsOf};
-ghost use Rattle.filter.specs.Group.{Calm};
 ghost use Rattle.pool.specs.Alike.{Reps, Joined};
-ghost use Rattle.pool.specs.Fixed.{mergedF};
-ghost use Rattle.pool.specs.Pool.{Pool, Laid};
+ghost use Rattle.pool.specs.Forms.{PoolIn, LaidIn};
 ghost use Rattle.pool.proofs.MergeLaws.{owners};
-ghost use Rattle.merge.specs.Told.{mergingsAt, mergingsF, MergedIn, NotedOne, NotedRound, NotedAll};
+ghost use Rattle.merge.specs.Rounds.{firstHalf};
+ghost use Rattle.merge.specs.Told.{MergedIn, NotedOne, NotedRound, NotedAll};
 
 // A round under way, and how many merges are noted.
 pub struct Noted {
@@ -20,12 +22,12 @@ pub struct Noted {
 }
 
 // Record i of a round, over the records before `end`.
-fn merge_in(ws: &mut [u16], end: usize, m: usize, p: usize, area: u16, i: usize, g: Round) -> Round
-    requires { ⌜ (end ≤ length (now ws)) × Pool m p (g .now) (g .other) (take end (now ws)) × Laid m p (g .now) (g .other) (g .top) (take end (now ws)) ⌝ }
-    requires { ⌜ Reps (recsOf (take end (now ws)) m) × (i < m) × (g .merges < 65536) ⌝ }
-    ensures { λ r. ⌜ MergedIn area i m p end (now (ws .entry)) (g .merges) (now (ws .exit)) r ⌝ }
+fn merge_in(ws: &mut [u16], end: usize, m: usize, area: u16, i: usize, round: Round) -> Round
+    requires { ⌜ (end ≤ length (now ws)) × PoolIn m (round .half) (take end (now ws)) × LaidIn m (round .half) (take end (now ws)) ⌝ }
+    requires { ⌜ Reps (recsOf (take end (now ws)) m) × (i < m) × (round .merges < 65536) ⌝ }
+    ensures { λ r. ⌜ MergedIn area i m end (now (ws .entry)) round (now (ws .exit)) r ⌝ }
 {
-    merge_one(&mut ws[..end], m, p, area, i, g)
+    merge_one(&mut ws[..end], m, area, i, round)
 }
 
 // A merge is noted at place b.
@@ -38,35 +40,26 @@ fn note_merge(ws: &mut [u16], b: usize, old: u16, new: u16)
 }
 
 // Record i of a round; if it merges, that is noted.
-fn merge_one_noted(
-    ws: &mut [u16],
-    end: usize,
-    m: usize,
-    p: usize,
-    area: u16,
-    i: usize,
-    g: Noted,
-) -> Noted
-    requires { ⌜ (end + 2 * m ≤ length (now ws)) × Pool m p (g .round .now) (g .round .other) (take end (now ws))
-        × Laid m p (g .round .now) (g .round .other) (g .round .top) (take end (now ws)) ⌝ }
-    requires { ⌜ Joined (recsOf (take end (now ws)) m) × (i < m) × (g .round .merges < 65536)
-        × (g .count + owners m (recsOf (take end (now ws)) m) ≤ m) ⌝ }
-    ensures { λ r. ⌜ NotedOne area i m p end (now (ws .entry)) g (now (ws .exit)) r ⌝ }
+fn merge_one_noted(ws: &mut [u16], end: usize, m: usize, area: u16, i: usize, noted: Noted) -> Noted
+    requires { ⌜ (end + 2 * m ≤ length (now ws)) × PoolIn m (noted .round .half) (take end (now ws)) × LaidIn m (noted .round .half) (take end (now ws)) ⌝ }
+    requires { ⌜ Joined (recsOf (take end (now ws)) m) × (i < m) × (noted .round .merges < 65536)
+        × (noted .count + owners m (recsOf (take end (now ws)) m) ≤ m) ⌝ }
+    ensures { λ r. ⌜ NotedOne area i m end (now (ws .entry)) noted (now (ws .exit)) r ⌝ }
 {
     let old = ws[i];
-    let before = g.round;
-    let r = merge_in(ws, end, m, p, area, i, before);
-    if r.merges == before.merges {
+    let before = noted.round;
+    let round = merge_in(ws, end, m, area, i, before);
+    if round.merges == before.merges {
         return Noted {
-            round: r,
-            count: g.count,
+            round,
+            count: noted.count,
         };
     }
     let new = ws[i];
-    note_merge(ws, end + 2 * g.count, old, new);
+    note_merge(ws, end + 2 * noted.count, old, new);
     Noted {
-        round: r,
-        count: g.count + 1,
+        round,
+        count: noted.count + 1,
     }
 }
 
@@ -75,60 +68,48 @@ fn merge_round_noted(
     ws: &mut [u16],
     end: usize,
     m: usize,
-    p: usize,
     area: u16,
-    h: usize,
-    o: usize,
-    top: usize,
+    half: Half,
     count: usize,
 ) -> Noted
-    requires { ⌜ (end + 2 * m ≤ length (now ws)) × Pool m p h o (take end (now ws)) × Laid m p h o top (take end (now ws)) ⌝ }
+    requires { ⌜ (end + 2 * m ≤ length (now ws)) × PoolIn m half (take end (now ws)) × LaidIn m half (take end (now ws)) ⌝ }
     requires { ⌜ Joined (recsOf (take end (now ws)) m) × (count + owners m (recsOf (take end (now ws)) m) ≤ m) ⌝ }
-    ensures { λ r. ⌜ NotedRound area m m p end (now (ws .entry)) count (now (ws .exit)) r ⌝ }
+    ensures { λ r. ⌜ NotedRound area m m (half .size) end (now (ws .entry)) count (now (ws .exit)) r ⌝ }
 {
-    let mut g = Noted {
-        round: Round {
-            now: h,
-            other: o,
-            top,
-            merges: 0,
-        },
+    let mut noted = Noted {
+        round: Round { half, merges: 0 },
         count,
     };
     let mut i = 0;
     while i < m {
-        g = merge_one_noted(ws, end, m, p, area, i, g);
+        noted = merge_one_noted(ws, end, m, area, i, noted);
         i += 1;
     }
-    g
+    noted
 }
 
 // Rounds until one merges nothing. Gives how many merges are noted.
-pub(crate) fn merge_all_noted(
-    ws: &mut [u16],
-    end: usize,
-    m: usize,
-    p: usize,
-    area: u16,
-    h: usize,
-    o: usize,
-) -> usize
-    requires { ⌜ (end + 2 * m ≤ length (now ws)) × Pool m p h o (take end (now ws)) × Joined (recsOf (take end (now ws)) m) ⌝ }
+pub(crate) fn merge_all_noted(ws: &mut [u16], end: usize, m: usize, n: usize, area: u16) -> usize
+    requires { ⌜ (end + 2 * m ≤ length (now ws)) × PoolIn m (firstHalf m n) (take end (now ws)) × Joined (recsOf (take end (now ws)) m) ⌝ }
     ensures { λ r. ⌜ NotedAll area m end (now (ws .entry)) (now (ws .exit)) r ⌝ }
 {
-    let mut now = h;
-    let mut other = o;
-    let mut top = h + p;
+    let first = POOL * m;
+    let size = HALF * n;
+    let second = first + size;
+    let mut half = Half {
+        now: first,
+        other: second,
+        size,
+        top: second,
+    };
     let mut count = 0;
     loop {
-        let g = merge_round_noted(ws, end, m, p, area, now, other, top, count);
-        let r = g.round;
-        if r.merges == 0 {
-            return g.count;
+        let noted = merge_round_noted(ws, end, m, area, half, count);
+        let round = noted.round;
+        if round.merges == 0 {
+            return noted.count;
         }
-        now = r.now;
-        other = r.other;
-        top = r.top;
-        count = g.count;
+        half = round.half;
+        count = noted.count;
     }
 }

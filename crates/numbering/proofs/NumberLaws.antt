@@ -21,7 +21,7 @@ use Rattle.table.proofs.SearchLaws.{has-cons, has-head, place-other, place-firs
 use Rattle.pool.proofs.HasLaws.{or-first, has-end}
 use Rattle.pool.specs.Lists.{mapTo}
 use Rattle.pool.proofs.ListLaws.{mapTo-at}
-use Rattle.numbering.specs.Number.{stepLive, liveIds, numIn, renumber, nonzero, Numbers, Column, Blank, Marked, Spans}
+use Rattle.numbering.specs.Number.{stepLive, liveIds, numIn, renumber, nonzero, Numbers, Column, Blank, Stand, Spans}
 use Rattle.laws.proofs.Basics.{or-yes, or-no}
 
 -- ---- an id's number
@@ -203,7 +203,7 @@ pub flagged-stays : (rids : List ℕ) (r : ℕ) → 32768 ≤ r → r ≡ renumb
 unfolding renumber if_then_else_
 flagged-stays rids r h = rw (le-leb 32768 r h)
 
-pub new-id : (m b : ℕ) (ws : List ℕ) (r i : ℕ) → Column m b ws → Marked m b ws (liveIds (take m ws) []) → (r < 32768 → r < m) → r < 32768 → i ≡ getD ws r 0
+pub new-id : (m b : ℕ) (ws : List ℕ) (r i : ℕ) → Column m b ws → Stand m b ws (liveIds (take m ws) []) → (r < 32768 → r < m) → r < 32768 → i ≡ getD ws r 0
     → getD ws (b + i) 0 ≡ renumber (take m ws) r
 unfolding renumber if_then_else_
 new-id m b ws r i c k f h e =

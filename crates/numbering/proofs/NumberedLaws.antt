@@ -14,7 +14,7 @@ use Rattle.rules.specs.Numbering.{live, overlaps, cuts, numberOf, numbered, Reg
 use Rattle.space.specs.Space.{Frame, sec}
 use Rattle.space.proofs.Laws.{sec-before, sec-after}
 use Rattle.table.specs.View.{recAt, view, recsOf}
-use Rattle.numbering.specs.Number.{stepLive, liveIds, renumber, nonzero, numberedBy, Numbers, Column, Marked}
+use Rattle.numbering.specs.Number.{stepLive, liveIds, renumber, nonzero, numberedBy, Numbers, Column, Stand}
 use Rattle.table.proofs.ViewLaws.{map-tab}
 use Rattle.pool.proofs.HasLaws.{regions-eq, map-same}
 
@@ -93,7 +93,7 @@ module _ (ws ws′ : List ℕ) (m b : ℕ) (c : Column m b ws) (f : Frame b (b +
   ids-kept : take m ws′ ≡ take m ws
   ids-kept = sym (take-take m b ws′ (c .apart)) ∙ ap (take m) (f .before) ∙ take-take m b ws (c .apart)
 
-  pub marked-after : (k : ℕ) → Numbers m b ws′ (liveIds (take m ws) []) k → Marked m b ws′ (liveIds (take m ws′) [])
+  pub marked-after : (k : ℕ) → Numbers m b ws′ (liveIds (take m ws) []) k → Stand m b ws′ (liveIds (take m ws′) [])
   marked-after k n = rw ids-kept (record { marks = n .marks })
 
 pub number-done : (ws ws′ ids ids′ : List ℕ) (m k o u : ℕ) → Column m (5 * m) ws → 16 * m ≤ length ws → Frame (5 * m) (5 * m + m) ws ws′

@@ -2,13 +2,14 @@
 use Prim.Native.Nat.{ℕ, suc, _+_, _≤_, _<_}
 use mathlib.Core.Path.{_≡_}
 use mathlib.Core.List.{List, [], _∷_, map}
-use lib.ListN.{length, getD}
+use lib.ListN.{length, getD, take}
 use lib.Dec.{eqb}
 use Rattle.rules.specs.Base.{if_then_else_}
 use Rattle.rules.specs.Growth.{flagged}
 use Rattle.rules.specs.Records.{once, has}
 use Rattle.rules.specs.Merge.{place}
 use Rattle.rules.specs.Numbering.{numberOf, Regions}
+use Rattle.table.specs.Map.{Names}
 
 -- live ids so far, and one record more
 unfoldable pub stepLive : List ℕ → ℕ → List ℕ
@@ -51,9 +52,13 @@ pub record Blank (m b : ℕ) (ws : List ℕ) : Type 0 where
   pub blank : (v : ℕ) → v < m → getD ws (b + v) 0 ≡ 0
 
 -- the numbers given stand at b
-pub record Marked (m b : ℕ) (ws l : List ℕ) : Type 0 where
+pub record Stand (m b : ℕ) (ws l : List ℕ) : Type 0 where
   pub marks : (v : ℕ) → v < m → getD ws (b + v) 0 ≡ numIn l v
+
+-- those of all live ids
+abbrev pub AllNumbers : ℕ → ℕ → List ℕ → Type 0
+AllNumbers m b ws = Stand m b ws (liveIds (take m ws) [])
 
 -- an id that is not flagged is a record's
 pub record Spans (m : ℕ) (ids : List ℕ) : Type 0 where
-  pub below : (x : ℕ) → getD ids x 0 < 32768 → getD ids x 0 < m
+  pub below : (x : ℕ) → Names m (getD ids x 0)

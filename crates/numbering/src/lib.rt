@@ -1,78 +1,73 @@
 // Numbering: live ids are numbered from 1 by lowest record.
 use pool::many;
 use region::RegionId;
-use table::MARKS;
 use table::at;
+use table::map::CUTS;
+use table::map::OVERLAPS;
+use table::map::SPARE;
 ghost use mathlib.Core.Path.{_≡_};
 ghost use mathlib.Core.List.{List, [], map};
 ghost use Prim.Native.Nat.{ℕ, _+_, _*_, _≤_, _<_};
 ghost use lib.ListN.{length, getD, take};
 ghost use Rattle.space.specs.Space.{Frame};
 ghost use Rattle.rules.specs.Numbering.{numbered};
+ghost use Rattle.table.specs.Map.{Names, spareAt, poolAt};
 ghost use Rattle.table.specs.View.{recsOf};
-ghost use Rattle.numbering.specs.Number.{stepLive, liveIds, renumber, nonzero, Numbers, Column, Blank, Marked, Spans};
+ghost use Rattle.numbering.specs.Number.{stepLive, liveIds, renumber, nonzero, Numbers, AllNumbers, Column, Blank, Spans};
 
 // Record i's id gets the next number, unless it is 0 or has one. Gives the last number given.
-fn number_one(ws: &mut [u16], m: usize, b: usize, i: usize, k: u16) -> u16
-    requires { ⌜ Column m b (now ws) ⌝ }
-    requires { ⌜ i < m ⌝ }
-    requires { ⌜ k ≤ i ⌝ }
-    ensures { λ r. ⌜ ((l : List ℕ) → Numbers m b (now (ws .entry)) l k
-        → Numbers m b (now (ws .exit)) (stepLive l (getD (now (ws .entry)) i 0)) r) ⌝ }
-    ensures { λ _. ⌜ Frame b (b + m) (now (ws .entry)) (now (ws .exit)) ⌝ }
-    ensures { λ r. ⌜ r ≤ k + 1 ⌝ }
+fn number_one(ws: &mut [u16], m: usize, numbers: usize, i: usize, k: u16) -> u16
+    requires { ⌜ Column m numbers (now ws) × (i < m) × (k ≤ i) ⌝ }
+    ensures { λ r. ⌜ ((l : List ℕ) → Numbers m numbers (now (ws .entry)) l k
+        → Numbers m numbers (now (ws .exit)) (stepLive l (getD (now (ws .entry)) i 0)) r) ⌝ }
+    ensures { λ r. ⌜ Frame numbers (numbers + m) (now (ws .entry)) (now (ws .exit)) × (r ≤ k + 1) ⌝ }
 {
     let r = at(ws, i);
     if r == 0 {
         return k;
     }
-    if ws[b + r] != 0 {
+    if ws[numbers + r] != 0 {
         return k;
     }
-    ws[b + r] = k + 1;
+    ws[numbers + r] = k + 1;
     k + 1
 }
 
 // All records, in order.
-fn number_all(ws: &mut [u16], m: usize, b: usize) -> u16
-    requires { ⌜ Column m b (now ws) ⌝ }
-    requires { ⌜ Blank m b (now ws) ⌝ }
-    ensures { λ r. ⌜ Numbers m b (now (ws .exit)) (liveIds (take m (now (ws .entry))) []) r ⌝ }
-    ensures { λ _. ⌜ Frame b (b + m) (now (ws .entry)) (now (ws .exit)) ⌝ }
+fn number_all(ws: &mut [u16], m: usize, numbers: usize) -> u16
+    requires { ⌜ Column m numbers (now ws) × Blank m numbers (now ws) ⌝ }
+    ensures { λ r. ⌜ Numbers m numbers (now (ws .exit)) (liveIds (take m (now (ws .entry))) []) r ⌝ }
+    ensures { λ _. ⌜ Frame numbers (numbers + m) (now (ws .entry)) (now (ws .exit)) ⌝ }
 {
     let mut k = 0;
     let mut i = 0;
     while i < m {
-        k = number_one(ws, m, b, i, k);
+        k = number_one(ws, m, numbers, i, k);
         i += 1;
     }
     k
 }
 
 // The id of a span that has the id r.
-fn new_id(ws: &[u16], m: usize, b: usize, r: u16) -> u16
-    requires { ⌜ Column m b (now ws) ⌝ }
-    requires { ⌜ Marked m b (now ws) (liveIds (take m (now ws)) []) ⌝ }
-    requires { ⌜ (r < 32768 → r < m) ⌝ }
+fn new_id(ws: &[u16], m: usize, numbers: usize, r: u16) -> u16
+    requires { ⌜ Column m numbers (now ws) × AllNumbers m numbers (now ws) × Names m r ⌝ }
     ensures { λ x. ⌜ x ≡ renumber (take m (now (ws .entry))) r ⌝ }
 {
     if RegionId::BORDER_REGION.0 <= r {
         return r;
     }
     let i = at(ws, r as usize);
-    ws[b + i]
+    ws[numbers + i]
 }
 
 // All spans.
-fn new_ids(ids: &mut [u16], ws: &[u16], m: usize, b: usize)
-    requires { ⌜ Column m b (now ws) ⌝ }
-    requires { ⌜ Marked m b (now ws) (liveIds (take m (now ws)) []) ⌝ }
-    requires { ⌜ Spans m (now ids) ⌝ }
+fn new_ids(ids: &mut [u16], ws: &[u16], m: usize, numbers: usize)
+    requires { ⌜ Column m numbers (now ws) × AllNumbers m numbers (now ws) × Spans m (now ids) ⌝ }
     ensures { λ _. ⌜ now (ids .exit) ≡ map (renumber (take m (now (ws .entry)))) (now (ids .entry)) ⌝ }
 {
     let mut s = 0;
     while s < ids.len() {
-        ids[s] = new_id(ws, m, b, ids[s]);
+        ids[s] = new_id(ws, m, numbers, ids[s]);
         s += 1;
     }
 }
@@ -94,21 +89,18 @@ pub struct Regions {
 
 // Numbers the records, and writes each span's number.
 pub fn number(ids: &mut [u16], ws: &mut [u16], m: usize) -> Regions
-    requires { ⌜ Column m (5 * m) (now ws) ⌝ }
-    requires { ⌜ Blank m (5 * m) (now ws) ⌝ }
-    requires { ⌜ Spans m (now ids) ⌝ }
-    requires { ⌜ 16 * m ≤ length (now ws) ⌝ }
+    requires { ⌜ Column m (spareAt m) (now ws) × Blank m (spareAt m) (now ws) × Spans m (now ids) × (poolAt m ≤ length (now ws)) ⌝ }
     ensures { λ r. ⌜ (record { ids = now (ids .exit); most = r .«max_region»; over = r .overlaps; cut = r .cut }
         ≡ numbered (recsOf (now (ws .entry)) m) (now (ids .entry))) ⌝ }
-    ensures { λ _. ⌜ Frame (5 * m) (5 * m + m) (now (ws .entry)) (now (ws .exit)) ⌝ }
+    ensures { λ _. ⌜ Frame (spareAt m) (spareAt m + m) (now (ws .entry)) (now (ws .exit)) ⌝ }
 {
-    let a = 3 * m;
-    let b = 5 * m;
-    let c = MARKS * m;
-    let max_region = number_all(ws, m, b);
-    new_ids(ids, ws, m, b);
-    let overlaps = nonzero(&ws[a..a + m]);
-    let cut = nonzero(&ws[c..c + m]);
+    let flags = OVERLAPS * m;
+    let numbers = SPARE * m;
+    let cuts = CUTS * m;
+    let max_region = number_all(ws, m, numbers);
+    new_ids(ids, ws, m, numbers);
+    let overlaps = nonzero(&ws[flags..flags + m]);
+    let cut = nonzero(&ws[cuts..cuts + m]);
     Regions {
         max_region,
         overlaps,

@@ -11,11 +11,11 @@ use Rattle.space.specs.Space.{Frame}
 use Rattle.space.proofs.Laws.{getD-before, getD-after, frame-then, frame-wider}
 use Rattle.table.specs.View.{part, startOf, endOf, listAt, Parts, Placed}
 use Rattle.table.proofs.ViewLaws.{wide-same, part-after}
-use Rattle.pool.specs.Part.{Clear, renamedList}
-use Rattle.pool.specs.Pool.{lenAt, joinedList, Pair, Target, Absorbed}
+use Rattle.pool.specs.Part.{CopyRoom, renamedList}
+use Rattle.pool.specs.Pool.{lenAt, joinedList, EachLists, Target, Absorbed}
 
-module _ (m n k i j to z : ℕ) (ws : List ℕ) (T : Target m n i to z ws) (Q : Pair m n k i j ws) where
-  clear-first : Clear (startOf ws m (7 * m) n) (endOf ws m (7 * m) n) to z ws
+module _ (m n k i j to z : ℕ) (ws : List ℕ) (T : Target m n i to z ws) (Q : EachLists m n k i j ws) where
+  clear-first : CopyRoom (startOf ws m (7 * m) n) (endOf ws m (7 * m) n) to z ws
   unfolding lenAt
   clear-first = record {
     order = T .lists .order n (Q .first);
@@ -25,7 +25,7 @@ module _ (m n k i j to z : ℕ) (ws : List ℕ) (T : Target m n i to z ws) (Q : 
     apart = T .apart;
   }
 
-  clear-second : Clear (startOf ws m (7 * m) i) (endOf ws m (7 * m) i) to z ws
+  clear-second : CopyRoom (startOf ws m (7 * m) i) (endOf ws m (7 * m) i) to z ws
   unfolding lenAt
   clear-second = record {
     order = T .lists .order i (Q .second);
@@ -44,10 +44,10 @@ module _ (m n k i j to z : ℕ) (ws : List ℕ) (T : Target m n i to z ws) (Q : 
     unfolding lenAt
     len-i = rw (qb, qf)
 
-    pub join-first : Clear a e to z ws
+    pub join-first : CopyRoom a e to z ws
     join-first = rw (qa, qe) clear-first
 
-    pub join-second : Clear b f to z ws
+    pub join-second : CopyRoom b f to z ws
     join-second = rw (qb, qf) clear-second
 
     pub join-entry : a + k < e

@@ -14,7 +14,7 @@ use Rattle.space.proofs.Laws.{getD-before, getD-after, frame-then}
 use Rattle.laws.specs.Sums.{sumTo}
 use Rattle.table.specs.View.{part, startOf, endOf, listAt, Parts, Placed}
 use Rattle.table.proofs.ViewLaws.{wide-same, list-same, part-after}
-use Rattle.pool.specs.Part.{Clear, renamedList}
+use Rattle.pool.specs.Part.{CopyRoom, renamedList}
 use Rattle.pool.specs.Pool.{without, lenAt, restTo, newList, Source, Moved, Next, Sources, There, Carried}
 
 pub new-dead : (old new id : ℕ) (l : List ℕ) → id ≡ 0 → l ≡ newList old new id l
@@ -28,7 +28,7 @@ new-live old new id l k n e = rw (ne-eqb id 0 n) e
 -- ---- one record
 
 module _ (ws : List ℕ) (m x to z a e : ℕ) (S : Source m x to z ws) (p : a ≡ startOf ws m (7 * m) x) (q : e ≡ endOf ws m (7 * m) x) where
-  pub source-clear : Clear a e to z ws
+  pub source-clear : CopyRoom a e to z ws
   source-clear = rw (p, q) (S .clear)
 
   len-is : lenAt ws m x ≡ e - a

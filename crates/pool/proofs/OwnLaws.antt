@@ -12,7 +12,7 @@ use Rattle.space.specs.Space.{Frame}
 use Rattle.space.proofs.Laws.{getD-before, getD-after, getD-sec, length-sec, frame-none, frame-then, frame-wider, frame-put}
 use Rattle.table.specs.View.{startOf, endOf}
 use Rattle.table.proofs.ViewLaws.{wide-same}
-use Rattle.pool.specs.Pool.{Owned, Marked, Halves, Standing}
+use Rattle.pool.specs.Pool.{Owned, OwnedPart, Halves, Standing}
 use Rattle.pool.proofs.PartLaws.{part-put}
 
 -- ---- the halves
@@ -58,7 +58,7 @@ module _ (h o a e x : ℕ) (ws ys : List ℕ) (b : h ≤ a) (c : a ≤ e) (d : o
   ys-is : ys ≡ replicate (o + (e - h) - (o + (a - h))) x
   ys-is = y ∙ ap (λ (k : ℕ). replicate k x) len-mid
 
-  pub marked-is : Marked h o a e x ws (putMid (o + (a - h)) (o + (e - h) - (o + (a - h))) ws ys)
+  pub marked-is : OwnedPart h o a e x ws (putMid (o + (a - h)) (o + (e - h) - (o + (a - h))) ws ys)
   marked-is = record {
     each = λ q u v. rw ys-is (filled (o + (a - h)) (o + (e - h)) x (o + (q - h)) ws (omega arith) (omega arith) d);
     kept = frame-put (o + (a - h)) (o + (e - h)) ws ys (omega arith) d (ap length ys-is ∙ length-replicate (o + (e - h) - (o + (a - h))) x);
@@ -78,7 +78,7 @@ module _ (m p x h o a e : ℕ) (ws : List ℕ) (S : Standing m p h o ws) (g : x 
   pub own-fits : x < 65536
   own-fits = omega (arith, S .few)
 
-  pub own-marked : (ws′ : List ℕ) → Marked h o a e x ws ws′ → Marked h o (startOf ws m (7 * m) x) (endOf ws m (7 * m) x) x ws ws′
+  pub own-marked : (ws′ : List ℕ) → OwnedPart h o a e x ws ws′ → OwnedPart h o (startOf ws m (7 * m) x) (endOf ws m (7 * m) x) x ws ws′
   own-marked ws′ M = rw (← qa, ← qe) M
 
 -- ---- all of them
@@ -128,7 +128,7 @@ module _ (m p h o c : ℕ) (ws₀ ws : List ℕ) (S : Standing m p h o ws₀) (O
     upto = λ x g. rw (end-at x g) (S .upto x g);
   }
 
-  pub owning-go : c < m → (ws′ : List ℕ) → Marked h o (startOf ws m (7 * m) c) (endOf ws m (7 * m) c) c ws ws′ → Owning m p h o (c + 1) ws₀ ws′
+  pub owning-go : c < m → (ws′ : List ℕ) → OwnedPart h o (startOf ws m (7 * m) c) (endOf ws m (7 * m) c) c ws ws′ → Owning m p h o (c + 1) ws₀ ws′
   owning-go g ws′ M = record {
     own = λ x q k a b. elim (ℕ-discrete x c) [
       | yes e ↦ rw e (M .each q (rw (start-at c g) (rw e at a)) (rw (end-at c g) (rw e at b)))

@@ -16,7 +16,7 @@ use Rattle.laws.proofs.Basics.{drop-take}
 use Rattle.space.specs.Space.{Frame}
 use Rattle.space.proofs.Laws.{drop-mid, getD-before, getD-after, frame-then, frame-set, frame-wider, frame-put, length-sec, getD-sec}
 use Rattle.pool.specs.Lists.{swapOne}
-use Rattle.pool.specs.Part.{Clear, Copied, renamedList}
+use Rattle.pool.specs.Part.{CopyRoom, Copied, renamedList}
 use Rattle.table.specs.View.{part}
 use Rattle.table.proofs.ViewLaws.{part-before, part-after}
 use Rattle.table.proofs.SearchLaws.{has-cons, has-head, place-other, place-first}
@@ -26,7 +26,7 @@ use Rattle.table.proofs.SearchLaws.{has-cons, has-head, place-other, place-firs
 pub copied-none : (a to : ℕ) (ws : List ℕ) → Copied a to 0 ws ws
 copied-none a to ws = record { each = λ j h. absurd (omega arith) }
 
-module _ (a e to z : ℕ) (ws₀ ws : List ℕ) (k n : ℕ) (c : Clear a e to z ws₀) (s : length ws ≡ length ws₀) (q : n ≡ e - a) (h : k < n) where
+module _ (a e to z : ℕ) (ws₀ ws : List ℕ) (k n : ℕ) (c : CopyRoom a e to z ws₀) (s : length ws ≡ length ws₀) (q : n ≡ e - a) (h : k < n) where
   pub copy-read : a + k < length ws
   copy-read = omega (arith, c .order, c .from)
 
@@ -50,7 +50,7 @@ module _ (a e to z : ℕ) (ws₀ ws : List ℕ) (k n : ℕ) (c : Clear a e to z 
     ];
   }
 
-pub copy-done : (a e to z : ℕ) (ws₀ ws : List ℕ) (k n : ℕ) → Clear a e to z ws₀ → length ws ≡ length ws₀ → n ≡ e - a → k ≤ n → n ≤ k → Copied a to k ws₀ ws
+pub copy-done : (a e to z : ℕ) (ws₀ ws : List ℕ) (k n : ℕ) → CopyRoom a e to z ws₀ → length ws ≡ length ws₀ → n ≡ e - a → k ≤ n → n ≤ k → Copied a to k ws₀ ws
     → part to (to + (e - a)) ws ≡ part a e ws₀
 unfolding part
 copy-done a e to z ws₀ ws k n c s q h₁ h₂ g =
@@ -82,8 +82,8 @@ around-is a e k ws h =
     let q : take k (take (e - a) (drop a ws)) ≡ take ((a + k) - a) (drop a ws) = take-take k (e - a) (drop a ws) (omega arith) ∙ ap (λ (j : ℕ). take j (drop a ws)) (sym u) in
     rw (p, q) refl
 
-module _ (a e k to z c d : ℕ) (ws : List ℕ) (C : Clear a e to z ws) (h : a + k < e) (ec : c ≡ a + k + 1) (ed : d ≡ to + (e - c)) where
-  pub around-first : Clear c e to z ws
+module _ (a e k to z c d : ℕ) (ws : List ℕ) (C : CopyRoom a e to z ws) (h : a + k < e) (ec : c ≡ a + k + 1) (ed : d ≡ to + (e - c)) where
+  pub around-first : CopyRoom c e to z ws
   around-first = record {
     order = omega arith;
     from = C .from;
@@ -93,7 +93,7 @@ module _ (a e k to z c d : ℕ) (ws : List ℕ) (C : Clear a e to z ws) (h : a +
   }
 
   module _ (ws₁ : List ℕ) (s₁ : length ws₁ ≡ length ws) where
-    pub around-second : Clear a (a + k) d z ws₁
+    pub around-second : CopyRoom a (a + k) d z ws₁
     around-second = record {
       order = omega arith;
       from = omega (arith, C .from);
@@ -189,11 +189,11 @@ pub part-le : (a e m : ℕ) (l : List ℕ) → a ≤ e → m ≤ length (take (e
 part-le a e m l h g = omega (arith, length-take (e - a) l)
 
 -- the same, as the code has it
-module _ (a e k to z : ℕ) (ws : List ℕ) (C : Clear a e to z ws) (h : a + k < e) where
-  pub around-1 : Clear (a + k + 1) e to z ws
+module _ (a e k to z : ℕ) (ws : List ℕ) (C : CopyRoom a e to z ws) (h : a + k < e) where
+  pub around-1 : CopyRoom (a + k + 1) e to z ws
   around-1 = around-first a e k to z (a + k + 1) (to + (e - (a + k + 1))) ws C h refl refl
 
-  pub around-2 : (ws₁ : List ℕ) → length ws₁ ≡ length ws → Clear a (a + k) (to + (e - (a + k + 1))) z ws₁
+  pub around-2 : (ws₁ : List ℕ) → length ws₁ ≡ length ws → CopyRoom a (a + k) (to + (e - (a + k + 1))) z ws₁
   around-2 ws₁ s₁ = around-second a e k to z (a + k + 1) (to + (e - (a + k + 1))) ws C h refl refl ws₁ s₁
 
   module _ (ws₁ ws₂ : List ℕ) (s₁ : length ws₁ ≡ length ws) (f₁ : Frame to (to + (e - (a + k + 1))) ws ws₁) (p₁ : part to (to + (e - (a + k + 1))) ws₁ ≡ part (a + k + 1) e ws)
@@ -215,9 +215,9 @@ part-put-at : (a k m : ℕ) (ws ys : List ℕ) → a ≤ length ws → m ≤ len
 unfolding part
 part-put-at a k m ws ys h g = let w : (a + m) - a ≡ m = omega arith in rw w (part-put a k m ws ys h g)
 
-module _ (a e k b f j to z : ℕ) (ws : List ℕ) (C : Clear a e to z ws) (C′ : Clear b f to z ws) (h : a + k < e) (h′ : b + j < f) (room : to + (e - a) + (f - b) ≤ z)
+module _ (a e k b f j to z : ℕ) (ws : List ℕ) (C : CopyRoom a e to z ws) (C′ : CopyRoom b f to z ws) (h : a + k < e) (h′ : b + j < f) (room : to + (e - a) + (f - b) ≤ z)
     (x : ℕ) (ws₁ : List ℕ) (ex : x + 1 ≡ to + (e - a)) (s₁ : length ws₁ ≡ length ws) where
-  pub join-clear : Clear b f x z ws₁
+  pub join-clear : CopyRoom b f x z ws₁
   join-clear = record {
     order = C′ .order;
     from = rw s₁ (C′ .from);

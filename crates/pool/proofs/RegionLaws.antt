@@ -26,7 +26,7 @@ use Rattle.table.proofs.ViewLaws.{view-length, view-at, view-by, rec-eq, list-s
 use Rattle.pool.specs.Lists.{swapOne}
 use Rattle.pool.specs.Part.{renamedList}
 use Rattle.pool.specs.Fixed.{renamedF, absorbedF, mergedPair}
-use Rattle.pool.specs.Pool.{lenAt, countAt, newList, joinedList, remarked, Halves, Pool, Laid, Listed, Outside, Turned, Relisted, Remarked}
+use Rattle.pool.specs.Pool.{lenAt, countAt, newList, joinedList, remarked, Halves, Pool, Laid, Listed, Outside, Sides, Relisted, Remarked}
 use Rattle.pool.proofs.FloorLaws.{swap-has, swap-old, swap-other, has-at}
 use Rattle.pool.proofs.MergeLaws.{has-some, tidy-has, append-has, around-has, renF-id, renF-count, renF-area, renF-visited, renF-overlap, renF-floors, renF-cut, renF-newList, renF-fresh, at-i, at-n, at-else}
 use Rattle.pool.proofs.OwnLaws.{halves-same, halves-turn}
@@ -96,7 +96,7 @@ pub record After (m n i old : ℕ) (ws ws′ : List ℕ) : Type 0 where
   pub counts : (x : ℕ) → x < m → (x ≡ i → ⊥) → (x ≡ n → ⊥) → getD ws′ (m + x) 0 ≡ getD ws (m + x) 0
 
 -- the halves, in either order
-module _ (m p h o b c : ℕ) (ws : List ℕ) (P : Pool m p h o ws) (W : Turned h o b c) where
+module _ (m p h o b c : ℕ) (ws : List ℕ) (P : Pool m p h o ws) (W : Sides h o b c) where
   turned-halves : Halves m p b c ws
   turned-halves =
       ⊎-elim (λ (w : (b ≡ h) × (c ≡ o)). rw (w .0, w .1) (P .halves)) (λ (w : (b ≡ o) × (c ≡ h)). rw (w .0, w .1) (halves-turn m p h o ws (P .halves))) W
@@ -105,7 +105,7 @@ module _ (m p h o b c : ℕ) (ws : List ℕ) (P : Pool m p h o ws) (W : Turned h
   turned-floors r g =
       ⊎-elim (λ (w : (b ≡ h) × (c ≡ o)). rw (w .0, w .1) (P .floors r g)) (λ (w : (b ≡ o) × (c ≡ h)). rw (w .0, w .1) (P .floors r g .1, P .floors r g .0)) W
 
-module _ (m p h o b c n k i j : ℕ) (ws ws₁ ws₃ : List ℕ) (P : Pool m p h o ws) (W : Turned h o b c) (L : Listed m n k i j ws) (R : Relisted m p n k i j (getD ws i 0) n b c ws ws₁)
+module _ (m p h o b c n k i j : ℕ) (ws ws₁ ws₃ : List ℕ) (P : Pool m p h o ws) (W : Sides h o b c) (L : Listed m n k i j ws) (R : Relisted m p n k i j (getD ws i 0) n b c ws ws₁)
     (A : After m n i (getD ws i 0) ws₁ ws₃) (l₁ : length ws₁ ≡ length ws) (l₃ : length ws₃ ≡ length ws₁) where
   abbrev old : ℕ
   old = getD ws i 0
@@ -360,7 +360,7 @@ module _ (m n i old : ℕ) (ws₁ ws₂ ys : List ℕ) (hn : n < m) (hi : i < m)
 
 -- two counts are no more than all
 module _ (m p h o n k i j : ℕ) (ws ws₁ : List ℕ) (P : Pool m p h o ws) (L : Listed m n k i j ws) where
-  pub spans-fit : (b c old new : ℕ) → Turned h o b c → Relisted m p n k i j old new b c ws ws₁ → getD ws₁ (m + n) 0 + getD ws₁ (m + i) 0 < 65536
+  pub spans-fit : (b c old new : ℕ) → Sides h o b c → Relisted m p n k i j old new b c ws ws₁ → getD ws₁ (m + n) 0 + getD ws₁ (m + i) 0 < 65536
   unfolding countAt
   spans-fit b c old new W R =
       let H = turned-halves m p h o b c ws P W in
@@ -372,7 +372,7 @@ module _ (m p h o n k i j : ℕ) (ws ws₁ : List ℕ) (P : Pool m p h o ws) (L 
   columns-in l = omega (arith, P .held .lists .room)
 
 -- as the code has it
-module _ (m p h o b c n k i j : ℕ) (ws ws₁ ws₂ ys : List ℕ) (P : Pool m p h o ws) (L : Listed m n k i j ws) (W : Turned h o b c) (R : Relisted m p n k i j (getD ws i 0) n b c ws ws₁)
+module _ (m p h o b c n k i j : ℕ) (ws ws₁ ws₂ ys : List ℕ) (P : Pool m p h o ws) (L : Listed m n k i j ws) (W : Sides h o b c) (R : Relisted m p n k i j (getD ws i 0) n b c ws ws₁)
     (l₁ : length ws₁ ≡ length ws)
     (e : ws₂ ≡ set (set ws₁ (m + n) (getD ws₁ (m + n) 0 + getD ws₁ (m + i) 0)) (m + i) 0) (l₂ : length ws₂ ≡ length ws₁) (y : ys ≡ map (swapOne (getD ws i 0) n) (midOf 0 (m - 0) ws₂))
     (ly : length ys ≡ length (midOf 0 (m - 0) ws₂)) (ws₄ : List ℕ) (e₄ : ws₄ ≡ remarked m n i (putMid 0 (m - 0) ws₂ ys)) where
@@ -406,3 +406,11 @@ marks-in m p h o ws ws′ P l = omega (arith, P .halves .into, P .halves .past)
 
 pub recount-in : (ws : List ℕ) (m n i v : ℕ) → 2 * m ≤ length ws → i < m → m + i < length (set ws (m + n) v)
 recount-in ws m n i v h g = rw (length-set ws (m + n) v) (omega arith)
+
+-- ---- the half's size, which a merge leaves
+
+pub pool-sized : (m p q h o : ℕ) (ws : List ℕ) → q ≡ p → Pool m p h o ws → Pool m q h o ws
+pool-sized m p q h o ws e P = rw e P
+
+pub laid-sized : (m p q h o top : ℕ) (ws ws′ : List ℕ) → q ≡ p → (Laid m p h o top ws → Laid m p h o top ws′) → Laid m q h o top ws → Laid m q h o top ws′
+laid-sized m p q h o top ws ws′ e f = rw e f

@@ -13,7 +13,7 @@ use Rattle.table.specs.View.{part, startOf, endOf, listAt, Parts}
 use Rattle.table.proofs.ViewLaws.{list-same, part-none}
 use Rattle.space.specs.Space.{Frame}
 use Rattle.space.proofs.Laws.{sec-same, getD-before, getD-after, frame-wider}
-use Rattle.pool.specs.Pool.{without, lenAt, restTo, newList, joinedList, Halves, Pool, Beside, Apart, Owned, Laid, Outside, Pair, Sources, There, Carried, Rows, Searched, Swept, Marked, Standing, Target, Absorbed, Relisted}
+use Rattle.pool.specs.Pool.{without, lenAt, restTo, newList, joinedList, Halves, Pool, Beside, Apart, Owned, Laid, Outside, EachLists, Sources, There, Carried, Rows, Searched, Swept, OwnedPart, Standing, Target, Absorbed, Relisted}
 use Rattle.pool.proofs.AbsorbLaws.{by-three, absorbed-in, absorbed-lists, absorbed-len, absorbed-id}
 use Rattle.pool.proofs.RenameLaws.{beside-free, swept-less, swept-apart}
 use Rattle.pool.proofs.OwnLaws.{past-start, past-end, halves-same, halves-turn}
@@ -40,7 +40,7 @@ record Settled (m i n old new to e lo hi : ℕ) (ws ws′ : List ℕ) : Type 0 w
 
 -- ---- the half at b, either way
 
-module _ (m p b n k i j to : ℕ) (ws : List ℕ) (T : Target m n i to (b + p) ws) (Q : Pair m n k i j ws) (past : 11 * m ≤ b) (B : b ≤ to) (few : sumTo (lenAt ws m) m ≤ p)
+module _ (m p b n k i j to : ℕ) (ws : List ℕ) (T : Target m n i to (b + p) ws) (Q : EachLists m n k i j ws) (past : 11 * m ≤ b) (B : b ≤ to) (few : sumTo (lenAt ws m) m ≤ p)
     (waits : (x : ℕ) → x < m → (x ≡ i → ⊥) → (x ≡ n → ⊥) → (11 * m ≤ startOf ws m (7 * m) x) × ((endOf ws m (7 * m) x ≤ to) ⊎ (b + p ≤ startOf ws m (7 * m) x)))
     (ws₁ : List ℕ) (old new e : ℕ) (l : length ws₁ ≡ length ws) (A : Absorbed m n k i j old new to (b + p) e ws ws₁) where
   e-in : e ≤ b + p
@@ -180,7 +180,7 @@ apart-by m i n ws two one rest = record {
 
 -- ---- into the other half
 
-module _ (m p h o n k i j : ℕ) (ws : List ℕ) (P : Pool m p h o ws) (Q : Pair m n k i j ws) where
+module _ (m p h o n k i j : ℕ) (ws : List ℕ) (P : Pool m p h o ws) (Q : EachLists m n k i j ws) where
   pair-room : lenAt ws m i + lenAt ws m n + restTo ws m i n m ≤ p
   unfolding restTo
   pair-room = omega (arith, P .room, sum-split (lenAt ws m) i n m (Q .second) (Q .first) (Q .apart))
@@ -278,7 +278,7 @@ module _ (m p h o n k i j : ℕ) (ws : List ℕ) (P : Pool m p h o ws) (Q : Pair
 
 -- ---- in place
 
-module _ (m p h o top n k i j : ℕ) (ws : List ℕ) (P : Pool m p h o ws) (D : Laid m p h o top ws) (Q : Pair m n k i j ws) (room : lenAt ws m n + lenAt ws m i ≤ h + p - top) where
+module _ (m p h o top n k i j : ℕ) (ws : List ℕ) (P : Pool m p h o ws) (D : Laid m p h o top ws) (Q : EachLists m n k i j ws) (room : lenAt ws m n + lenAt ws m i ≤ h + p - top) where
   free : top < h + p
   free = omega (arith, D .upto, Q .lists)
 
@@ -383,7 +383,7 @@ module _ (m p h o top n k i j : ℕ) (ws : List ℕ) (P : Pool m p h o ws) (D : 
       pub own-here : o + (e - h) ≤ length ws₂
       own-here = omega (arith, e-fits, P .halves .into′)
 
-      module _ (ws₃ : List ℕ) (l₃ : length ws₃ ≡ length ws₂) (M : Marked h o top e n ws₂ ws₃) where
+      module _ (ws₃ : List ℕ) (l₃ : length ws₃ ≡ length ws₂) (M : OwnedPart h o top e n ws₂ ws₃) where
         frame-here : Frame o (o + p) ws₂ ws₃
         frame-here = frame-wider o (o + p) (M .kept) (omega arith) (omega (arith, e-fits))
 

@@ -3,3 +3,4 @@ pub mod Part
 pub mod Fixed
 pub mod Alike
 pub mod Pool
+pub mod Forms

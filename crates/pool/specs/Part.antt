@@ -9,13 +9,13 @@ use Rattle.rules.specs.Records.{has}
 use Rattle.rules.specs.Merge.{tidy}
 use Rattle.pool.specs.Lists.{swapOne}
 
--- the part a .. e, and room for z - to numbers at to that lies apart from it
-pub record Clear (a e to z : ℕ) (ws : List ℕ) : Type 0 where
+-- the part a .. e, and room for limit - to numbers at to that lies apart from it
+pub record CopyRoom (a e to limit : ℕ) (ws : List ℕ) : Type 0 where
   pub order : a ≤ e
   pub from : e ≤ length ws
-  pub room : to + (e - a) ≤ z
-  pub into : z ≤ length ws
-  pub apart : (e ≤ to) ⊎ (z ≤ a)
+  pub room : to + (e - a) ≤ limit
+  pub into : limit ≤ length ws
+  pub apart : (e ≤ to) ⊎ (limit ≤ a)
 
 -- the first k numbers from a on stand at to
 pub record Copied (a to k : ℕ) (ws₀ ws : List ℕ) : Type 0 where

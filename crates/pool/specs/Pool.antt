@@ -13,8 +13,9 @@ use Rattle.rules.specs.Base.{_or_, if_then_else_}
 use Rattle.rules.specs.Merge.{place, around, tidy}
 use Rattle.laws.specs.Sums.{sumTo}
 use Rattle.space.specs.Space.{Frame}
-use Rattle.table.specs.View.{part, startOf, endOf, listAt, marksAt, Parts, Held}
-use Rattle.pool.specs.Part.{Clear, renamedList}
+use Rattle.table.specs.Map.{border, wideEnd, spareAt, listsAt, floorPartsAt, cutsAt, poolAt}
+use Rattle.table.specs.View.{part, Parts, listStart, listEnd, listIn, floorsStart, RecordsIn}
+use Rattle.pool.specs.Part.{CopyRoom, renamedList}
 
 -- f with 0 at i
 unfoldable pub without : (ℕ → ℕ) → ℕ → ℕ → ℕ
@@ -22,7 +23,7 @@ without f i x = if eqb x i then 0 else f x
 
 -- how long record r's list is
 unfoldable pub lenAt : List ℕ → ℕ → ℕ → ℕ
-lenAt ws m r = endOf ws m (7 * m) r - startOf ws m (7 * m) r
+lenAt ws m r = listEnd ws m r - listStart ws m r
 
 -- the lists of all records before c but i and n
 unfoldable pub restTo : List ℕ → ℕ → ℕ → ℕ → ℕ → ℕ
@@ -37,27 +38,27 @@ newList old new id l = if eqb id 0 then l else renamedList old new l
 
 -- the two halves lie apart, past the tables
 pub record Halves (m p h o : ℕ) (ws : List ℕ) : Type 0 where
-  pub past : 16 * m ≤ h
-  pub past′ : 16 * m ≤ o
+  pub past : poolAt m ≤ h
+  pub past′ : poolAt m ≤ o
   pub apart : (h + p ≤ o) ⊎ (o + p ≤ h)
   pub into : h + p ≤ length ws
   pub into′ : o + p ≤ length ws
-  pub fits : h + p < 4294967296
-  pub fits′ : o + p < 4294967296
+  pub fits : h + p < wideEnd
+  pub fits′ : o + p < wideEnd
 
 pub record Pool (m p h o : ℕ) (ws : List ℕ) : Type 0 where
-  pub held : Held m (7 * m) (11 * m) ws
+  pub held : RecordsIn m ws
   pub halves : Halves m p h o ws
-  pub from : (r : ℕ) → r < m → h ≤ startOf ws m (7 * m) r
-  pub upto : (r : ℕ) → r < m → endOf ws m (7 * m) r ≤ h + p
-  pub floors : (r : ℕ) → r < m → (h + p ≤ startOf ws m (11 * m) r) × (o + p ≤ startOf ws m (11 * m) r)
+  pub from : (r : ℕ) → r < m → h ≤ listStart ws m r
+  pub upto : (r : ℕ) → r < m → listEnd ws m r ≤ h + p
+  pub floors : (r : ℕ) → r < m → (h + p ≤ floorsStart ws m r) × (o + p ≤ floorsStart ws m r)
   pub room : sumTo (lenAt ws m) m ≤ p
   pub spans : sumTo (countAt ws m) m < 65536
-  pub blank : (x : ℕ) → x < 2 * m → getD ws (5 * m + x) 0 ≡ 0
+  pub blank : (x : ℕ) → x < 2 * m → getD ws (spareAt m + x) 0 ≡ 0
 
 -- one of the lists of x and y ends before the other starts
 abbrev pub Beside : List ℕ → ℕ → ℕ → ℕ → Type 0
-Beside ws m x y = (endOf ws m (7 * m) x ≤ startOf ws m (7 * m) y) ⊎ (endOf ws m (7 * m) y ≤ startOf ws m (7 * m) x)
+Beside ws m x y = (listEnd ws m x ≤ listStart ws m y) ⊎ (listEnd ws m y ≤ listStart ws m x)
 
 -- the lists lie apart
 pub record Apart (m : ℕ) (ws : List ℕ) : Type 0 where
@@ -65,37 +66,37 @@ pub record Apart (m : ℕ) (ws : List ℕ) : Type 0 where
 
 -- beside a place before top that is in a list stands the list's record
 pub record Owned (m h o top : ℕ) (ws : List ℕ) : Type 0 where
-  pub own : (x q : ℕ) → x < m → startOf ws m (7 * m) x ≤ q → q < endOf ws m (7 * m) x → q < top → getD ws (o + (q - h)) 0 ≡ x
+  pub own : (x q : ℕ) → x < m → listStart ws m x ≤ q → q < listEnd ws m x → q < top → getD ws (o + (q - h)) 0 ≡ x
 
 -- no list in the half at h goes past top, the lists lie apart, and their records stand beside them; with top at the half's end nothing is known of them
 pub record Laid (m p h o top : ℕ) (ws : List ℕ) : Type 0 where
   pub from : h ≤ top
   pub upto : top ≤ h + p
-  pub below : top < h + p → (x : ℕ) → x < m → endOf ws m (7 * m) x ≤ top
+  pub below : top < h + p → (x : ℕ) → x < m → listEnd ws m x ≤ top
   pub apart : top < h + p → Apart m ws
   pub owned : top < h + p → Owned m h o top ws
 
--- neither in the table of lists nor from a up to z
+-- neither in the table of lists nor from a up to limit
 abbrev pub Outside : ℕ → ℕ → ℕ → ℕ → Type 0
-Outside m a z j = ((j < 7 * m) ⊎ (11 * m ≤ j)) × ((j < a) ⊎ (z ≤ j))
+Outside m a limit j = ((j < listsAt m) ⊎ (floorPartsAt m ≤ j)) × ((j < a) ⊎ (limit ≤ j))
 
 -- what one record's list needs to be carried to `to`
-pub record Source (m x to z : ℕ) (ws : List ℕ) : Type 0 where
-  pub lists : Parts m (7 * m) ws
+pub record Source (m x to limit : ℕ) (ws : List ℕ) : Type 0 where
+  pub lists : Parts m (listsAt m) ws
   pub inside : x < m
-  pub clear : Clear (startOf ws m (7 * m) x) (endOf ws m (7 * m) x) to z ws
-  pub past : 11 * m ≤ to
-  pub fits : z < 4294967296
+  pub clear : CopyRoom (listStart ws m x) (listEnd ws m x) to limit ws
+  pub past : floorPartsAt m ≤ to
+  pub fits : limit < wideEnd
 
 -- record x's list stands at to .. e, renamed
 pub record Moved (m x old new to e : ℕ) (ws ws′ : List ℕ) : Type 0 where
-  pub start : startOf ws′ m (7 * m) x ≡ to
-  pub stop : endOf ws′ m (7 * m) x ≡ e
-  pub list : part to e ws′ ≡ newList old new (getD ws x 0) (listAt ws m (7 * m) x)
+  pub start : listStart ws′ m x ≡ to
+  pub stop : listEnd ws′ m x ≡ e
+  pub list : part to e ws′ ≡ newList old new (getD ws x 0) (listIn ws m x)
   pub order : to ≤ e
   pub short : e ≤ to + lenAt ws m x
-  pub starts : (y : ℕ) → y < m → (y ≡ x → ⊥) → startOf ws′ m (7 * m) y ≡ startOf ws m (7 * m) y
-  pub stops : (y : ℕ) → y < m → (y ≡ x → ⊥) → endOf ws′ m (7 * m) y ≡ endOf ws m (7 * m) y
+  pub starts : (y : ℕ) → y < m → (y ≡ x → ⊥) → listStart ws′ m y ≡ listStart ws m y
+  pub stops : (y : ℕ) → y < m → (y ≡ x → ⊥) → listEnd ws′ m y ≡ listEnd ws m y
   pub kept : (j : ℕ) → Outside m to (to + lenAt ws m x) j → getD ws′ j 0 ≡ getD ws j 0
 
 -- i and n are passed by
@@ -104,46 +105,46 @@ pub record Next (m x i n old new to e : ℕ) (ws ws′ : List ℕ) : Type 0 wher
   pub moved : (x ≡ i → ⊥) → (x ≡ n → ⊥) → Moved m x old new to e ws ws′
 
 -- what all others need to be carried to lo and on
-pub record Sources (m i n lo z : ℕ) (ws : List ℕ) : Type 0 where
-  pub lists : Parts m (7 * m) ws
-  pub far : (r : ℕ) → r < m → (r ≡ i → ⊥) → (r ≡ n → ⊥) → 11 * m ≤ startOf ws m (7 * m) r
-  pub apart : (r : ℕ) → r < m → (r ≡ i → ⊥) → (r ≡ n → ⊥) → (endOf ws m (7 * m) r ≤ lo) ⊎ (z ≤ startOf ws m (7 * m) r)
-  pub past : 11 * m ≤ lo
-  pub into : z ≤ length ws
-  pub fits : z < 4294967296
-  pub room : lo + restTo ws m i n m ≤ z
+pub record Sources (m i n lo limit : ℕ) (ws : List ℕ) : Type 0 where
+  pub lists : Parts m (listsAt m) ws
+  pub far : (r : ℕ) → r < m → (r ≡ i → ⊥) → (r ≡ n → ⊥) → floorPartsAt m ≤ listStart ws m r
+  pub apart : (r : ℕ) → r < m → (r ≡ i → ⊥) → (r ≡ n → ⊥) → (listEnd ws m r ≤ lo) ⊎ (limit ≤ listStart ws m r)
+  pub past : floorPartsAt m ≤ lo
+  pub into : limit ≤ length ws
+  pub fits : limit < wideEnd
+  pub room : lo + restTo ws m i n m ≤ limit
 
 -- record x's list stands somewhere in lo .. hi, renamed
 pub record There (m x old new lo hi : ℕ) (ws ws′ : List ℕ) : Type 0 where
-  pub from : lo ≤ startOf ws′ m (7 * m) x
-  pub order : startOf ws′ m (7 * m) x ≤ endOf ws′ m (7 * m) x
-  pub upto : endOf ws′ m (7 * m) x ≤ hi
-  pub list : listAt ws′ m (7 * m) x ≡ newList old new (getD ws x 0) (listAt ws m (7 * m) x)
+  pub from : lo ≤ listStart ws′ m x
+  pub order : listStart ws′ m x ≤ listEnd ws′ m x
+  pub upto : listEnd ws′ m x ≤ hi
+  pub list : listIn ws′ m x ≡ newList old new (getD ws x 0) (listIn ws m x)
   pub short : lenAt ws′ m x ≤ lenAt ws m x
 
 -- the records from c on are carried, but i and n
-pub record Carried (m i n c old new lo hi z : ℕ) (ws ws′ : List ℕ) : Type 0 where
+pub record Carried (m i n c old new lo hi limit : ℕ) (ws ws′ : List ℕ) : Type 0 where
   pub order : lo ≤ hi
-  pub room : hi + restTo ws m i n c ≤ z
+  pub room : hi + restTo ws m i n c ≤ limit
   pub there : (x : ℕ) → c ≤ x → x < m → (x ≡ i → ⊥) → (x ≡ n → ⊥) → There m x old new lo hi ws ws′
-  pub starts : (x : ℕ) → x < m → (x < c) ⊎ ((x ≡ i) ⊎ (x ≡ n)) → startOf ws′ m (7 * m) x ≡ startOf ws m (7 * m) x
-  pub stops : (x : ℕ) → x < m → (x < c) ⊎ ((x ≡ i) ⊎ (x ≡ n)) → endOf ws′ m (7 * m) x ≡ endOf ws m (7 * m) x
+  pub starts : (x : ℕ) → x < m → (x < c) ⊎ ((x ≡ i) ⊎ (x ≡ n)) → listStart ws′ m x ≡ listStart ws m x
+  pub stops : (x : ℕ) → x < m → (x < c) ⊎ ((x ≡ i) ⊎ (x ≡ n)) → listEnd ws′ m x ≡ listEnd ws m x
   -- the last first
-  pub apart : (x y : ℕ) → c ≤ x → x < y → y < m → (x ≡ i → ⊥) → (x ≡ n → ⊥) → (y ≡ i → ⊥) → (y ≡ n → ⊥) → endOf ws′ m (7 * m) y ≤ startOf ws′ m (7 * m) x
-  pub kept : (j : ℕ) → Outside m lo z j → getD ws′ j 0 ≡ getD ws j 0
+  pub apart : (x y : ℕ) → c ≤ x → x < y → y < m → (x ≡ i → ⊥) → (x ≡ n → ⊥) → (y ≡ i → ⊥) → (y ≡ n → ⊥) → listEnd ws′ m y ≤ listStart ws′ m x
+  pub kept : (j : ℕ) → Outside m lo limit j → getD ws′ j 0 ≡ getD ws j 0
 
 -- record x's list starts where it did, renamed
 pub record Shrunk (m x old new : ℕ) (ws ws′ : List ℕ) : Type 0 where
-  pub order : startOf ws m (7 * m) x ≤ endOf ws′ m (7 * m) x
-  pub upto : endOf ws′ m (7 * m) x ≤ endOf ws m (7 * m) x
-  pub list : listAt ws′ m (7 * m) x ≡ newList old new (getD ws x 0) (listAt ws m (7 * m) x)
+  pub order : listStart ws m x ≤ listEnd ws′ m x
+  pub upto : listEnd ws′ m x ≤ listEnd ws m x
+  pub list : listIn ws′ m x ≡ newList old new (getD ws x 0) (listIn ws m x)
 
 -- and no other list has changed
 pub record Renamed (m x old new : ℕ) (ws ws′ : List ℕ) : Type 0 where
   pub shrunk : Shrunk m x old new ws ws′
-  pub starts : (y : ℕ) → y < m → startOf ws′ m (7 * m) y ≡ startOf ws m (7 * m) y
-  pub stops : (y : ℕ) → y < m → (y ≡ x → ⊥) → endOf ws′ m (7 * m) y ≡ endOf ws m (7 * m) y
-  pub kept : (j : ℕ) → Outside m (startOf ws m (7 * m) x) (endOf ws m (7 * m) x) j → getD ws′ j 0 ≡ getD ws j 0
+  pub starts : (y : ℕ) → y < m → listStart ws′ m y ≡ listStart ws m y
+  pub stops : (y : ℕ) → y < m → (y ≡ x → ⊥) → listEnd ws′ m y ≡ listEnd ws m y
+  pub kept : (j : ℕ) → Outside m (listStart ws m x) (listEnd ws m x) j → getD ws′ j 0 ≡ getD ws j 0
 
 -- i and n are passed by
 pub record Passed (m x i n old new : ℕ) (ws ws′ : List ℕ) : Type 0 where
@@ -157,8 +158,8 @@ pub record Met (m s i n old new : ℕ) (ws ws′ : List ℕ) : Type 0 where
 
 -- lists that can be renamed where they are
 pub record Rows (m : ℕ) (ws : List ℕ) : Type 0 where
-  pub lists : Parts m (7 * m) ws
-  pub far : (r : ℕ) → r < m → 11 * m ≤ startOf ws m (7 * m) r
+  pub lists : Parts m (listsAt m) ws
+  pub far : (r : ℕ) → r < m → floorPartsAt m ≤ listStart ws m r
   pub apart : Apart m ws
 
 -- what a search through h .. top needs: the lists of all records but i and n are there, with their records beside them
@@ -168,37 +169,37 @@ pub record Searched (m i n h o top : ℕ) (ws : List ℕ) : Type 0 where
   pub halves : Halves m p h o ws
   pub order : h ≤ top
   pub half : top ≤ h + p
-  pub from : (x : ℕ) → x < m → (x ≡ i → ⊥) → (x ≡ n → ⊥) → h ≤ startOf ws m (7 * m) x
-  pub upto : (x : ℕ) → x < m → (x ≡ i → ⊥) → (x ≡ n → ⊥) → endOf ws m (7 * m) x ≤ top
+  pub from : (x : ℕ) → x < m → (x ≡ i → ⊥) → (x ≡ n → ⊥) → h ≤ listStart ws m x
+  pub upto : (x : ℕ) → x < m → (x ≡ i → ⊥) → (x ≡ n → ⊥) → listEnd ws m x ≤ top
   pub owned : Owned m h o top ws
 
 -- neither in the table of lists nor in the list of a record other than i and n
 pub record Free (m i n j : ℕ) (ws : List ℕ) : Type 0 where
-  pub table : (j < 7 * m) ⊎ (11 * m ≤ j)
-  pub lists : (x : ℕ) → x < m → (x ≡ i → ⊥) → (x ≡ n → ⊥) → (j < startOf ws m (7 * m) x) ⊎ (endOf ws m (7 * m) x ≤ j)
+  pub table : (j < listsAt m) ⊎ (floorPartsAt m ≤ j)
+  pub lists : (x : ℕ) → x < m → (x ≡ i → ⊥) → (x ≡ n → ⊥) → (j < listStart ws m x) ⊎ (listEnd ws m x ≤ j)
 
 -- all records but i and n are renamed where they are
 pub record Swept (m i n old new : ℕ) (ws ws′ : List ℕ) : Type 0 where
   pub done : (x : ℕ) → x < m → (x ≡ i → ⊥) → (x ≡ n → ⊥) → Shrunk m x old new ws ws′
-  pub starts : (x : ℕ) → x < m → startOf ws′ m (7 * m) x ≡ startOf ws m (7 * m) x
-  pub stops : (x : ℕ) → x < m → (x ≡ i) ⊎ (x ≡ n) → endOf ws′ m (7 * m) x ≡ endOf ws m (7 * m) x
+  pub starts : (x : ℕ) → x < m → listStart ws′ m x ≡ listStart ws m x
+  pub stops : (x : ℕ) → x < m → (x ≡ i) ⊎ (x ≡ n) → listEnd ws′ m x ≡ listEnd ws m x
   pub kept : (j : ℕ) → Free m i n j ws → getD ws′ j 0 ≡ getD ws j 0
 
 -- x stands beside the places a .. e of the half at h
-pub record Marked (h o a e x : ℕ) (ws ws′ : List ℕ) : Type 0 where
+pub record OwnedPart (h o a e x : ℕ) (ws ws′ : List ℕ) : Type 0 where
   pub each : (q : ℕ) → a ≤ q → q < e → getD ws′ (o + (q - h)) 0 ≡ x
   pub kept : Frame (o + (a - h)) (o + (e - h)) ws ws′
 
 -- all lists stand in the half at h, and lie apart
 pub record Standing (m p h o : ℕ) (ws : List ℕ) : Type 0 where
-  pub few : m ≤ 0x8000
+  pub few : m ≤ border
   pub rows : Rows m ws
   pub halves : Halves m p h o ws
-  pub from : (x : ℕ) → x < m → h ≤ startOf ws m (7 * m) x
-  pub upto : (x : ℕ) → x < m → endOf ws m (7 * m) x ≤ h + p
+  pub from : (x : ℕ) → x < m → h ≤ listStart ws m x
+  pub upto : (x : ℕ) → x < m → listEnd ws m x ≤ h + p
 
 -- two records, and where each lists the other
-pub record Pair (m n k i j : ℕ) (ws : List ℕ) : Type 0 where
+pub record EachLists (m n k i j : ℕ) (ws : List ℕ) : Type 0 where
   pub first : n < m
   pub second : i < m
   pub apart : i ≡ n → ⊥
@@ -210,60 +211,60 @@ unfoldable pub joinedList : List ℕ → List ℕ → ℕ → ℕ → ℕ → �
 joinedList l l′ k j old new = renamedList old new (tidy (around l k ++ around l′ j))
 
 -- what the joined list needs to be written at to
-pub record Target (m n i to z : ℕ) (ws : List ℕ) : Type 0 where
-  pub lists : Parts m (7 * m) ws
-  pub apart : (endOf ws m (7 * m) n ≤ to) ⊎ (z ≤ startOf ws m (7 * m) n)
-  pub apart′ : (endOf ws m (7 * m) i ≤ to) ⊎ (z ≤ startOf ws m (7 * m) i)
-  pub past : 11 * m ≤ to
-  pub into : z ≤ length ws
-  pub fits : z < 4294967296
-  pub room : to + lenAt ws m n + lenAt ws m i ≤ z
+pub record Target (m n i to limit : ℕ) (ws : List ℕ) : Type 0 where
+  pub lists : Parts m (listsAt m) ws
+  pub apart : (listEnd ws m n ≤ to) ⊎ (limit ≤ listStart ws m n)
+  pub apart′ : (listEnd ws m i ≤ to) ⊎ (limit ≤ listStart ws m i)
+  pub past : floorPartsAt m ≤ to
+  pub into : limit ≤ length ws
+  pub fits : limit < wideEnd
+  pub room : to + lenAt ws m n + lenAt ws m i ≤ limit
 
 -- record n's list is the joined one, at to .. e, and record i's is empty
-pub record Absorbed (m n k i j old new to z e : ℕ) (ws ws′ : List ℕ) : Type 0 where
-  pub first : startOf ws′ m (7 * m) n ≡ to
-  pub last : endOf ws′ m (7 * m) n ≡ e
-  pub bare : startOf ws′ m (7 * m) i ≡ e
-  pub bare′ : endOf ws′ m (7 * m) i ≡ e
-  pub list : part to e ws′ ≡ joinedList (listAt ws m (7 * m) n) (listAt ws m (7 * m) i) k j old new
+pub record Absorbed (m n k i j old new to limit e : ℕ) (ws ws′ : List ℕ) : Type 0 where
+  pub first : listStart ws′ m n ≡ to
+  pub last : listEnd ws′ m n ≡ e
+  pub bare : listStart ws′ m i ≡ e
+  pub bare′ : listEnd ws′ m i ≡ e
+  pub list : part to e ws′ ≡ joinedList (listIn ws m n) (listIn ws m i) k j old new
   pub order : to ≤ e
   pub short : e ≤ to + lenAt ws m n + lenAt ws m i
-  pub starts : (y : ℕ) → y < m → (y ≡ i → ⊥) → (y ≡ n → ⊥) → startOf ws′ m (7 * m) y ≡ startOf ws m (7 * m) y
-  pub stops : (y : ℕ) → y < m → (y ≡ i → ⊥) → (y ≡ n → ⊥) → endOf ws′ m (7 * m) y ≡ endOf ws m (7 * m) y
-  pub kept : (y : ℕ) → Outside m to z y → getD ws′ y 0 ≡ getD ws y 0
+  pub starts : (y : ℕ) → y < m → (y ≡ i → ⊥) → (y ≡ n → ⊥) → listStart ws′ m y ≡ listStart ws m y
+  pub stops : (y : ℕ) → y < m → (y ≡ i → ⊥) → (y ≡ n → ⊥) → listEnd ws′ m y ≡ listEnd ws m y
+  pub kept : (y : ℕ) → Outside m to limit y → getD ws′ y 0 ≡ getD ws y 0
 
 -- b and c are the halves h and o, in this order or the other
-abbrev pub Turned : ℕ → ℕ → ℕ → ℕ → Type 0
-Turned h o b c = ((b ≡ h) × (c ≡ o)) ⊎ ((b ≡ o) × (c ≡ h))
+abbrev pub Sides : ℕ → ℕ → ℕ → ℕ → Type 0
+Sides h o b c = ((b ≡ h) × (c ≡ o)) ⊎ ((b ≡ o) × (c ≡ h))
 
 -- all lists stand in the half at b; the one at c is free
 pub record Relisted (m p n k i j old new b c : ℕ) (ws ws′ : List ℕ) : Type 0 where
-  pub joined : listAt ws′ m (7 * m) n ≡ joinedList (listAt ws m (7 * m) n) (listAt ws m (7 * m) i) k j old new
-  pub bare : listAt ws′ m (7 * m) i ≡ []
-  pub others : (x : ℕ) → x < m → (x ≡ i → ⊥) → (x ≡ n → ⊥) → listAt ws′ m (7 * m) x ≡ newList old new (getD ws x 0) (listAt ws m (7 * m) x)
-  pub parts : Parts m (7 * m) ws′
-  pub from : (x : ℕ) → x < m → b ≤ startOf ws′ m (7 * m) x
-  pub upto : (x : ℕ) → x < m → endOf ws′ m (7 * m) x ≤ b + p
+  pub joined : listIn ws′ m n ≡ joinedList (listIn ws m n) (listIn ws m i) k j old new
+  pub bare : listIn ws′ m i ≡ []
+  pub others : (x : ℕ) → x < m → (x ≡ i → ⊥) → (x ≡ n → ⊥) → listIn ws′ m x ≡ newList old new (getD ws x 0) (listIn ws m x)
+  pub parts : Parts m (listsAt m) ws′
+  pub from : (x : ℕ) → x < m → b ≤ listStart ws′ m x
+  pub upto : (x : ℕ) → x < m → listEnd ws′ m x ≤ b + p
   pub room : sumTo (lenAt ws′ m) m ≤ p
   pub kept : (y : ℕ) → Outside m b (b + p) y → (y < c) ⊎ (c + p ≤ y) → getD ws′ y 0 ≡ getD ws y 0
 
 -- record i is live and lists the live record n first at j, and n lists i first at k; i's id is not n
 pub record Listed (m n k i j : ℕ) (ws : List ℕ) : Type 0 where
-  pub pair : Pair m n k i j ws
+  pub pair : EachLists m n k i j ws
   pub live : getD ws i 0 ≡ 0 → ⊥
   pub live′ : getD ws n 0 ≡ 0 → ⊥
   pub other : getD ws i 0 ≡ n → ⊥
-  pub first : k ≡ place (listAt ws m (7 * m) n) (getD ws i 0)
-  pub first′ : j ≡ place (listAt ws m (7 * m) i) (getD ws n 0)
+  pub first : k ≡ place (listIn ws m n) (getD ws i 0)
+  pub first′ : j ≡ place (listIn ws m i) (getD ws n 0)
 
 -- the marks of n and i: n bears what either bore, and i none
 unfoldable pub remarked : ℕ → ℕ → ℕ → List ℕ → List ℕ
-remarked m n i ws = if eqb (getD ws (marksAt m + i) 0) 0 then ws else set (set ws (marksAt m + n) 1) (marksAt m + i) 0
+remarked m n i ws = if eqb (getD ws (cutsAt m + i) 0) 0 then ws else set (set ws (cutsAt m + n) 1) (cutsAt m + i) 0
 
 -- what that leaves
 pub record Remarked (m n i : ℕ) (ws ws′ : List ℕ) : Type 0 where
   pub size : length ws′ ≡ length ws
-  pub kept : (y : ℕ) → (y < marksAt m) ⊎ (marksAt m + m ≤ y) → getD ws′ y 0 ≡ getD ws y 0
-  pub others : (x : ℕ) → x < m → (x ≡ i → ⊥) → (x ≡ n → ⊥) → getD ws′ (marksAt m + x) 0 ≡ getD ws (marksAt m + x) 0
-  pub bare : getD ws′ (marksAt m + i) 0 ≡ 0
-  pub both : not (eqb (getD ws′ (marksAt m + n) 0) 0) ≡ (not (eqb (getD ws (marksAt m + n) 0) 0) or not (eqb (getD ws (marksAt m + i) 0) 0))
+  pub kept : (y : ℕ) → (y < cutsAt m) ⊎ (cutsAt m + m ≤ y) → getD ws′ y 0 ≡ getD ws y 0
+  pub others : (x : ℕ) → x < m → (x ≡ i → ⊥) → (x ≡ n → ⊥) → getD ws′ (cutsAt m + x) 0 ≡ getD ws (cutsAt m + x) 0
+  pub bare : getD ws′ (cutsAt m + i) 0 ≡ 0
+  pub both : not (eqb (getD ws′ (cutsAt m + n) 0) 0) ≡ (not (eqb (getD ws (cutsAt m + n) 0) 0) or not (eqb (getD ws (cutsAt m + i) 0) 0))

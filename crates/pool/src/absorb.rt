@@ -1,62 +1,62 @@
-// Record n's list and record i's become one.
+// Two records' lists become one.
+use crate::Pair;
+use crate::Renaming;
+use crate::build::Around;
 use crate::build::join;
 use crate::build::replace_neighbour;
 use table::end_of;
+use table::map::LISTS;
 use table::set_part;
 use table::start_of;
 ghost use mathlib.Core.Path.{_≡_};
-ghost use Prim.Native.Nat.{_+_, _*_, _≤_};
+ghost use Prim.Native.Nat.{_+_, _≤_};
 ghost use Rattle.space.specs.Space.{Frame};
-ghost use Rattle.table.specs.View.{part, listAt};
-ghost use Rattle.pool.specs.Pool.{lenAt, joinedList, Pair, Target, Absorbed};
+ghost use Rattle.table.specs.View.{part};
+ghost use Rattle.pool.specs.Pool.{lenAt, Target};
+ghost use Rattle.pool.specs.Forms.{joinedOf, PairIn, AbsorbedIn};
 
-// The lists of n and i joined at `to`, and renamed. Gives where the list ends.
+// The lists of the pair joined at `to`, below `limit`, and renamed. Gives where the list ends.
 fn join_lists(
     ws: &mut [u16],
     m: usize,
-    n: usize,
-    k: usize,
-    i: usize,
-    j: usize,
-    old: u16,
-    new: u16,
+    pair: Pair,
+    names: Renaming,
     to: usize,
-    z: usize,
+    limit: usize,
 ) -> usize
-    requires { ⌜ Target m n i to z (now ws) ⌝ }
-    requires { ⌜ Pair m n k i j (now ws) ⌝ }
-    ensures { λ r. ⌜ (part to r (now (ws .exit))
-        ≡ joinedList (listAt (now (ws .entry)) m (7 * m) n) (listAt (now (ws .entry)) m (7 * m) i) k j old new) ⌝ }
-    ensures { λ r. ⌜ (to ≤ r) × (r ≤ to + lenAt (now (ws .entry)) m n + lenAt (now (ws .entry)) m i) ⌝ }
-    ensures { λ _. ⌜ Frame to z (now (ws .entry)) (now (ws .exit)) ⌝ }
+    requires { ⌜ Target m (pair .absorber) (pair .absorbed) to limit (now ws) × PairIn m pair (now ws) ⌝ }
+    ensures { λ r. ⌜ part to r (now (ws .exit)) ≡ joinedOf m pair names (now (ws .entry)) ⌝ }
+    ensures { λ r. ⌜ (to ≤ r) × (r ≤ to + lenAt (now (ws .entry)) m (pair .absorber) + lenAt (now (ws .entry)) m (pair .absorbed)) ⌝ }
+    ensures { λ _. ⌜ Frame to limit (now (ws .entry)) (now (ws .exit)) ⌝ }
 {
-    let a = start_of(ws, m, 7 * m, n);
-    let e = end_of(ws, m, 7 * m, n);
-    let b = start_of(ws, m, 7 * m, i);
-    let f = end_of(ws, m, 7 * m, i);
-    let x = join(ws, a, e, k, b, f, j, to, z);
-    replace_neighbour(ws, to, x, old, new)
+    let absorber = Around {
+        from: start_of(ws, m, LISTS * m, pair.absorber),
+        end: end_of(ws, m, LISTS * m, pair.absorber),
+        entry: pair.entry,
+    };
+    let absorbed = Around {
+        from: start_of(ws, m, LISTS * m, pair.absorbed),
+        end: end_of(ws, m, LISTS * m, pair.absorbed),
+        entry: pair.back,
+    };
+    let end = join(ws, absorber, absorbed, to, limit);
+    replace_neighbour(ws, to, end, names)
 }
 
-// The joined list is n's, and i's is empty. Gives where the joined list ends.
+// The joined list is the absorber's, and the absorbed one's is empty. Gives where the joined list ends.
 pub(crate) fn absorb(
     ws: &mut [u16],
     m: usize,
-    n: usize,
-    k: usize,
-    i: usize,
-    j: usize,
-    old: u16,
-    new: u16,
+    pair: Pair,
+    names: Renaming,
     to: usize,
-    z: usize,
+    limit: usize,
 ) -> usize
-    requires { ⌜ Target m n i to z (now ws) ⌝ }
-    requires { ⌜ Pair m n k i j (now ws) ⌝ }
-    ensures { λ e. ⌜ Absorbed m n k i j old new to z e (now (ws .entry)) (now (ws .exit)) ⌝ }
+    requires { ⌜ Target m (pair .absorber) (pair .absorbed) to limit (now ws) × PairIn m pair (now ws) ⌝ }
+    ensures { λ e. ⌜ AbsorbedIn m pair names to limit e (now (ws .entry)) (now (ws .exit)) ⌝ }
 {
-    let e = join_lists(ws, m, n, k, i, j, old, new, to, z);
-    set_part(ws, m, 7 * m, n, to, e);
-    set_part(ws, m, 7 * m, i, e, e);
+    let e = join_lists(ws, m, pair, names, to, limit);
+    set_part(ws, m, LISTS * m, pair.absorber, to, e);
+    set_part(ws, m, LISTS * m, pair.absorbed, e, e);
     e
 }

@@ -10,5 +10,27 @@ mod rename;
 
 pub use crate::lists::many;
 pub use crate::regions::merge_regions;
-pub use crate::relist::Half;
 pub use crate::relist::len_of;
+
+// Where the lists are in the pool: the half that has them, the other one, how many numbers a half has, and where the lists end.
+pub struct Half {
+    pub now: usize,
+    pub other: usize,
+    pub size: usize,
+    pub top: usize,
+}
+
+// The record that absorbs, and which entry of its list is the absorbed one's id; the record that is absorbed, and which entry of its list is
+// the absorber's.
+pub struct Pair {
+    pub absorber: usize,
+    pub entry: usize,
+    pub absorbed: usize,
+    pub back: usize,
+}
+
+// An id, and the one that it becomes.
+pub struct Renaming {
+    pub old: u16,
+    pub new: u16,
+}

@@ -24,10 +24,9 @@ fn again(l: &[u16], i: usize) -> bool
 
 // Entry i stays, at w, unless the next one equals it. Gives the place for the next entry that stays.
 fn keep_one(l: &mut [u16], i: usize, w: usize) -> usize
-    requires { ⌜ i < length (now l) ⌝ }
-    requires { ⌜ w ≤ i ⌝ }
-    ensures { λ r. ⌜ take r (now (l .exit)) ++ squeeze (drop (i + 1) (now (l .exit))) ≡ take w (now (l .entry)) ++ squeeze (drop i (now (l .entry))) ⌝ }
-    ensures { λ r. ⌜ r ≤ w + 1 ⌝ }
+    requires { ⌜ (i < length (now l)) × (w ≤ i) ⌝ }
+    ensures { λ r. ⌜ (take r (now (l .exit)) ++ squeeze (drop (i + 1) (now (l .exit)))
+        ≡ take w (now (l .entry)) ++ squeeze (drop i (now (l .entry)))) × (r ≤ w + 1) ⌝ }
 {
     if again(l, i) {
         return w;
@@ -38,8 +37,7 @@ fn keep_one(l: &mut [u16], i: usize, w: usize) -> usize
 
 // Of each run of equal entries the last stays. Gives how many entries are left.
 fn squeeze(l: &mut [u16]) -> usize
-    ensures { λ r. ⌜ take r (now (l .exit)) ≡ squeeze (now (l .entry)) ⌝ }
-    ensures { λ r. ⌜ r ≤ length (now (l .entry)) ⌝ }
+    ensures { λ r. ⌜ (take r (now (l .exit)) ≡ squeeze (now (l .entry))) × (r ≤ length (now (l .entry))) ⌝ }
 {
     let mut w = 0;
     let mut i = 0;
@@ -53,8 +51,7 @@ fn squeeze(l: &mut [u16]) -> usize
 // Of the first k entries, without the last if it equals the first and is another.
 fn trim(l: &[u16], k: usize) -> usize
     requires { ⌜ k ≤ length (now l) ⌝ }
-    ensures { λ r. ⌜ take r (now (l .entry)) ≡ trim (take k (now (l .entry))) ⌝ }
-    ensures { λ r. ⌜ r ≤ k ⌝ }
+    ensures { λ r. ⌜ (take r (now (l .entry)) ≡ trim (take k (now (l .entry)))) × (r ≤ k) ⌝ }
 {
     if k <= 1 {
         return k;
@@ -67,8 +64,7 @@ fn trim(l: &[u16], k: usize) -> usize
 
 // Adjacent duplicates are removed; the last and the first are adjacent too. Gives how many entries are left.
 pub(crate) fn remove_adjacent_neighbours(l: &mut [u16]) -> usize
-    ensures { λ r. ⌜ take r (now (l .exit)) ≡ tidy (now (l .entry)) ⌝ }
-    ensures { λ r. ⌜ r ≤ length (now (l .entry)) ⌝ }
+    ensures { λ r. ⌜ (take r (now (l .exit)) ≡ tidy (now (l .entry))) × (r ≤ length (now (l .entry))) ⌝ }
 {
     let k = squeeze(l);
     trim(l, k)
@@ -77,8 +73,7 @@ pub(crate) fn remove_adjacent_neighbours(l: &mut [u16]) -> usize
 // One more if x is r.
 fn count_one(k: usize, r: u16, x: u16) -> usize
     requires { ⌜ k < 18446744073709551615 ⌝ }
-    ensures { λ n. ⌜ n ≡ (if eqb r x then suc k else k) ⌝ }
-    ensures { λ n. ⌜ n ≤ k + 1 ⌝ }
+    ensures { λ n. ⌜ (n ≡ (if eqb r x then suc k else k)) × (n ≤ k + 1) ⌝ }
 {
     if r == x {
         return k + 1;

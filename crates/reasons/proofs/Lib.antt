@@ -2,7 +2,6 @@
 pub mod Shadow
 pub mod Trails
 pub mod Groups
-pub mod Small
 pub mod Room
 pub mod Finals
 pub mod Reasons

@@ -4,7 +4,7 @@ use Prim.Native.Nat.{ℕ, zero, suc, _+_, _*_, _-_, _≤_, _<_}
 use native.Mathlib.Omega.{arith}
 use native.Mathlib.Nat.{add-suc, add-zero}
 use native.Mathlib.Numerals.{add-one}
-use native.Mathlib.Decide.{ℕ-discrete}
+use native.Mathlib.Decide.{ℕ-discrete, decLt}
 use mathlib.Core.Path.{_≡_, refl, sym, ap, _∙_}
 use mathlib.Core.Bool.{Bool, true, false, not, false≢true}
 use mathlib.Core.List.{List, [], _∷_}
@@ -18,7 +18,7 @@ use Rattle.rules.specs.Growth.{plain}
 use Rattle.rules.specs.Contour.{firstSolid, contour, cutShort}
 use Rattle.rules.specs.Records.{Rec, fresh, at, has, others, onceAll, counted, addSpan, records}
 use Rattle.rules.specs.Refusals.{mostSpans}
-use Rattle.laws.proofs.Basics.{upto-next, tab-at, length-tab}
+use Rattle.laws.proofs.Basics.{if-ind, upto-next, tab-at, length-tab}
 use Rattle.laws.proofs.Cells.{passed}
 use Rattle.laws.proofs.Strides.{answered}
 use Rattle.field.specs.Lent.{Celled, Stands}
@@ -31,18 +31,19 @@ use Rattle.contour.specs.Ways.{Mutual, Ways}
 use Rattle.contour.proofs.Areas.{ways-areas}
 use Rattle.contour.proofs.WalkLaws.{ways-same}
 use Rattle.table.specs.View.{part, startOf, endOf, listAt, recAt, recsOf, Held}
-use Rattle.table.proofs.ViewLaws.{view-by, part-none, rec-eq, recs-at}
-use Rattle.records.specs.Cell.{twins, othersFrom}
-use Rattle.records.specs.Rows.{mine, Row, Keeping, Step, plusOne, overlaid, floored, celled, contoured, traced, tracedCut}
+use Rattle.table.proofs.ViewLaws.{view-by, view-length, part-none, rec-eq, recs-at}
+use Rattle.records.specs.Cell.{twins, othersFrom, Lies, Alike}
+use Rattle.records.specs.Rows.{mine, Row, Keeping, Known, Step, plusOne, overlaid, floored, celled, contoured, traced, tracedCut}
 use Rattle.records.specs.Fresh.{Renewed}
 use Rattle.records.specs.Stock.{Given, Reach, Blank, Built}
-use Rattle.records.specs.Build.{added, Standing, Added, Entering, Entered}
+use Rattle.records.specs.Build.{added, Standing, Added, Entering, Entered, Knowing}
 use Rattle.records.specs.declared.cell.Spans.{Spans}
 use Rattle.records.specs.declared.grow.Plan.{Plan}
 use Rattle.records.proofs.CellLaws.{any-twins}
 use Rattle.records.proofs.JoinLaws.{others-from}
 use Rattle.records.proofs.CountLaws.{many-passes, many-none, mine-not}
 use Rattle.records.proofs.RowLaws.{pool-fits, list-parts, floor-parts, step-then}
+use Rattle.records.proofs.KnownLaws.{known-run, known-made, known-few, known-alike}
 use Rattle.records.proofs.NameLaws.{own-name, lists-under, floors-below}
 
 -- ---------------------------------------------------------------- the rule's count, part by part
@@ -217,6 +218,34 @@ module _ (plan : Plan) (ar cs ids : List ℕ) (cell : Spans) (top : ℕ) (ws₀ 
   pub entered-end : (j t : ℕ) (ws : List ℕ) → Entered plan ar ids cell j top ws₀ t ws → cell .size ≤ j → Entered plan ar ids cell (cell .size) top ws₀ t ws
   entered-end j t ws D h = let q : j ≡ cell .size = omega (arith, D .low) in rw q at D
 
+-- ---------------------------------------------------------------- what is known of a cell
+
+module _ (plan : Plan) (ar cs ids : List ℕ) (cell last : Spans) (top : ℕ) (ws : List ℕ) (E : Entering plan ar cs ids cell top ws) (k : Knowing ids (plan .records) last ws) where
+  pub cell-lies : Lies ids cell
+  cell-lies = record { inside = E .inside }
+
+  -- of one like the last one all is, and of one with few spans
+  pub know-enter : (1 < cell .size → Alike ids last cell) → Known ids cell (recsOf ws (plan .records))
+  know-enter e = elim (decLt 1 (cell .size)) [
+    | yes h ↦ known-alike ids last cell (recsOf ws (plan .records)) (k .known) (e h)
+    | no h ↦ known-few ids cell (recsOf ws (plan .records)) (omega arith)
+  ]
+
+  -- of each all is once it is done, and of the last one it stays known
+  pub know-next : 0 < cell .size → (t : ℕ) (ws′ : List ℕ) → Entered plan ar ids cell (cell .size) top ws t ws′ → (next : Spans) → next ≡ (if ltb 1 (cell .size) then cell else last)
+      → Knowing ids (plan .records) next ws′
+  unfolding recsOf
+  know-next h t ws′ D next e = rw e (if-ind (λ (x : Spans). Knowing ids (plan .records) x ws′) (ltb 1 (cell .size))
+      (λ _. record {
+        known = rw (D .same) (known-made (netAt (plan .table) ar ws) ids cell (recsOf ws (plan .records)) (λ x pl. omega (arith, E .keeping h .below x pl, view-length ws (plan .records) (7 * plan .records) (11 * plan .records))));
+        lies = cell-lies;
+      })
+      (λ _. record { known = rw (D .same) (known-run (netAt (plan .table) ar ws) ids cell last (cell .size) (recsOf ws (plan .records)) (k .known)); lies = k .lies }))
+
+  -- an empty one
+  pub entered-none : cell .size ≡ 0 → Entered plan ar ids cell (cell .size) top ws top ws
+  entered-none z = entered-end plan ar cs ids cell top ws E 0 top ws (entered-start plan ar cs ids cell top ws E) (omega arith)
+
 -- ---------------------------------------------------------------- all cells
 
 -- after the cells before c, the pool filled up to top
@@ -226,6 +255,10 @@ pub record Running (F : Field) (ids : List ℕ) (m top c : ℕ) (ws₀ ws : List
   pub same : recsOf ws m ≡ upto (firstOf (F .count) c) (addSpan F ids) (tab m 0 fresh)
   pub size : length ws ≡ length ws₀
   pub after : (j : ℕ) → 16 * m + 70 * length ids ≤ j → getD ws j 0 ≡ getD ws₀ j 0
+
+-- before the first cell there is none
+pub know-start : (ids : List ℕ) (m : ℕ) (last : Spans) (ws : List ℕ) → last .size ≡ 0 → Knowing ids m last ws
+know-start ids m last ws z = record { known = known-few ids last (recsOf ws m) (omega arith); lies = record { inside = λ h. absurd (omega arith) } }
 
 module _ (F : Field) (ids : List ℕ) (m : ℕ) (ws₀ : List ℕ) (B : Blank ids m ws₀) (ws : List ℕ) (N : Renewed ids m m ws₀ ws) where
   new-row : (i : ℕ) → i < m → Row ids m 0 0 i ws

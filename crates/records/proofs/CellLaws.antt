@@ -8,7 +8,7 @@ use mathlib.Core.Path.{_≡_, refl, sym, ap, _∙_}
 use mathlib.Core.Bool.{Bool, true, false, not, false≢true}
 use mathlib.Core.List.{List, [], _∷_, map}
 use lib.ListN.{length, getD, set, take, drop, length-set, length-take}
-use lib.Seq.{getD-take, take-suc-set}
+use lib.Seq.{ext-getD, getD-take, getD-drop, take-suc-set}
 use lib.Dec.{eqb, leb·suc-suc}
 use borrow.Author.Tests.{eqb-true, eq-eqb, ne-eqb, lt-ltb, le-ltb, leb-true, leb-false}
 use Rattle.rules.specs.Base.{_and_, _or_, if_then_else_, keep, tab, any}
@@ -18,7 +18,8 @@ use Rattle.rules.specs.Records.{has, once}
 use Rattle.laws.proofs.Basics.{if-ind, or-right, or-no, or-yes, or-swap}
 use Rattle.laws.proofs.Plain.{plain-flagged, plain-yes}
 use Rattle.table.proofs.SearchLaws.{has-cons, place-other, place-first}
-use Rattle.records.specs.Cell.{twin, twins, othersFrom, joinOne, Found, Joined}
+use Rattle.records.specs.Cell.{twin, twins, othersFrom, joinOne, Alike, Found, JoinedOne}
+use Rattle.records.specs.declared.cell.Spans.{Spans}
 
 -- ---------------------------------------------------------------- ids of regions, as the code tests for them
 
@@ -28,6 +29,37 @@ module _ (r : ℕ) (b : Bool) (e : b ≡ flagged r) where
 
   pub region-yes : (r ≡ 0 → ⊥) → b ≡ false → plain r ≡ true
   region-yes n f = plain-yes r n (leb-false 32768 r (sym e ∙ f))
+
+-- ---------------------------------------------------------------- the ids of two cells
+
+-- the lists are the same before i
+pub record Agree (l k : List ℕ) (i : ℕ) : Type 0 where
+  pub within : i ≤ length l
+  pub same : (x : ℕ) → x < i → getD k x 0 ≡ getD l x 0
+
+pub agree-start : (l k : List ℕ) → Agree l k 0
+agree-start l k = record { within = omega arith; same = λ x h. absurd (omega arith) }
+
+module _ (l k : List ℕ) (i : ℕ) (v : Agree l k i) where
+  pub agree-next : i < length l → getD k i 0 ≡ getD l i 0 → Agree l k (i + 1)
+  agree-next h e = record { within = omega arith; same = λ x g. elim (ℕ-discrete x i) [ yes z ↦ rw z e | no z ↦ v .same x (omega arith) ] }
+
+  pub agree-end : length k ≡ length l → length l ≤ i → k ≡ l
+  agree-end e h = ext-getD 0 k l e (λ x g. v .same x (omega arith))
+
+pub differ : (l k : List ℕ) (i : ℕ) → (getD k i 0 ≡ getD l i 0 → ⊥) → k ≡ l → ⊥
+differ l k i h e = h (ap (λ (x : List ℕ). getD x i 0) e)
+
+-- the n spans from a on, and those from b on, have one list of ids
+pub alike-ids : (ids : List ℕ) (last cell : Spans) (n : ℕ) → last .size ≡ cell .size → n ≡ cell .size
+    → take (last .from + n - last .from) (drop (last .from) ids) ≡ take (cell .from + n - cell .from) (drop (cell .from) ids) → Alike ids last cell
+alike-ids ids last cell n q e h = record {
+  size = q;
+  same = λ j l. sym (there (last .from) j (omega arith)) ∙ ap (λ (x : List ℕ). getD x j 0) h ∙ there (cell .from) j (omega arith);
+}
+  where
+    there : (a j : ℕ) → j < n → getD (take (a + n - a) (drop a ids)) j 0 ≡ getD ids (a + j) 0
+    there a j l = getD-take (a + n - a) (drop a ids) j 0 (omega arith) ∙ getD-drop a ids j 0
 
 -- ---------------------------------------------------------------- the own id
 
@@ -125,13 +157,13 @@ found-place l n r p h e = let z : n - 0 ≡ n = omega arith in rw (e, z) (place-
 -- ---------------------------------------------------------------- one joins
 
 module _ (part : List ℕ) (len r p : ℕ) (f : Found part len r p) (h : len < length part) where
-  pub once-there : p < len → Joined (once (take len part) r) len part len
+  pub once-there : p < len → JoinedOne (once (take len part) r) len part len
   unfolding once if_then_else_
   once-there g =
       let z : has (take len part) r ≡ true = sym (f .there) ∙ lt-ltb p len g in
       record { same = rw z; low = omega arith; high = omega arith; within = omega arith }
 
-  pub once-new : len ≤ p → Joined (once (take len part) r) len (set part len r) (len + 1)
+  pub once-new : len ≤ p → JoinedOne (once (take len part) r) len (set part len r) (len + 1)
   unfolding once if_then_else_
   once-new g =
       let z : has (take len part) r ≡ false = sym (f .there) ∙ le-ltb p len g in
@@ -143,15 +175,15 @@ module _ (part : List ℕ) (len r p : ℕ) (f : Found part len r p) (h : len < l
       }
 
 module _ (ids part : List ℕ) (s t len : ℕ) (h : len ≤ length part) where
-  pub join-self : t ≡ s → Joined (joinOne ids s t (take len part)) len part len
+  pub join-self : t ≡ s → JoinedOne (joinOne ids s t (take len part)) len part len
   unfolding joinOne if_then_else_ _and_
   join-self e = record { same = rw (eq-eqb t s e); low = omega arith; high = omega arith; within = h }
 
   module _ (n : t ≡ s → ⊥) where
-    pub join-not : plain (getD ids t 0) ≡ false → Joined (joinOne ids s t (take len part)) len part len
+    pub join-not : plain (getD ids t 0) ≡ false → JoinedOne (joinOne ids s t (take len part)) len part len
     unfolding joinOne if_then_else_ _and_
     join-not f = record { same = rw (ne-eqb t s n, f); low = omega arith; high = omega arith; within = h }
 
-    pub join-yes : plain (getD ids t 0) ≡ true → (part′ : List ℕ) (k : ℕ) → Joined (once (take len part) (getD ids t 0)) len part′ k → Joined (joinOne ids s t (take len part)) len part′ k
+    pub join-yes : plain (getD ids t 0) ≡ true → (part′ : List ℕ) (k : ℕ) → JoinedOne (once (take len part) (getD ids t 0)) len part′ k → JoinedOne (joinOne ids s t (take len part)) len part′ k
     unfolding joinOne if_then_else_ _and_
     join-yes y part′ k j = rw (ne-eqb t s n, y) j

@@ -13,7 +13,7 @@ use Rattle.rules.specs.Base.{_and_, if_then_else_}
 use Rattle.rules.specs.Net.{Net, areaOf}
 use Rattle.rules.specs.Contour.{firstSolid}
 use Rattle.rules.specs.Growth.{plain}
-use Rattle.rules.specs.Records.{Rec, at, fresh, onceAll}
+use Rattle.rules.specs.Records.{Rec, at, fresh}
 use Rattle.laws.proofs.Basics.{many-le, or-no}
 use Rattle.space.specs.Space.{sec}
 use Rattle.net.specs.Table.{netAt}
@@ -24,12 +24,12 @@ use Rattle.contour.proofs.WalkLaws.{ways-same}
 use Rattle.table.specs.View.{startOf, endOf, listAt, recAt, view, recsOf}
 use Rattle.table.proofs.ViewLaws.{list-length, view-at, view-length, recs-at}
 use Rattle.records.specs.Cell.{twins, othersFrom}
-use Rattle.records.specs.Rows.{Keeping, Step, Slack, traced, tracedCut, marked, plusOne, overlaid, floored, celled, withArea, withList, withCut, withContour, contoured}
+use Rattle.records.specs.Rows.{Keeping, Took, Step, Slack, traced, tracedCut, marked, plusOne, overlaid, floored, celled, withArea, withList, withCut, withContour, contoured}
 use Rattle.records.specs.Map.{poolIn}
 use Rattle.records.specs.Stock.{Reach}
-use Rattle.records.proofs.CellLaws.{twins-alone, others-alone}
+use Rattle.records.proofs.KnownLaws.{celled-took}
 use Rattle.records.proofs.RowLaws.{list-parts, floor-parts, count-room, step-then, store-start, store-end}
-use Rattle.records.proofs.StepLaws.{step-none, overlaid-not, step-one, step-area, step-marked}
+use Rattle.records.proofs.StepLaws.{step-none, step-one, step-area, step-marked}
 use Rattle.records.proofs.TraceLaws.{list-tracing}
 
 -- a contour reads no area, so it is the same with ids in their place
@@ -114,10 +114,6 @@ module _ (ids : List ℕ) (m top k : ℕ) (ws : List ℕ) (K : Keeping ids m top
 
 -- ---------------------------------------------------------------- the cell
 
-celled-alone : (ids : List ℕ) (s : ℕ) (x : Rec) → plusOne x ≡ celled ids s 1 s x
-unfolding celled floored onceAll
-celled-alone ids s x = rw (others-alone ids s, twins-alone ids s (getD ids s 0), overlaid-not (plusOne x))
-
 module _ (ids : List ℕ) (m top s : ℕ) (ws : List ℕ) (K : Keeping ids m top s ws) (r size from : ℕ) (er : r ≡ getD ids s 0) (pl : plain (getD ids s 0) ≡ true) (g : s < length ids) where
   pub own-in : r < m
   own-in = rw er (K .below s pl)
@@ -128,11 +124,9 @@ module _ (ids : List ℕ) (m top s : ℕ) (ws : List ℕ) (K : Keeping ids m top
   one : Step plusOne ids m r top (s + 1) ws (set ws (m + r) (getD ws (m + r) 0 + 1))
   one = step-one ids m top s ws K r own-in g er pl
 
-  -- alone in its cell, it adds one and takes nothing
-  pub cell-alone : size ≡ 1 → from ≤ s → s < from + size → Step (celled ids s size from) ids m r top (s + 1) ws (set ws (m + r) (getD ws (m + r) 0 + 1))
-  cell-alone z lo hi =
-      let f : from ≡ s = omega arith in
-      rw (z, f) (step-as plusOne (celled ids s 1 s) ids m r top (s + 1) ws _ (celled-alone ids s (at (recsOf ws m) r)) one)
+  -- its record has what it takes from its cell
+  pub cell-known : Took ids s size from (at (recsOf ws m) r) → Step (celled ids s size from) ids m r top (s + 1) ws (set ws (m + r) (getD ws (m + r) 0 + 1))
+  cell-known k = step-as plusOne (celled ids s size from) ids m r top (s + 1) ws _ (celled-took ids s size from (at (recsOf ws m) r) k) one
 
   module _ (ws₁ : List ℕ) (e₁ : ws₁ ≡ set ws (m + r) (getD ws (m + r) 0 + 1)) where
     one₁ : Step plusOne ids m r top (s + 1) ws ws₁

@@ -40,7 +40,7 @@ module _ (ids : List ℕ) (m top k : ℕ) (ws : List ℕ) (K : Keeping ids m top
   mid-length = length-sec a (z - a) ws (omega (arith, room-order, room-long, room-inside, K .room))
 
   pub room-roomy : (s from size : ℕ) → e + 62 ≤ z → size ≤ 63 → from + size ≤ length ids → from ≤ s → s < from + size → Roomy ids (midOf a (z - a) ws) s from size (e - a)
-  room-roomy s from size slack few in₁ lo hi = record { spans = K .spans; inside = in₁; lower = lo; upper = hi; room = omega (arith, mid-length, room-order, room-long) }
+  room-roomy s from size slack few in₁ lo hi = record { few = few; spans = K .spans; inside = in₁; lower = lo; upper = hi; room = omega (arith, mid-length, room-order, room-long) }
 
   pub put-room : (part′ : List ℕ) → length part′ ≡ length (midOf a (z - a) ws) → 11 * m + 4 * m ≤ length (putMid a (z - a) ws part′)
   put-room part′ len = rw (same-len-mid a (z - a) ws part′ len) (omega (arith, K .room))

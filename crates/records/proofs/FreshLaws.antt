@@ -16,7 +16,7 @@ use Rattle.laws.proofs.Basics.{many-le}
 use Rattle.space.proofs.Laws.{getD-before, getD-after}
 use Rattle.table.specs.View.{startOf, endOf, Placed}
 use Rattle.table.proofs.ViewLaws.{wide-same}
-use Rattle.records.specs.Map.{border}
+use Rattle.table.specs.Map.{border}
 use Rattle.records.specs.Rows.{slot, floorsAt}
 use Rattle.records.specs.Fresh.{tallyOne, Tallied, Renewed}
 use Rattle.records.specs.Stock.{Blank}

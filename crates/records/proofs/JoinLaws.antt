@@ -13,7 +13,7 @@ use Rattle.rules.specs.Field.{Field, cellOf}
 use Rattle.rules.specs.Growth.{plain}
 use Rattle.rules.specs.Records.{once, onceAll, others}
 use Rattle.laws.proofs.Basics.{if-ind}
-use Rattle.records.specs.Cell.{othersFrom, joinOne, Joined, JoinedAll, Roomy, Joining}
+use Rattle.records.specs.Cell.{othersFrom, joinOne, JoinedOne, JoinedAll, Roomy, Joining}
 
 -- the rule's others are those of the cell
 pub others-from : (F : Field) (ids : List ℕ) (s : ℕ) → others F ids s ≡ othersFrom ids s (getD (F .count) (cellOf (F .count) s) 0) (getD (F .index) (cellOf (F .count) s) 0)
@@ -45,7 +45,7 @@ module _ (ids part₀ : List ℕ) (s from size len : ℕ) (R : Roomy ids part₀
           | no g ↦ (let r = J .room₁ (omega arith) in (omega arith, λ n. omega (arith, n, R .upper)))
         ]
 
-    next-there : (part′ : List ℕ) (k′ : ℕ) → Joined (joinOne ids s (from + j) (take k part)) k part′ k′ → (from + j ≡ s → k′ ≡ k) → length part′ ≡ length part → Joining ids part₀ s from size len part′ k′ (j + 1)
+    next-there : (part′ : List ℕ) (k′ : ℕ) → JoinedOne (joinOne ids s (from + j) (take k part)) k part′ k′ → (from + j ≡ s → k′ ≡ k) → length part′ ≡ length part → Joining ids part₀ s from size len part′ k′ (j + 1)
     next-there part′ k′ D z n = record {
       low = omega arith;
       length′ = n ∙ J .length′;
@@ -66,7 +66,7 @@ module _ (ids part₀ : List ℕ) (s from size len : ℕ) (R : Roomy ids part₀
       pub join-room : (k ≤ length part) × ((t ≡ s → ⊥) → k < length part)
       join-room = rw e room-there
 
-      pub join-next : (part′ : List ℕ) (k′ : ℕ) → Joined (joinOne ids s t (take k part)) k part′ k′ → (t ≡ s → k′ ≡ k) → length part′ ≡ length part
+      pub join-next : (part′ : List ℕ) (k′ : ℕ) → JoinedOne (joinOne ids s t (take k part)) k part′ k′ → (t ≡ s → k′ ≡ k) → length part′ ≡ length part
           → Joining ids part₀ s from size len part′ k′ (j + 1)
       join-next part′ k′ D z n = next-there part′ k′ (rw e at D) (rw e at z) n
 

@@ -6,6 +6,7 @@ pub mod StepLaws
 pub mod MarkLaws
 pub mod FloorLaws
 pub mod TraceLaws
+pub mod KnownLaws
 pub mod ContourLaws
 pub mod FreshLaws
 pub mod NameLaws

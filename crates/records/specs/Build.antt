@@ -9,10 +9,10 @@ use Rattle.rules.specs.Growth.{plain}
 use Rattle.rules.specs.Records.{Rec, at}
 use Rattle.net.specs.Table.{netAt}
 use Rattle.contour.specs.Ways.{Ways}
+use Rattle.table.specs.Map.{recordsEnd}
 use Rattle.table.specs.View.{recsOf}
-use Rattle.records.specs.Map.{recordsEnd}
-use Rattle.records.specs.Cell.{Within}
-use Rattle.records.specs.Rows.{Keeping, celled, contoured}
+use Rattle.records.specs.Cell.{Within, Lies}
+use Rattle.records.specs.Rows.{Keeping, Known, celled, contoured}
 use Rattle.records.specs.Stock.{Reach}
 use Rattle.records.specs.declared.cell.Spans.{Spans}
 use Rattle.records.specs.declared.grow.Plan.{Plan}
@@ -22,6 +22,10 @@ unfoldable pub added : Net → List ℕ → Spans → ℕ → List Rec → List 
 added N ids cell s rs =
     let r = getD ids s 0 in
     if plain r then set rs r (contoured N ids s (celled ids s (cell .size) (cell .from) (at rs r))) else rs
+
+-- the spans of cell c
+unfoldable pub spansAt : List ℕ → List ℕ → ℕ → Spans
+spansAt index count c = record { from = getD index c 0; size = getD count c 0 }
 
 -- span s of a cell is next
 pub record Standing (plan : Plan) (areas con ids : List ℕ) (cell : Spans) (s top : ℕ) (ws : List ℕ) : Type 0 where
@@ -44,6 +48,11 @@ pub record Entering (plan : Plan) (areas con ids : List ℕ) (cell : Spans) (top
   pub few : cell .size ≤ 63
   pub inside : 0 < cell .size → cell .from + cell .size ≤ length ids
   pub keeping : 0 < cell .size → Keeping ids (plan .records) top (cell .from) ws
+
+-- the records of the spans of the last cell with several have what these take from it
+pub record Knowing (ids : List ℕ) (m : ℕ) (last : Spans) (ws : List ℕ) : Type 0 where
+  pub known : Known ids last (recsOf ws m)
+  pub lies : Lies ids last
 
 -- what its first j spans leave, and the pool's end t
 pub record Entered (plan : Plan) (areas ids : List ℕ) (cell : Spans) (j top : ℕ) (ws₀ : List ℕ) (t : ℕ) (ws : List ℕ) : Type 0 where

@@ -34,7 +34,7 @@ pub record Found (l : List ℕ) (n r p : ℕ) : Type 0 where
   pub there : ltb p n ≡ has (take n l) r
 
 -- what joining leaves: the list l, from 0 on
-pub record Joined (l : List ℕ) (len : ℕ) (part′ : List ℕ) (k : ℕ) : Type 0 where
+pub record JoinedOne (l : List ℕ) (len : ℕ) (part′ : List ℕ) (k : ℕ) : Type 0 where
   pub same : take k part′ ≡ l
   pub low : len ≤ k
   pub high : k ≤ len + 1
@@ -45,6 +45,15 @@ pub record JoinedAll (l : List ℕ) (len : ℕ) (part′ : List ℕ) (k : ℕ) :
   pub same : take k part′ ≡ l
   pub within : k ≤ length part′
 
+-- a cell's spans are among those that have ids; an empty one has no first span
+pub record Lies (ids : List ℕ) (cell : Spans) : Type 0 where
+  pub inside : 0 < cell .size → cell .from + cell .size ≤ length ids
+
+-- the spans of two cells have the same ids, layer by layer
+pub record Alike (ids : List ℕ) (a b : Spans) : Type 0 where
+  pub size : a .size ≡ b .size
+  pub same : (j : ℕ) → j < b .size → getD ids (a .from + j) 0 ≡ getD ids (b .from + j) 0
+
 -- span s is one of a cell's
 pub record Within (ids : List ℕ) (s : ℕ) (cell : Spans) : Type 0 where
   pub few : cell .size ≤ 63
@@ -54,6 +63,7 @@ pub record Within (ids : List ℕ) (s : ℕ) (cell : Spans) : Type 0 where
 
 -- s is one of the size spans from `from` on, and there is room for the others
 pub record Roomy (ids part : List ℕ) (s from size len : ℕ) : Type 0 where
+  pub few : size ≤ 63
   pub spans : length ids ≤ mostSpans
   pub inside : from + size ≤ length ids
   pub lower : from ≤ s

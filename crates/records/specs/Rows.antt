@@ -9,12 +9,13 @@ use Rattle.rules.specs.Base.{_and_, _or_, if_then_else_, many}
 use Rattle.rules.specs.Net.{Net, areaOf}
 use Rattle.rules.specs.Growth.{plain}
 use Rattle.rules.specs.Contour.{firstSolid, contour, cutShort}
-use Rattle.rules.specs.Records.{Rec, at, onceAll}
+use Rattle.rules.specs.Records.{Rec, at, has, onceAll}
 use Rattle.rules.specs.Refusals.{mostSpans}
 use Rattle.contour.specs.Pool.{pooled}
-use Rattle.table.specs.View.{startOf, endOf, listAt, marksAt, recsOf}
-use Rattle.records.specs.Map.{listsAt, floorPartsAt, poolAt, floorsFrom, floorRoom, recordsEnd, border}
+use Rattle.table.specs.Map.{border, areasAt, overlapsAt, visitsAt, spareAt, cutsAt, poolAt, halfOf, floorsFrom, floorRoom, recordsEnd}
+use Rattle.table.specs.View.{recsOf, listStart, listEnd, listIn, floorsStart, floorsEnd, floorsIn}
 use Rattle.records.specs.Cell.{twins, othersFrom}
+use Rattle.records.specs.declared.cell.Spans.{Spans}
 
 -- how many spans have an id below i: the room of record i's floors begins there
 unfoldable pub slot : List ℕ → ℕ → ℕ
@@ -26,7 +27,7 @@ floorsAt ids m i = floorsFrom m (length ids) + floorRoom * slot ids i
 
 -- is i one of the m records, and has it a list?
 unfoldable pub walked : ℕ → List ℕ → ℕ → Bool
-walked m ws i = ltb i m and ltb (startOf ws m (listsAt m) i) (endOf ws m (listsAt m) i)
+walked m ws i = ltb i m and ltb (listStart ws m i) (listEnd ws m i)
 
 -- a span of id x counts for record i
 unfoldable pub mine : ℕ → ℕ → Bool
@@ -34,12 +35,12 @@ mine i x = plain x and eqb i x
 
 -- record i after k spans: its list lies in the pool before top, its floors in their room
 pub record Row (ids : List ℕ) (m top k i : ℕ) (ws : List ℕ) : Type 0 where
-  pub from : poolAt m ≤ startOf ws m (listsAt m) i
-  pub order : startOf ws m (listsAt m) i ≤ endOf ws m (listsAt m) i
-  pub till : endOf ws m (listsAt m) i ≤ poolAt m + top
-  pub floors : startOf ws m (floorPartsAt m) i ≡ floorsAt ids m i
-  pub order′ : startOf ws m (floorPartsAt m) i ≤ endOf ws m (floorPartsAt m) i
-  pub till′ : endOf ws m (floorPartsAt m) i ≤ startOf ws m (floorPartsAt m) i + floorRoom * getD ws (m + i) 0
+  pub from : poolAt m ≤ listStart ws m i
+  pub order : listStart ws m i ≤ listEnd ws m i
+  pub till : listEnd ws m i ≤ poolAt m + top
+  pub floors : floorsStart ws m i ≡ floorsAt ids m i
+  pub order′ : floorsStart ws m i ≤ floorsEnd ws m i
+  pub till′ : floorsEnd ws m i ≤ floorsStart ws m i + floorRoom * getD ws (m + i) 0
   pub tally : getD ws (m + i) 0 ≡ many (mine i) (take k ids)
 
 -- all records after k spans, the pool filled up to top
@@ -51,33 +52,33 @@ pub record Keeping (ids : List ℕ) (m top k : ℕ) (ws : List ℕ) : Type 0 whe
   pub rows : (i : ℕ) → i < m → Row ids m top k i ws
   pub used : top ≤ 4 * many (walked m ws) ids
   pub blank : (j : ℕ) → poolAt m + top ≤ j → j < floorsFrom m (length ids) → getD ws j 0 ≡ 0
-  pub spare : (x : ℕ) → x < 2 * m → getD ws (5 * m + x) 0 ≡ 0
+  pub spare : (x : ℕ) → x < 2 * m → getD ws (spareAt m + x) 0 ≡ 0
 
 -- nothing but record r is changed
 pub record Change (m r : ℕ) (ws ws′ : List ℕ) : Type 0 where
   pub size : length ws′ ≡ length ws
   pub names : (x : ℕ) → x < m → (x ≡ r → ⊥) → getD ws′ x 0 ≡ getD ws x 0
   pub counts : (x : ℕ) → x < m → (x ≡ r → ⊥) → getD ws′ (m + x) 0 ≡ getD ws (m + x) 0
-  pub areas : (x : ℕ) → x < m → (x ≡ r → ⊥) → getD ws′ (2 * m + x) 0 ≡ getD ws (2 * m + x) 0
-  pub overlaps : (x : ℕ) → x < m → (x ≡ r → ⊥) → getD ws′ (3 * m + x) 0 ≡ getD ws (3 * m + x) 0
-  pub visits : (x : ℕ) → x < m → (x ≡ r → ⊥) → getD ws′ (4 * m + x) 0 ≡ getD ws (4 * m + x) 0
-  pub starts : (x : ℕ) → x < m → (x ≡ r → ⊥) → startOf ws′ m (listsAt m) x ≡ startOf ws m (listsAt m) x
-  pub stops : (x : ℕ) → x < m → (x ≡ r → ⊥) → endOf ws′ m (listsAt m) x ≡ endOf ws m (listsAt m) x
-  pub starts′ : (x : ℕ) → x < m → (x ≡ r → ⊥) → startOf ws′ m (floorPartsAt m) x ≡ startOf ws m (floorPartsAt m) x
-  pub stops′ : (x : ℕ) → x < m → (x ≡ r → ⊥) → endOf ws′ m (floorPartsAt m) x ≡ endOf ws m (floorPartsAt m) x
-  pub lists : (x : ℕ) → x < m → (x ≡ r → ⊥) → listAt ws′ m (listsAt m) x ≡ listAt ws m (listsAt m) x
-  pub floors : (x : ℕ) → x < m → (x ≡ r → ⊥) → listAt ws′ m (floorPartsAt m) x ≡ listAt ws m (floorPartsAt m) x
-  pub cuts : (x : ℕ) → x < m → (x ≡ r → ⊥) → getD ws′ (marksAt m + x) 0 ≡ getD ws (marksAt m + x) 0
-  pub spare : (x : ℕ) → x < 2 * m → getD ws′ (5 * m + x) 0 ≡ getD ws (5 * m + x) 0
+  pub areas : (x : ℕ) → x < m → (x ≡ r → ⊥) → getD ws′ (areasAt m + x) 0 ≡ getD ws (areasAt m + x) 0
+  pub overlaps : (x : ℕ) → x < m → (x ≡ r → ⊥) → getD ws′ (overlapsAt m + x) 0 ≡ getD ws (overlapsAt m + x) 0
+  pub visits : (x : ℕ) → x < m → (x ≡ r → ⊥) → getD ws′ (visitsAt m + x) 0 ≡ getD ws (visitsAt m + x) 0
+  pub starts : (x : ℕ) → x < m → (x ≡ r → ⊥) → listStart ws′ m x ≡ listStart ws m x
+  pub stops : (x : ℕ) → x < m → (x ≡ r → ⊥) → listEnd ws′ m x ≡ listEnd ws m x
+  pub starts′ : (x : ℕ) → x < m → (x ≡ r → ⊥) → floorsStart ws′ m x ≡ floorsStart ws m x
+  pub stops′ : (x : ℕ) → x < m → (x ≡ r → ⊥) → floorsEnd ws′ m x ≡ floorsEnd ws m x
+  pub lists : (x : ℕ) → x < m → (x ≡ r → ⊥) → listIn ws′ m x ≡ listIn ws m x
+  pub floors : (x : ℕ) → x < m → (x ≡ r → ⊥) → floorsIn ws′ m x ≡ floorsIn ws m x
+  pub cuts : (x : ℕ) → x < m → (x ≡ r → ⊥) → getD ws′ (cutsAt m + x) 0 ≡ getD ws (cutsAt m + x) 0
+  pub spare : (x : ℕ) → x < 2 * m → getD ws′ (spareAt m + x) 0 ≡ getD ws (spareAt m + x) 0
 
 -- one span more is counted in record r than has given its floors
 pub record Slack (m r : ℕ) (ws : List ℕ) : Type 0 where
-  pub slack : endOf ws m (floorPartsAt m) r + floorRoom ≤ startOf ws m (floorPartsAt m) r + floorRoom * getD ws (m + r) 0
+  pub slack : floorsEnd ws m r + floorRoom ≤ floorsStart ws m r + floorRoom * getD ws (m + r) 0
 
 -- what a trace leaves: a list in the pool, which ends at t
 pub record Traced (l : List ℕ) (ids : List ℕ) (base top : ℕ) (ws ws′ : List ℕ) (t : ℕ) : Type 0 where
   pub end : t ≡ top + length l
-  pub pool : ws′ ≡ pooled ws base (4 * length ids) top l
+  pub pool : ws′ ≡ pooled ws base (halfOf (length ids)) top l
 
 -- ---- the rule's `counted`, part by part
 
@@ -89,7 +90,7 @@ overlaid b r = record { id = r .id; count = r .count; area = r .area; visited = 
 
 -- overlap as it is set
 unfoldable pub marked : ℕ → ℕ → Bool → List ℕ → List ℕ
-marked m r b ws = if b then set ws (3 * m + r) 1 else ws
+marked m r b ws = if b then set ws (overlapsAt m + r) 1 else ws
 
 unfoldable pub floored : List ℕ → Rec → Rec
 floored o r = record { id = r .id; count = r .count; area = r .area; visited = r .visited; overlap = r .overlap; list = r .list; floors = onceAll (r .floors) o; cut = r .cut }
@@ -113,7 +114,7 @@ withCut b r = record { id = r .id; count = r .count; area = r .area; visited = r
 
 -- the mark as it is set
 unfoldable pub cutMarked : ℕ → ℕ → Bool → List ℕ → List ℕ
-cutMarked m r b ws = if b then set ws (marksAt m + r) 1 else ws
+cutMarked m r b ws = if b then set ws (cutsAt m + r) 1 else ws
 
 -- the list, and the mark where its walk was cut short
 unfoldable pub withContour : List ℕ → Bool → Rec → Rec
@@ -137,6 +138,17 @@ contoured N ids s r =
 -- what a span takes from its cell, the n spans from t on
 unfoldable pub celled : List ℕ → ℕ → ℕ → ℕ → Rec → Rec
 celled ids s n t r = floored (othersFrom ids s n t) (overlaid (twins ids s (getD ids s 0) n t) (plusOne r))
+
+-- ---- what a record has already
+
+-- what span s takes from its cell, the n spans from t on, record x has: floors, and overlap where another of them has the span's id
+pub record Took (ids : List ℕ) (s n t : ℕ) (x : Rec) : Type 0 where
+  pub floors : (v : ℕ) → has (othersFrom ids s n t) v ≡ true → has (x .floors) v ≡ true
+  pub overlap : twins ids s (getD ids s 0) n t ≡ true → x .overlap ≡ true
+
+-- so have the records of all spans of a cell
+pub record Known (ids : List ℕ) (cell : Spans) (rs : List Rec) : Type 0 where
+  pub took : (s : ℕ) → cell .from ≤ s → s < cell .from + cell .size → plain (getD ids s 0) ≡ true → Took ids s (cell .size) (cell .from) (at rs (getD ids s 0))
 
 -- ---- what the parts of a count leave
 

@@ -12,8 +12,8 @@ use Rattle.rules.specs.Refusals.{mostSpans}
 use Rattle.field.specs.Lent.{Sound}
 use Rattle.net.specs.Table.{netAt, lastPlace}
 use Rattle.contour.specs.Ways.{Ways}
-use Rattle.table.specs.View.{startOf, endOf, recsOf, Held}
-use Rattle.records.specs.Map.{listsAt, floorPartsAt, poolAt, floorsFrom, recordsEnd, border}
+use Rattle.table.specs.Map.{border, spareAt, poolAt, halfOf, floorsFrom, recordsEnd}
+use Rattle.table.specs.View.{recsOf, listStart, listEnd, floorsStart, RecordsIn}
 use Rattle.records.specs.Rows.{floorsAt}
 use Rattle.records.specs.declared.grow.Plan.{Plan}
 
@@ -43,11 +43,11 @@ pub record Blank (ids : List ℕ) (m : ℕ) (ws : List ℕ) : Type 0 where
 -- the records 0 to next after all spans: the rule's, laid so that filter and merge can read them
 pub record Built (F : Field) (ids : List ℕ) (next : ℕ) (ws₀ ws : List ℕ) : Type 0 where
   pub same : recsOf ws (next + 1) ≡ records F ids next
-  pub held : Held (next + 1) (listsAt (next + 1)) (floorPartsAt (next + 1)) ws
-  pub from : (r : ℕ) → r < next + 1 → poolAt (next + 1) ≤ startOf ws (next + 1) (listsAt (next + 1)) r
-  pub till : (r : ℕ) → r < next + 1 → endOf ws (next + 1) (listsAt (next + 1)) r ≤ poolAt (next + 1) + 4 * length ids
-  pub floors : (r : ℕ) → r < next + 1 → startOf ws (next + 1) (floorPartsAt (next + 1)) r ≡ floorsAt ids (next + 1) r
-  pub blank : (j : ℕ) → poolAt (next + 1) + 4 * length ids ≤ j → j < floorsFrom (next + 1) (length ids) → getD ws j 0 ≡ 0
-  pub spare : (x : ℕ) → x < 2 * (next + 1) → getD ws (5 * (next + 1) + x) 0 ≡ 0
+  pub held : RecordsIn (next + 1) ws
+  pub from : (r : ℕ) → r < next + 1 → poolAt (next + 1) ≤ listStart ws (next + 1) r
+  pub till : (r : ℕ) → r < next + 1 → listEnd ws (next + 1) r ≤ poolAt (next + 1) + halfOf (length ids)
+  pub floors : (r : ℕ) → r < next + 1 → floorsStart ws (next + 1) r ≡ floorsAt ids (next + 1) r
+  pub blank : (j : ℕ) → poolAt (next + 1) + halfOf (length ids) ≤ j → j < floorsFrom (next + 1) (length ids) → getD ws j 0 ≡ 0
+  pub spare : (x : ℕ) → x < 2 * (next + 1) → getD ws (spareAt (next + 1) + x) 0 ≡ 0
   pub size : length ws ≡ length ws₀
   pub after : (j : ℕ) → recordsEnd (next + 1) (length ids) ≤ j → getD ws j 0 ≡ getD ws₀ j 0

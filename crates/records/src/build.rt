@@ -1,11 +1,13 @@
 // The records of all regions, in one pass over the cells.
 use crate::cell::Spans;
+use crate::cell::look_back;
 use crate::fresh::renew;
 use crate::grow::Plan;
 use crate::grow::add_cell;
 use crate::grow::add_contour;
 use field::place::Layer;
 use field::place::SpanIx;
+use field::read::at8;
 use field::read::at32;
 use region::RegionId;
 use table::at;
@@ -15,9 +17,11 @@ ghost use Prim.Native.Nat.{_+_, _*_, _≤_, _<_};
 ghost use lib.ListN.{length, getD};
 ghost use Rattle.rules.specs.Growth.{plain};
 ghost use Rattle.field.specs.Lent.{lent};
-ghost use Rattle.records.specs.Map.{recordsEnd};
+ghost use Rattle.table.specs.Map.{recordsEnd};
+ghost use Rattle.table.specs.View.{recsOf};
+ghost use Rattle.records.specs.Rows.{Known};
 ghost use Rattle.records.specs.Stock.{Given, Blank, Built};
-ghost use Rattle.records.specs.Build.{Standing, Added, Entering, Entered};
+ghost use Rattle.records.specs.Build.{spansAt, Standing, Added, Entering, Entered, Knowing};
 
 // A span of a region is added to its record. Gives the pool's new end.
 fn count_span(
@@ -27,14 +31,16 @@ fn count_span(
     ws: &mut [u16],
     plan: Plan,
     cell: Spans,
+    known: bool,
     span: SpanIx,
     top: usize,
 ) -> usize
     requires { ⌜ Standing plan (now area) (now con) (now ids) cell (span .0) top (now ws) × (plain (getD (now ids) (span .0) 0) ≡ true) ⌝ }
+    requires { ⌜ (known ≡ true → Known (now ids) cell (recsOf (now ws) (plan .records))) ⌝ }
     ensures { λ t. ⌜ Added plan (now (area .entry)) (now (ids .entry)) cell (span .0) (now (ws .entry)) t (now (ws .exit)) ⌝ }
 {
     let r = at(ids, span.0);
-    add_cell(ids, ws, plan.records, top, span, r, cell);
+    add_cell(ids, ws, plan.records, top, span, r, cell, known);
     add_contour(area, con, ids, ws, plan, span, r, top)
 }
 
@@ -46,10 +52,12 @@ fn add_span(
     ws: &mut [u16],
     plan: Plan,
     cell: Spans,
+    known: bool,
     span: SpanIx,
     top: usize,
 ) -> usize
     requires { ⌜ Standing plan (now area) (now con) (now ids) cell (span .0) top (now ws) ⌝ }
+    requires { ⌜ (known ≡ true → Known (now ids) cell (recsOf (now ws) (plan .records))) ⌝ }
     ensures { λ t. ⌜ Added plan (now (area .entry)) (now (ids .entry)) cell (span .0) (now (ws .entry)) t (now (ws .exit)) ⌝ }
 {
     let s = span.0;
@@ -60,10 +68,10 @@ fn add_span(
     if RegionId(r).is_border() {
         return top;
     }
-    count_span(area, con, ids, ws, plan, cell, span, top)
+    count_span(area, con, ids, ws, plan, cell, known, span, top)
 }
 
-// All spans of a cell, layer by layer.
+// All spans of a cell, layer by layer. Where it is known that their records have what they take from the cell, it is not looked for again.
 fn add_spans(
     area: &[u8],
     con: &[u8],
@@ -71,14 +79,26 @@ fn add_spans(
     ws: &mut [u16],
     plan: Plan,
     cell: Spans,
+    known: bool,
     top: usize,
 ) -> usize
     requires { ⌜ Entering plan (now area) (now con) (now ids) cell top (now ws) ⌝ }
+    requires { ⌜ (known ≡ true → Known (now ids) cell (recsOf (now ws) (plan .records))) ⌝ }
     ensures { λ t. ⌜ Entered plan (now (area .entry)) (now (ids .entry)) cell (cell .size) top (now (ws .entry)) t (now (ws .exit)) ⌝ }
 {
     let mut end = top;
     for j in 0..cell.size {
-        end = add_span(area, con, ids, ws, plan, cell, cell.at(Layer(j)), end);
+        end = add_span(
+            area,
+            con,
+            ids,
+            ws,
+            plan,
+            cell,
+            known,
+            cell.at(Layer(j as u8)),
+            end,
+        );
     }
     end
 }
@@ -86,11 +106,50 @@ fn add_spans(
 // The spans of cell c.
 fn spans_of(index: &[u32], count: &[u8], c: usize) -> Spans
     requires { ⌜ (c < length (now index)) × (c < length (now count)) ⌝ }
-    ensures { λ r. ⌜ (r .from ≡ getD (now (index .entry)) c 0) × (r .size ≡ getD (now (count .entry)) c 0) ⌝ }
+    ensures { λ r. ⌜ r ≡ spansAt (now (index .entry)) (now (count .entry)) c ⌝ }
 {
     Spans {
         from: at32(index, c),
-        size: count[c],
+        size: at8(count, c),
+    }
+}
+
+// The pool's end, and the last cell with several spans.
+pub struct Turn {
+    pub top: usize,
+    pub last: Spans,
+}
+
+// The spans of cell c are added. An empty cell is passed over at once.
+fn add_cell_at(
+    index: &[u32],
+    count: &[u8],
+    area: &[u8],
+    con: &[u8],
+    ids: &[u16],
+    ws: &mut [u16],
+    plan: Plan,
+    c: usize,
+    t: Turn,
+) -> Turn
+    requires { ⌜ (c < length (now index)) × (c < length (now count)) ⌝ }
+    requires { ⌜ (let cell = spansAt (now index) (now count) c in
+        Entering plan (now area) (now con) (now ids) cell (t .top) (now ws) × Knowing (now ids) (plan .records) (t .last) (now ws)) ⌝ }
+    ensures { λ r. ⌜ (let cell = spansAt (now (index .entry)) (now (count .entry)) c in
+        let ids₀ = now (ids .entry) in
+        Entered plan (now (area .entry)) ids₀ cell (cell .size) (t .top) (now (ws .entry)) (r .top) (now (ws .exit))
+        × Knowing ids₀ (plan .records) (r .last) (now (ws .exit))) ⌝ }
+{
+    let cell = spans_of(index, count, c);
+    if cell.size == 0 {
+        return t;
+    }
+    let last = t.last;
+    let back = look_back(ids, last, cell);
+    let next = back.last;
+    Turn {
+        top: add_spans(area, con, ids, ws, plan, cell, back.known, t.top),
+        last: next,
     }
 }
 
@@ -117,8 +176,11 @@ pub fn build_records(
         table,
     };
     renew(ids, ws, next + 1);
-    let mut top = 0;
+    let mut t = Turn {
+        top: 0,
+        last: Spans { from: 0, size: 0 },
+    };
     for c in 0..w * h {
-        top = add_spans(area, con, ids, ws, plan, spans_of(index, count, c), top);
+        t = add_cell_at(index, count, area, con, ids, ws, plan, c, t);
     }
 }

@@ -4,17 +4,19 @@ use field::place::SpanIx;
 use region::RegionId;
 use table::place;
 ghost use mathlib.Core.Path.{_≡_};
+ghost use mathlib.Core.Bool.{true, false};
 ghost use Prim.Native.Nat.{_+_, _≤_, _<_};
 ghost use lib.ListN.{length, getD, take};
-ghost use Rattle.rules.specs.Base.{_or_};
+ghost use lib.Dec.{ltb};
+ghost use Rattle.rules.specs.Base.{_or_, if_then_else_};
 ghost use Rattle.rules.specs.Records.{once, onceAll};
 ghost use Rattle.rules.specs.Refusals.{mostSpans};
-ghost use Rattle.records.specs.Cell.{twin, twins, othersFrom, joinOne, Found, Joined, JoinedAll, Roomy};
+ghost use Rattle.records.specs.Cell.{twin, twins, othersFrom, joinOne, Lies, Alike, Found, JoinedOne, JoinedAll, Roomy};
 
-// The spans of a cell: size of them, from `from` on.
+// The spans of a cell: size of them, from `from` on. Two numbers of one size: bytes that no field has would be copied with each cell (docs/PERFORMANCE.md).
 pub struct Spans {
     pub from: usize,
-    pub size: u8,
+    pub size: usize,
 }
 
 impl Spans {
@@ -24,6 +26,69 @@ impl Spans {
         ensures { λ r. ⌜ r .0 ≡ self .from + layer .0 ⌝ }
     {
         SpanIx(self.from + layer.0 as usize)
+    }
+}
+
+// Are the lists the same, number by number? They are equally long.
+fn same(l: &[u16], k: &[u16]) -> bool
+    requires { ⌜ length (now k) ≡ length (now l) ⌝ }
+    ensures { λ r. ⌜ (r ≡ true → now (k .entry) ≡ now (l .entry)) × (r ≡ false → now (k .entry) ≡ now (l .entry) → ⊥) ⌝ }
+{
+    let mut i = 0;
+    while i < l.len() {
+        if k[i] != l[i] {
+            return false;
+        }
+        i += 1;
+    }
+    true
+}
+
+// Have the spans of two cells the same ids, layer by layer? A no decides only how fast.
+fn alike(ids: &[u16], last: Spans, cell: Spans) -> bool
+    requires { ⌜ (length (now ids) ≤ mostSpans) × Lies (now ids) last × Lies (now ids) cell × (0 < cell .size) ⌝ }
+    ensures { λ r. ⌜ (r ≡ true → Alike (now (ids .entry)) last cell) ⌝ }
+{
+    if last.size != cell.size {
+        return false;
+    }
+    let n = cell.size;
+    let a = last.from;
+    let b = cell.from;
+    same(&ids[b..b + n], &ids[a..a + n])
+}
+
+// The last cell with several spans, and whether the records of this one's have all that these take from it. Filled up, as `Spans` is without gaps.
+pub struct Looked {
+    pub last: Spans,
+    pub known: bool,
+    pub fill1: u8,
+    pub fill2: u16,
+    pub fill4: u32,
+}
+
+// The records of the last cell's spans have what these take from theirs; so have others with the same ids, layer by layer; and a span alone in its cell
+// takes nothing.
+pub(crate) fn look_back(ids: &[u16], last: Spans, cell: Spans) -> Looked
+    requires { ⌜ (length (now ids) ≤ mostSpans) × Lies (now ids) last × Lies (now ids) cell ⌝ }
+    ensures { λ r. ⌜ (r .last ≡ (if ltb 1 (cell .size) then cell else last)) ⌝ }
+    ensures { λ r. ⌜ (r .known ≡ true → 1 < cell .size → Alike (now (ids .entry)) last cell) ⌝ }
+{
+    if cell.size < 2 {
+        return Looked {
+            last,
+            known: true,
+            fill1: 0,
+            fill2: 0,
+            fill4: 0,
+        };
+    }
+    Looked {
+        last: cell,
+        known: alike(ids, last, cell),
+        fill1: 0,
+        fill2: 0,
+        fill4: 0,
     }
 }
 
@@ -65,7 +130,7 @@ fn find(part: &[u16], n: usize, r: u16, guess: usize) -> usize
 // r joins the list once.
 fn add_unique_floor_region(part: &mut [u16], l: Listed, r: u16) -> Listed
     requires { ⌜ l .len < length (now part) ⌝ }
-    ensures { λ k. ⌜ Joined (once (take (l .len) (now (part .entry))) r) (l .len) (now (part .exit)) (k .len) ⌝ }
+    ensures { λ k. ⌜ JoinedOne (once (take (l .len) (now (part .entry))) r) (l .len) (now (part .exit)) (k .len) ⌝ }
 {
     let len = l.len;
     let p = find(part, len, r, l.next);
@@ -85,7 +150,7 @@ fn join_one(ids: &[u16], part: &mut [u16], span: SpanIx, other: SpanIx, l: Liste
     requires { ⌜ l .len ≤ length (now part) ⌝ }
     requires { ⌜ ((other .0 ≡ span .0 → ⊥) → l .len < length (now part)) ⌝ }
     ensures { λ k. ⌜ (let joined = joinOne (now (ids .entry)) (span .0) (other .0) (take (l .len) (now (part .entry))) in
-        Joined joined (l .len) (now (part .exit)) (k .len)) ⌝ }
+        JoinedOne joined (l .len) (now (part .exit)) (k .len)) ⌝ }
     ensures { λ k. ⌜ (other .0 ≡ span .0 → k .len ≡ l .len) ⌝ }
 {
     let t = other.0;
@@ -121,7 +186,7 @@ pub(crate) fn join(ids: &[u16], part: &mut [u16], span: SpanIx, cell: Spans, len
     let mut l = Listed { len, next: 0 };
     let mut twin = false;
     for j in 0..cell.size {
-        let other = cell.at(Layer(j));
+        let other = cell.at(Layer(j as u8));
         twin = met(ids, other, span, own, twin);
         l = join_one(ids, part, span, other, l);
     }

@@ -1,10 +1,10 @@
 // New records.
-use crate::map::FLOOR_ROOM;
-use crate::map::FLOORS;
 use crate::map::HALVES;
-use crate::map::LISTS;
-use crate::map::POOL;
 use table::at;
+use table::map::FLOOR_ROOM;
+use table::map::FLOORS;
+use table::map::LISTS;
+use table::map::POOL;
 use table::set_part;
 ghost use mathlib.Core.Path.{_≡_};
 ghost use Prim.Native.Nat.{_+_, _*_, _≤_, _<_};
@@ -12,14 +12,14 @@ ghost use lib.ListN.{length, getD};
 ghost use lib.Dec.{eqb};
 ghost use Rattle.rules.specs.Base.{many};
 ghost use Rattle.rules.specs.Refusals.{mostSpans};
-ghost use Rattle.records.specs.Map.{recordsEnd, border};
+ghost use Rattle.table.specs.Map.{border, areasAt, recordsEnd};
 ghost use Rattle.records.specs.Rows.{slot};
 ghost use Rattle.records.specs.Fresh.{tallyOne, Tallied, Renewed};
 ghost use Rattle.records.specs.Stock.{Blank};
 
 // One more span of id r, if that is below m.
 fn tally_one(ws: &mut [u16], m: usize, r: usize)
-    requires { ⌜ (2 * m ≤ length (now ws)) × (m ≤ border) × (r < m → getD (now ws) (m + r) 0 < 65535) ⌝ }
+    requires { ⌜ (areasAt m ≤ length (now ws)) × (m ≤ border) × (r < m → getD (now ws) (m + r) 0 < 65535) ⌝ }
     ensures { λ _. ⌜ now (ws .exit) ≡ tallyOne m r (now (ws .entry)) ⌝ }
 {
     if m <= r {

@@ -1,10 +1,6 @@
 // A span is added to its record, part by part.
 use crate::cell::Spans;
 use crate::cell::join;
-use crate::map::FLOOR_ROOM;
-use crate::map::FLOORS;
-use crate::map::LISTS;
-use crate::map::POOL;
 use contour::edge::Edge;
 use contour::edge::first_solid;
 use contour::walk::Contour;
@@ -13,9 +9,15 @@ use contour::walk::walk_contour;
 use field::place::SpanIx;
 use field::place::connections;
 use field::read::at8;
-use table::MARKS;
 use table::at;
 use table::end_of;
+use table::map::AREAS;
+use table::map::CUTS;
+use table::map::FLOOR_ROOM;
+use table::map::FLOORS;
+use table::map::LISTS;
+use table::map::OVERLAPS;
+use table::map::POOL;
 use table::set_part;
 use table::start_of;
 ghost use mathlib.Core.Path.{_≡_};
@@ -23,21 +25,23 @@ ghost use mathlib.Core.Bool.{true};
 ghost use Prim.Native.Nat.{_+_, _*_, _≤_, _<_};
 ghost use lib.ListN.{length, getD};
 ghost use Rattle.rules.specs.Growth.{plain};
+ghost use Rattle.rules.specs.Records.{at};
 ghost use Rattle.net.specs.Table.{netAt};
 ghost use Rattle.contour.specs.Pool.{Start};
-ghost use Rattle.table.specs.View.{startOf, endOf};
-ghost use Rattle.records.specs.Map.{poolIn, listsAt};
+ghost use Rattle.table.specs.Map.{spareAt, poolAt};
+ghost use Rattle.table.specs.View.{listStart, listEnd, recsOf};
+ghost use Rattle.records.specs.Map.{poolIn};
 ghost use Rattle.records.specs.Cell.{twins, othersFrom, Within};
-ghost use Rattle.records.specs.Rows.{Keeping, Step, Slack, Traced, traced, tracedCut, marked, cutMarked, floored, withContour, contoured, celled};
+ghost use Rattle.records.specs.Rows.{Keeping, Took, Step, Slack, Traced, traced, tracedCut, marked, cutMarked, floored, withContour, contoured, celled};
 ghost use Rattle.records.specs.Stock.{Reach};
 
 // Overlap is set where another span of a cell has the id r too.
 fn add_overlap(ws: &mut [u16], m: usize, r: usize, twin: bool)
-    requires { ⌜ (r < m) × (5 * m ≤ length (now ws)) ⌝ }
+    requires { ⌜ (r < m) × (spareAt m ≤ length (now ws)) ⌝ }
     ensures { λ _. ⌜ now (ws .exit) ≡ marked m r twin (now (ws .entry)) ⌝ }
 {
     if twin {
-        ws[3 * m + r] = 1;
+        ws[OVERLAPS * m + r] = 1;
     }
 }
 
@@ -96,11 +100,11 @@ pub struct Plan {
 
 // The mark of record r is set where its contour was cut short.
 fn add_cut(ws: &mut [u16], m: usize, r: usize, cut: bool)
-    requires { ⌜ (r < m) × (16 * m ≤ length (now ws)) ⌝ }
+    requires { ⌜ (r < m) × (poolAt m ≤ length (now ws)) ⌝ }
     ensures { λ _. ⌜ now (ws .exit) ≡ cutMarked m r cut (now (ws .entry)) ⌝ }
 {
     if cut {
-        ws[MARKS * m + r] = 1;
+        ws[CUTS * m + r] = 1;
     }
 }
 
@@ -117,7 +121,7 @@ fn add_list(
     requires { ⌜ Start (poolIn plan) (now con) (now ids) (span .0) top (now ws) ⌝ }
     requires { ⌜ Keeping (now ids) (plan .records) top (span .0 + 1) (now ws) × (r ≡ getD (now ids) (span .0) 0) × (r < plan .records) ⌝ }
     requires { ⌜ (let m = plan .records in
-        endOf (now ws) m (listsAt m) r ≤ startOf (now ws) m (listsAt m) r) ⌝ }
+        listEnd (now ws) m r ≤ listStart (now ws) m r) ⌝ }
     ensures { λ t. ⌜ (let net = netAt (plan .table) (now (ids .entry)) (now (ws .entry)) in
         let f = withContour (traced net (now (ids .entry)) (span .0)) (tracedCut net (now (ids .entry)) (span .0)) in
         Step f (now (ids .entry)) (plan .records) r t (span .0 + 1) (now (ws .entry)) (now (ws .exit))) ⌝ }
@@ -158,12 +162,12 @@ pub(crate) fn add_contour(
         return top;
     }
     let a = at8(area, span.0);
-    ws[2 * m + r] = a as u16;
+    ws[AREAS * m + r] = a as u16;
     add_list(con, ids, ws, plan, span, r, top)
 }
 
-// The span, of id r, adds one to its record; of its cell it takes floors and overlap, and there are none where it is the only one.
-// What the pool has, up to top, only the contract reads.
+// The span, of id r, adds one to its record; of its cell it takes floors and overlap, unless the record is known to have them. What the pool has, up to
+// top, only the contract reads.
 pub(crate) fn add_cell(
     ids: &[u16],
     ws: &mut [u16],
@@ -172,14 +176,16 @@ pub(crate) fn add_cell(
     span: SpanIx,
     r: usize,
     cell: Spans,
+    known: bool,
 )
     requires { ⌜ Keeping (now ids) m top (span .0) (now ws) × Within (now ids) (span .0) cell ⌝ }
     requires { ⌜ (r ≡ getD (now ids) (span .0) 0) × (plain (getD (now ids) (span .0) 0) ≡ true) ⌝ }
+    requires { ⌜ (known ≡ true → Took (now ids) (span .0) (cell .size) (cell .from) (at (recsOf (now ws) m) r)) ⌝ }
     ensures { λ _. ⌜ (let f = celled (now (ids .entry)) (span .0) (cell .size) (cell .from) in
         Step f (now (ids .entry)) m r top (span .0 + 1) (now (ws .entry)) (now (ws .exit))) ⌝ }
 {
     ws[m + r] += 1;
-    if cell.size == 1 {
+    if known {
         return;
     }
     let twin = add_floors(ids, ws, m, top, span, r, cell);

@@ -14,7 +14,8 @@ use Rattle.rules.specs.Records.{Rec, at, fresh}
 use Rattle.laws.proofs.Basics.{tab-at, length-tab}
 use Rattle.space.specs.Space.{Frame}
 use Rattle.space.proofs.Laws.{getD-after, length-sec, getD-sec, sec-same, sec-before, sec-after}
-use Rattle.table.specs.View.{part, wide, startOf, endOf, listAt, marksAt, recAt, view, Parts, Held, recsOf}
+use Rattle.table.specs.Map.{cutsAt}
+use Rattle.table.specs.View.{part, wide, startOf, endOf, listAt, recAt, view, Parts, Held, recsOf}
 
 pub wide-is : (ws : List ℕ) (m a x y : ℕ) → x ≡ getD ws a 0 → y ≡ getD ws (a + m) 0 → x + 65536 * y ≡ wide ws m a
 unfolding wide
@@ -141,7 +142,7 @@ rec-eq i i′ c c′ a a′ v v′ o o′ l l′ f f′ u u′ p₁ p₂ p₃ p�
 
 pub rec-same : (ws ws′ : List ℕ) (m s t r : ℕ) → getD ws′ r 0 ≡ getD ws r 0 → getD ws′ (m + r) 0 ≡ getD ws (m + r) 0 → getD ws′ (2 * m + r) 0 ≡ getD ws (2 * m + r) 0
     → getD ws′ (3 * m + r) 0 ≡ getD ws (3 * m + r) 0 → getD ws′ (4 * m + r) 0 ≡ getD ws (4 * m + r) 0
-    → listAt ws′ m s r ≡ listAt ws m s r → listAt ws′ m t r ≡ listAt ws m t r → getD ws′ (marksAt m + r) 0 ≡ getD ws (marksAt m + r) 0
+    → listAt ws′ m s r ≡ listAt ws m s r → listAt ws′ m t r ≡ listAt ws m t r → getD ws′ (cutsAt m + r) 0 ≡ getD ws (cutsAt m + r) 0
     → recAt ws′ m s t r ≡ recAt ws m s t r
 unfolding recAt
 rec-same ws ws′ m s t r p₁ p₂ p₃ p₄ p₅ p₆ p₇ p₈ = rw (p₁, p₂, p₃, p₄, p₅, p₆, p₇, p₈)
@@ -184,4 +185,4 @@ module _ {a e : ℕ} {ws ws′ : List ℕ} (m s t : ℕ) (H : Held m s t ws) (f 
       → getD ws′ (3 * m + r) 0 ≡ getD ws (3 * m + r) 0 → getD ws′ (4 * m + r) 0 ≡ getD ws (4 * m + r) 0 → recAt ws′ m s t r ≡ recAt ws m s t r
   rec-past r g p₁ p₂ p₃ p₄ p₅ =
       rec-same ws ws′ m s t r p₁ p₂ p₃ p₄ p₅ (list-past m s (H .lists) f h l r g) (list-past m t (H .floors) f h l r g)
-      (getD-after (marksAt m + r) f (omega arith))
+      (getD-after (cutsAt m + r) f (omega arith))

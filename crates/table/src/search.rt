@@ -29,8 +29,7 @@ pub fn holds(l: &[u16], r: u16) -> bool
 
 // How many entries can be passed over, sixteen at a time, before the first r.
 fn pass_over(l: &[u16], r: u16) -> usize
-    ensures { λ k. ⌜ place (now (l .entry)) r ≡ k + place (drop k (now (l .entry))) r ⌝ }
-    ensures { λ k. ⌜ k ≤ length (now (l .entry)) ⌝ }
+    ensures { λ k. ⌜ (place (now (l .entry)) r ≡ k + place (drop k (now (l .entry))) r) × (k ≤ length (now (l .entry))) ⌝ }
 {
     let mut i = 0;
     while 16 <= l.len() - i {
@@ -44,8 +43,7 @@ fn pass_over(l: &[u16], r: u16) -> usize
 
 // The place of the first entry r, or how many there are, entry by entry.
 fn scan(l: &[u16], r: u16) -> usize
-    ensures { λ p. ⌜ p ≡ place (now (l .entry)) r ⌝ }
-    ensures { λ p. ⌜ p ≤ length (now (l .entry)) ⌝ }
+    ensures { λ p. ⌜ (p ≡ place (now (l .entry)) r) × (p ≤ length (now (l .entry))) ⌝ }
 {
     let mut i = 0;
     while i < l.len() {
@@ -59,8 +57,7 @@ fn scan(l: &[u16], r: u16) -> usize
 
 // The place of the first entry r, or how many there are.
 pub fn place(l: &[u16], r: u16) -> usize
-    ensures { λ p. ⌜ p ≡ place (now (l .entry)) r ⌝ }
-    ensures { λ p. ⌜ p ≤ length (now (l .entry)) ⌝ }
+    ensures { λ p. ⌜ (p ≡ place (now (l .entry)) r) × (p ≤ length (now (l .entry))) ⌝ }
 {
     let k = pass_over(l, r);
     k + scan(&l[k..l.len()], r)

@@ -16,24 +16,23 @@ use Rattle.rules.specs.Reasons.{Story, story, Merging, goneWith, mergings, trai
 use Rattle.laws.proofs.Lengths.{records-length, filtered-length}
 use Rattle.rooms.specs.Dense.{lower, lowered, shifted}
 use Rattle.rooms.proofs.Dense.{lower-at, formed-is}
-use Rattle.rooms.proofs.Rooms.{accepted, entry-rooms}
+use Rattle.rooms.proofs.Rooms.{entry-rooms}
 use Rattle.rooms.proofs.Entry.{first-some}
 use Rattle.reasons.proofs.Groups.{gone-fits}
-use Rattle.reasons.proofs.Small.{story-fits}
 use Rattle.reasons.proofs.Room.{trail-room}
 use Rattle.field.specs.Lent.{lent}
 use Rattle.space.specs.Space.{Clear}
 use Rattle.space.proofs.Laws.{sec-take}
 use Rattle.net.specs.Table.{netAt}
 use Rattle.growth.specs.Grow.{growthRoom}
-use Rattle.records.specs.Map.{recordsEnd, floorsFrom}
+use Rattle.table.specs.Map.{recordsEnd, floorsFrom}
 use Rattle.records.specs.Stock.{Given, Blank, Built}
 use Rattle.merge.specs.Ready.{Ready}
 use Rattle.merge.specs.Told.{mergingsAt, ToldRegions}
 use Rattle.merge.proofs.ToldLaws.{part-length}
 use Rattle.trail.specs.Noted.{mergingsFrom}
 use Rattle.watershed.specs.Stages.{Admitted, Raised, Readied, tableAt}
-use Rattle.watershed.specs.Explain.{Fits, Grown}
+use Rattle.watershed.specs.Explain.{Grown}
 use Rattle.watershed.proofs.Handover.{handed}
 use Rattle.watershed.proofs.RegionOutcome.{admitted-by}
 use Rattle.watershed.proofs.StageLaws.{areas-are-bytes, few, can-ready, given, fits, blank, size, next-few, named}
@@ -203,6 +202,3 @@ module _ (w h : ℕ) (is ks ar cs dist : List ℕ) (most border table s next : �
 
         pub noted-room : end + 2 * merges ≤ length ws₁
         noted-room = omega (arith, T .few, past-room)
-
-  pub story-small : Fits y
-  story-small = let f = story-fits F (length dist ∷ length ids ∷ []) (accepted F _ (length ws) dist most (G .passes)) dist most border s in rw (G .told) (record { from = f .0; objecting = f .1 })

@@ -30,7 +30,7 @@ use Rattle.space.proofs.Laws.{sec-same, getD-before, getD-after}
 use Rattle.growth.specs.Grow.{growthRoom, Poised, Full}
 use Rattle.net.proofs.Tables.{net-same}
 use Rattle.table.specs.View.{recsOf}
-use Rattle.records.specs.Map.{recordsEnd, floorsFrom}
+use Rattle.table.specs.Map.{recordsEnd, floorsFrom}
 use Rattle.records.specs.Stock.{Given, Blank, Built}
 use Rattle.numbering.specs.Number.{Spans}
 use Rattle.merge.specs.Ready.{Ready}

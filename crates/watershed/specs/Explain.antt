@@ -1,5 +1,5 @@
 -- What `explain_span` gives, as the rules have it, and what its stages hand on.
-use Prim.Native.Nat.{ℕ, _≤_, _<_}
+use Prim.Native.Nat.{ℕ, _<_}
 use mathlib.Core.Path.{_≡_}
 use mathlib.Core.List.{List, [], _∷_}
 use lib.ListN.{length, getD, replicate}
@@ -73,11 +73,6 @@ withRoom reason from id long number y l = record {
 
 unfoldable pub roomReason : ℕ → ℕ → List ℕ → ℕ → Reason
 roomReason r a t k = if eqb a none then flooded r t k else expanded r a t k
-
--- the story's spans are numbers of 16 bits
-pub record Fits (y : Story) : Type 0 where
-  pub from : y .from ≤ none
-  pub objecting : y .objecting ≤ none
 
 -- growth is done, and nothing stopped it: the rule's ids and next id, zeros where it worked, the field's net in the table, and span s's story
 pub record Grown (F : Field) (dist : List ℕ) (most border table s next : ℕ) (y : Story) (ids ws : List ℕ) : Type 0 where

@@ -14,7 +14,7 @@ use Rattle.space.specs.Space.{Clear}
 use Rattle.net.specs.Table.{netAt}
 use Rattle.field.specs.Lent.{Sound}
 use Rattle.growth.specs.Grow.{growthRoom}
-use Rattle.records.specs.Map.{recordsEnd, floorsFrom}
+use Rattle.table.specs.Map.{recordsEnd, floorsFrom}
 
 pub record Admitted (F : Field) (dist ws ids : List ℕ) : Type 0 where
   pub sound : Sound F

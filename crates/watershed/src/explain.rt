@@ -8,7 +8,7 @@ use crate::regions::grow_regions;
 use crate::regions::ready_records;
 use checker::Verdict;
 use checker::refusal_number;
-use field::place::NO_SPAN;
+use flood::story::NOBODY;
 use flood::story::Story;
 use growth::turns::GOES_ON;
 use merge::merge_and_filter_told;
@@ -21,16 +21,16 @@ use wipe::wipe;
 ghost use mathlib.Core.Path.{_≡_};
 ghost use mathlib.Core.List.{List, [], _∷_, _++_};
 ghost use Prim.Native.Nat.{ℕ, _+_, _-_, _*_, _≤_, _<_};
-ghost use lib.ListN.{length, getD, take, replicate};
+ghost use lib.ListN.{length, take, replicate};
 ghost use Rattle.rules.specs.Refusals.{regionRefusal};
 ghost use Rattle.rules.specs.Outcomes.{Sizes};
 ghost use Rattle.rules.specs.Reasons.{trail, reasonOf, explainRefusal, unexplained, explains, explainOutcome};
 ghost use Rattle.field.specs.Lent.{lent};
 ghost use Rattle.flood.specs.Stories.{storyOf};
-ghost use Rattle.records.specs.Map.{recordsEnd};
+ghost use Rattle.table.specs.Map.{recordsEnd};
 ghost use Rattle.records.specs.Stock.{Given, Blank, Built};
 ghost use Rattle.trail.specs.Noted.{mergingsFrom};
-ghost use Rattle.watershed.specs.Explain.{explained, withoutRoom, withRoom, roomReason, Fits, Grown, Living, Explains};
+ghost use Rattle.watershed.specs.Explain.{explained, withoutRoom, withRoom, roomReason, Grown, Living, Explains};
 
 // What is told of a span: 0 or the refusal number, and the reason. Numbers that a reason does not have are 0.
 pub struct Explanation {
@@ -112,7 +112,6 @@ fn refused(refusal: u16) -> Explanation
 
 // One of reasons 1 to 4.
 fn without_room(reason: u16, strip: u16, group: u16, least: u16, story: Story) -> Explanation
-    requires { ⌜ Fits (storyOf story) ⌝ }
     ensures { λ r. ⌜ ((l : List ℕ) → explained r [] l ≡ withoutRoom reason strip group least (storyOf story) l) ⌝ }
 {
     Explanation {
@@ -126,13 +125,13 @@ fn without_room(reason: u16, strip: u16, group: u16, least: u16, story: Story) -
         trail_length: 0,
         number: 0,
         gave_back_id: story.gave,
-        objecting_span: story.objecting as u16,
+        objecting_span: story.objecting,
     }
 }
 
 // Reason 5 or 6. The trail is so long.
 fn with_room(reason: u16, from: u16, id: u16, long: usize, number: u16, story: Story) -> Explanation
-    requires { ⌜ Fits (storyOf story) × (long < 65536) ⌝ }
+    requires { ⌜ long < 65536 ⌝ }
     ensures { λ r. ⌜ ((l : List ℕ) → explained r [] l ≡ withRoom reason from id long number (storyOf story) l) ⌝ }
 {
     Explanation {
@@ -146,21 +145,20 @@ fn with_room(reason: u16, from: u16, id: u16, long: usize, number: u16, story: S
         trail_length: long as u16,
         number,
         gave_back_id: story.gave,
-        objecting_span: story.objecting as u16,
+        objecting_span: story.objecting,
     }
 }
 
 // A span in a room: flooded, or expanded if it took another's id.
 fn in_room(id: u16, long: usize, number: u16, story: Story) -> Explanation
-    requires { ⌜ Fits (storyOf story) × (long < 65536) ⌝ }
+    requires { ⌜ long < 65536 ⌝ }
     ensures { λ r. ⌜ ((n : ℕ) (t : List ℕ) → long ≡ length t → explained r [] (t ++ replicate (n - length t) 0)
         ≡ explains n (roomReason id (story .from) t number) (storyOf story) 0) ⌝ }
 {
-    if story.from == NO_SPAN {
+    if story.from == NOBODY {
         return with_room(FLOODED, 0, id, long, number, story);
     }
-    let from = story.from;
-    with_room(EXPANDED, from as u16, id, long, number, story)
+    with_room(EXPANDED, story.from, id, long, number, story)
 }
 
 // The records, in the workspace before `end`.
@@ -360,7 +358,7 @@ fn explain_found(
         ws,
         trail,
         table,
-        span,
+        span as u16,
     );
     if g.stop != GOES_ON {
         wipe(ws);

@@ -4,7 +4,7 @@ use crate::form::give_form;
 use checker::Refusal;
 use checker::Verdict;
 use checker::check;
-use field::place::NO_SPAN;
+use flood::story::NOBODY;
 use growth::grow::GROWTH_ROOM;
 use growth::grow::grow;
 use growth::turns::GOES_ON;
@@ -26,7 +26,6 @@ ghost use mathlib.Core.Logic.{_⊎_};
 ghost use mathlib.Core.List.{[], _∷_};
 ghost use Prim.Native.Nat.{_+_, _≤_};
 ghost use lib.ListN.{length, replicate};
-ghost use lib.Dec.{ltb};
 ghost use Rattle.rules.specs.Base.{any};
 ghost use Rattle.rules.specs.Field.{Bytes};
 ghost use Rattle.rules.specs.Refusals.{mostSpans, tooFar, regionRefusal};
@@ -38,7 +37,7 @@ ghost use Rattle.space.specs.Space.{sec, Clear};
 ghost use Rattle.field.specs.Lent.{lent};
 ghost use Rattle.flood.specs.Stories.{storyOf};
 ghost use Rattle.growth.specs.Grow.{growthRoom};
-ghost use Rattle.records.specs.Map.{floorsFrom};
+ghost use Rattle.table.specs.Map.{floorsFrom};
 ghost use Rattle.checker.specs.Answer.{numberOf, verdictNumber};
 ghost use Rattle.watershed.specs.Answer.{AnswersRegions, GivesRooms};
 ghost use Rattle.watershed.specs.Form.{formOf};
@@ -112,7 +111,7 @@ fn put_back(ws: &[u16], kept: usize, ids: &mut [u16])
 }
 
 // Growth from the ids of a field that is not refused. They stand past the table of neighbours until it is done, and are put back where it is stopped.
-// With the story of the watched span, if there is one (NO_SPAN where not).
+// With the story of the watched span, if there is one (NOBODY where not).
 pub(crate) fn grow_regions(
     w: usize,
     h: usize,
@@ -126,7 +125,7 @@ pub(crate) fn grow_regions(
     ws: &mut [u16],
     ids: &mut [u16],
     table: usize,
-    watched: usize,
+    watched: u16,
 ) -> Growth
     requires { ⌜ Admitted (lent w h (now index) (now count) (now area) (now con)) (now dist) (now ws) (now ids)
         × (table ≡ tableAt (length (now area))) ⌝ }
@@ -232,7 +231,7 @@ fn find_regions(
         ws,
         ids,
         table,
-        NO_SPAN,
+        NOBODY,
     );
     if g.stop != GOES_ON {
         wipe(ws);

@@ -27,7 +27,7 @@ slice-read-new-id : tie.Need-slice-read-new-id Inv-loop μ-loop
 slice-read-new-id c = search needs
 
 new-id-requires : tie.Need-new-id-requires Inv-loop μ-loop
-new-id-requires c κs = (search needs, (search needs, search (needs, span-below)))
+new-id-requires c κs = (search needs, search needs, search (needs, span-below))
 
 mul-ids : tie.Need-mul-ids Inv-loop μ-loop
 mul-ids c = search needs

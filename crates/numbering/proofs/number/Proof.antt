@@ -5,20 +5,20 @@ use borrow.Author.Needs.{needs}
 use Rattle.numbering.proofs.number.Statement.{statement}
 use Rattle.numbering.proofs.number.Tie as tie
 
-mul-a : tie.Need-mul-a
-mul-a c = search needs
+mul-flags : tie.Need-mul-flags
+mul-flags c = search needs
 
-mul-b : tie.Need-mul-b
-mul-b c = search needs
+mul-numbers : tie.Need-mul-numbers
+mul-numbers c = search needs
 
-mul-c : tie.Need-mul-c
-mul-c c = search needs
+mul-cuts : tie.Need-mul-cuts
+mul-cuts c = search needs
 
 number-all-requires : tie.Need-number-all-requires
 number-all-requires c κs = search needs
 
 new-ids-requires : tie.Need-new-ids-requires
-new-ids-requires c κs = (search column-kept, (search marked-after, search needs))
+new-ids-requires c κs = (search column-kept, search marked-after, search needs)
 
 add-nonzero : tie.Need-add-nonzero
 add-nonzero c = search needs
@@ -69,9 +69,9 @@ pub number-spec : {M : Type 1} → statement M
 number-spec =
     tie.close
     (tie.spec
-    mul-a
-    mul-b
-    mul-c
+    mul-flags
+    mul-numbers
+    mul-cuts
     number-all-requires
     new-ids-requires
     add-nonzero

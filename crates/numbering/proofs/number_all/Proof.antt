@@ -21,7 +21,7 @@ loop-holds : tie.Need-loop-holds Inv-loop μ-loop
 loop-holds c = (search needs, search needs, refl, search (needs, frame-none), search (needs, numbers-start))
 
 number-one-requires : tie.Need-number-one-requires Inv-loop μ-loop
-number-one-requires c κs = (search (needs, column-kept), (search needs, search needs))
+number-one-requires c κs = (search (needs, column-kept), search needs, search needs)
 
 add-i : tie.Need-add-i Inv-loop μ-loop
 add-i c = search needs

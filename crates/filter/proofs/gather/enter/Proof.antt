@@ -32,7 +32,7 @@ same-length : tie.Need-same-length
 same-length c = search needs
 
 returns : tie.Need-returns
-returns c = (search enter-waiting, (search enter-found, (search enter-group, search enter-frame)))
+returns c = ((search enter-waiting, search enter-found), (search enter-group, search enter-frame))
 
 pub enter-spec : {M : Type 1} → statement M
 enter-spec =

@@ -25,7 +25,7 @@ loop-holds : tie.Need-loop-holds Inv-loop μ-loop
 loop-holds c = (search needs, search needs, search needs, search turn-start, search frame-none)
 
 pop-requires : tie.Need-pop-requires Inv-loop μ-loop
-pop-requires c κs = (search needs, (search needs, (search needs, search turn-room)))
+pop-requires c κs = ((search needs, search needs), (search needs, search turn-room))
 
 sub-reach : tie.Need-sub-reach Inv-loop μ-loop
 sub-reach c = search needs
@@ -46,7 +46,7 @@ same-length : tie.Need-same-length Inv-loop μ-loop
 same-length c = search needs
 
 returns : tie.Need-returns Inv-loop μ-loop
-returns c = (search turn-done, (search turn-most, (search none-waits, (search needs, search needs))))
+returns c = (search turn-done, ((search turn-most, search none-waits, search needs), search needs))
 
 pub gather-spec : {M : Type 1} → statement M
 gather-spec =

@@ -55,7 +55,7 @@ same-length : tie.Need-same-length
 same-length c = search needs
 
 returns : tie.Need-returns
-returns c = (search pop-is, (search pop-below, (search pop-waiting, (search pop-more, search pop-frame))))
+returns c = ((search pop-is, search pop-below), ((search pop-waiting, search pop-more), search pop-frame))
 
 pub pop-spec : {M : Type 1} → statement M
 pop-spec =

@@ -58,14 +58,14 @@ loop-again c = (
   search needs,
   search frame-then,
   (let v = c .before .before .before .before .before .before .loop .inv in
-      reach-go _ _ _ _ _ _ _ (v .4) (v .2) (c .before .before .before .before .before .loop-test .taken) (c .before .before .before .before .before .before .before .before .before .end-of .ensures .0) (v .0) (c .before .before .before .before .before .before .before .before .before .before .before .before .pre .1) (c .before .before .before .before .before .before .before .before .before .before .before .before .pre .0) _ _ _ (v .5) (c .before .before .reach-one .ensures .1 .0) (c .before .before .reach-one .ensures .1 .1)),
+      reach-go _ _ _ _ _ _ _ (v .4) (v .2) (c .before .before .before .before .before .loop-test .taken) (c .before .before .before .before .before .before .before .before .before .end-of .ensures .0) (v .0) (c .before .before .before .before .before .before .before .before .before .before .before .before .pre .1) (c .before .before .before .before .before .before .before .before .before .before .before .before .pre .0) _ _ _ (v .5) (c .before .before .reach-one .ensures .0) (c .before .before .reach-one .ensures .1 .1)),
 )
 
 same-length : tie.Need-same-length Inv-loop μ-loop
 same-length c = search needs
 
 returns : tie.Need-returns Inv-loop μ-loop
-returns c = (search needs, (search reach-done, search needs))
+returns c = (search reach-done, (search needs, search needs))
 
 pub reach-spec : {M : Type 1} → statement M
 reach-spec =

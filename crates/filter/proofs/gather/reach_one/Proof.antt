@@ -7,7 +7,7 @@ use Rattle.filter.proofs.gather.reach_one.Statement.{statement}
 use Rattle.filter.proofs.gather.reach_one.Tie as tie
 
 returns : tie.Need-returns
-returns c = (search needs, (search one-flagged, search frame-none))
+returns c = (search one-flagged, (search needs, search frame-none))
 
 mul-if2 : tie.Need-mul-if2
 mul-if2 c = search needs
@@ -22,7 +22,7 @@ slice-read-if2 : tie.Need-slice-read-if2
 slice-read-if2 c = search (needs, visit-in)
 
 returns-2 : tie.Need-returns-2
-returns-2 c = (search needs, (search one-visited, search frame-none))
+returns-2 c = (search one-visited, (search needs, search frame-none))
 
 mul-if3 : tie.Need-mul-if3
 mul-if3 c = search needs
@@ -31,7 +31,7 @@ slice-read-if3 : tie.Need-slice-read-if3
 slice-read-if3 c = search live-in
 
 returns-3 : tie.Need-returns-3
-returns-3 c = (search needs, (search one-dead, search frame-none))
+returns-3 c = (search one-dead, (search needs, search frame-none))
 
 mul-ws : tie.Need-mul-ws
 mul-ws c = search needs
@@ -70,7 +70,7 @@ same-length : tie.Need-same-length
 same-length c = search needs
 
 returns-4 : tie.Need-returns-4
-returns-4 c = (search push-waiting, (search push-group, search push-frame))
+returns-4 c = (search push-group, (search push-waiting, search push-frame))
 
 pub reach-one-spec : {M : Type 1} → statement M
 reach-one-spec =

@@ -60,14 +60,14 @@ loop-again c =
       search needs,
       search frame-then,
       search filter-go,
-      gone-go _ _ _ _ _ _ _ _ _ _ (s .pre .1) (v .4) (f .filter-one .ensures .0) (v .5) (f .filter-one .ensures .1 .1 .1) (c .gone .ensures),
+      gone-go _ _ _ _ _ _ _ _ _ _ (s .pre .1) (v .4) (f .filter-one .ensures .0) (v .5) (f .filter-one .ensures .1 .1) (c .gone .ensures),
     )
 
 same-length : tie.Need-same-length Inv-loop μ-loop
 same-length c = search needs
 
 returns : tie.Need-returns Inv-loop μ-loop
-returns c = (search filter-done, (search needs, (search needs, search gone-done)))
+returns c = (search filter-done, ((search needs, search needs), search gone-done))
 
 pub filter-told-spec : {M : Type 1} → statement M
 filter-told-spec =

@@ -37,7 +37,7 @@ forget-requires : tie.Need-forget-requires
 forget-requires c κs =
     let r = c .before .before .before in
     let g = G (T r) .gather in
-    (search needs, (found-after _ _ _ _ (g .ensures .1 .1 .1 .0) (r .remove-small .ensures .1 .1), (search needs, blank-after _ _ _ (r .remove-small .ensures .1 .1) (g .ensures .1 .1 .0))))
+    ((search needs, found-after _ _ _ _ (g .ensures .1 .0 .2) (r .remove-small .ensures .1 .1), search needs), blank-after _ _ _ (r .remove-small .ensures .1 .1) (g .ensures .1 .0 .1))
 
 same-length : tie.Need-same-length
 same-length c = search needs
@@ -54,14 +54,8 @@ returns c =
     let g = x .gather in
     let r = y .remove-small in
     let f = z .forget in (
-      group-done _ _ _ _ _ _ _ _ _ (s .pre .0) (e .kept .0) (g .kept .0) (e .ensures .1 .1 .1) (g .ensures .1 .1 .1 .1) (e .ensures .1 .1 .0) (g .ensures .0) (r .ensures .0) (f .ensures .0),
-      (
-        search needs,
-        (
-          turn-frame _ _ _ _ _ _ (s .pre .0) (f .ensures .1 .0) (e .kept .0) (g .kept .0) (r .kept .0) (f .kept .0) (e .ensures .1 .1 .1) (g .ensures .1 .1 .1 .1) (r .ensures .1 .1) (f .ensures .1 .1),
-          group-count _ _ _ _ _ _ _ _ _ (s .pre .0) (e .kept .0) (g .kept .0) (e .ensures .1 .1 .1) (g .ensures .1 .1 .1 .1) (e .ensures .1 .1 .0) (g .ensures .0) (r .ensures .0) (f .ensures .0) _ (t .total .ensures),
-        ),
-      ),
+      group-done _ _ _ _ _ _ _ _ _ (s .pre .0) (e .kept .0) (g .kept .0) (e .ensures .1 .1) (g .ensures .1 .1) (e .ensures .1 .0) (g .ensures .0) (r .ensures .0) (f .ensures .0),
+      ((search needs, turn-frame _ _ _ _ _ _ (s .pre .0) (f .ensures .1 .0) (e .kept .0) (g .kept .0) (r .kept .0) (f .kept .0) (e .ensures .1 .1) (g .ensures .1 .1) (r .ensures .1 .1) (f .ensures .1 .1)), group-count _ _ _ _ _ _ _ _ _ (s .pre .0) (e .kept .0) (g .kept .0) (e .ensures .1 .1) (g .ensures .1 .1) (e .ensures .1 .0) (g .ensures .0) (r .ensures .0) (f .ensures .0) _ (t .total .ensures)),
     )
 
 pub filter-group-spec : {M : Type 1} → statement M

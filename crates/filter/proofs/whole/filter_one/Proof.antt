@@ -12,7 +12,7 @@ slice-read-if1 : tie.Need-slice-read-if1
 slice-read-if1 c = search needs
 
 returns : tie.Need-returns
-returns c = (search one-dead, (search needs, (search frame-none, search count-dead)))
+returns c = (search one-dead, ((search needs, search frame-none), search count-dead))
 
 add-if2 : tie.Need-add-if2
 add-if2 c = search needs
@@ -24,7 +24,7 @@ slice-read-if2 : tie.Need-slice-read-if2
 slice-read-if2 c = search needs
 
 returns-2 : tie.Need-returns-2
-returns-2 c = (search one-empty, (search needs, (search frame-none, search count-empty)))
+returns-2 c = (search one-empty, ((search needs, search frame-none), search count-empty))
 
 mul-if3 : tie.Need-mul-if3
 mul-if3 c = search needs
@@ -39,7 +39,7 @@ slice-read-if3 : tie.Need-slice-read-if3
 slice-read-if3 c = search needs
 
 returns-3 : tie.Need-returns-3
-returns-3 c = (search one-visited, (search needs, (search frame-none, search count-visited)))
+returns-3 c = (search one-visited, ((search needs, search frame-none), search count-visited))
 
 filter-group-requires : tie.Need-filter-group-requires
 filter-group-requires c κs = search needs
@@ -48,7 +48,7 @@ same-length : tie.Need-same-length
 same-length c = search needs
 
 returns-4 : tie.Need-returns-4
-returns-4 c = (search one-group, (search needs, (search needs, search count-group)))
+returns-4 c = (search one-group, ((search needs, search needs), search count-group))
 
 pub filter-one-spec : {M : Type 1} → statement M
 filter-one-spec =

@@ -51,13 +51,10 @@ abbrev S : tie.After-below Inv-loop μ-loop → tie.Start Inv-loop μ-loop
 S c = c .before .before .before .before .before .before .before
 
 -- the call, from the end of the body, and the head of the loop
-abbrev C : tie.After-slice-known4 Inv-loop μ-loop → tie.After-visit Inv-loop μ-loop
-C c = c .before .before .before .before
+abbrev C : tie.After-told Inv-loop μ-loop → tie.After-visit Inv-loop μ-loop
+C c = c .before .before .before .before .before .before
 
-abbrev W : tie.After-visit-arg2 Inv-loop μ-loop → tie.After-tell-visit Inv-loop μ-loop
-W c = c .before .before
-
-abbrev T : tie.After-tell-visit-arg2 Inv-loop μ-loop → tie.Then1 Inv-loop μ-loop
+abbrev T : tie.After-visit-arg2 Inv-loop μ-loop → tie.Then1 Inv-loop μ-loop
 T c = c .before .before
 
 abbrev L : tie.Then1 Inv-loop μ-loop → tie.At-loop Inv-loop μ-loop
@@ -69,8 +66,8 @@ byte c = omega (arith, c .before .shared-slice-known4 .given (S c .args .from .0
 
 -- ---------------------------------------------------------------- the needs
 
-shared-slice-read-t17 : tie.Need-shared-slice-read-t17 Inv-loop μ-loop
-shared-slice-read-t17 c = from-in (c .before .before .before .before .before .before)
+shared-slice-read-t18 : tie.Need-shared-slice-read-t18 Inv-loop μ-loop
+shared-slice-read-t18 c = from-in (c .before .before .before .before .before .before)
 
 below-requires : tie.Need-below-requires Inv-loop μ-loop
 below-requires c κs = search needs
@@ -103,16 +100,9 @@ loop-holds c =
     telling-start _ _ _ _ _ _ _ _ (lent-same _ _ _ _ _ (kept s .size) (net s) (s .pre .0 .0)) (placed-kept _ p (simp length-set))
     (start-flooding _ _ _ _ _ _ (p .idents) (p .low) (room s) (s .pre .1 .0) (s .pre .1 .1))
 
-tell-visit-requires : tie.Need-tell-visit-requires Inv-loop μ-loop
-tell-visit-requires c κs =
-    let t = T c in
-    let v = L t .loop .inv .running in
-    let e = L t .before in
-    ((v .lent, v .placed .idents, v .placed .apart), (v .flooding, t .if1 .taken, S e .pre .1 .0 .some, byte e))
-
 visit-requires : tie.Need-visit-requires Inv-loop μ-loop
 visit-requires c κs =
-    let t = T (W c .before) in
+    let t = T c in
     let v = L t .loop .inv .running in
     let e = L t .before in
     ((v .lent, v .placed), ((v .flooding, t .if1 .taken), (S e .pre .1 .0 .some, byte e)))
@@ -120,17 +110,17 @@ visit-requires c κs =
 loop-less : tie.Need-loop-less Inv-loop μ-loop
 loop-less c =
     let v = C c in
-    let t = T (W (v .before) .before) in
+    let t = T (v .before) in
     let e = L t .before in
     running-falls _ _ _ _ _ _ _ _ _ _ (L t .loop .inv .running) (S e .pre .1 .0 .some) (byte e) (t .if1 .taken) _ _ _ (v .visit .ensures .0)
 
 loop-again : tie.Need-loop-again Inv-loop μ-loop
 loop-again c =
     let v = C c in
-    let t = T (W (v .before) .before) in
+    let t = T (v .before) in
     let e = L t .before in
     telling-on _ _ _ _ _ _ _ _ _ _ _ _ (L t .loop .inv) (S e .pre .1 .0 .some) (byte e) (t .if1 .taken) _ _ _ (v .visit .ensures .0)
-    (v .visit .kept .1 .1 .1 .0) (v .visit .ensures .1 .0) (v .visit .ensures .1 .1) _ (W (v .before) .tell-visit .ensures)
+    (v .visit .kept .1 .1 .1 .0) (v .visit .ensures .1 .0 .0) (v .visit .ensures .1 .0 .1) _ (v .visit .ensures .1 .1)
 
 same-length : tie.Need-same-length Inv-loop μ-loop
 same-length c = c .before .before .loop .inv .running .size ∙ simp length-set
@@ -162,7 +152,7 @@ flood-region-spec =
     (tie.spec
     Inv-loop
     μ-loop
-    shared-slice-read-t17
+    shared-slice-read-t18
     below-requires
     mul-ids
     slice-write-ids
@@ -172,7 +162,6 @@ flood-region-spec =
     mul-ws-2
     slice-write-ws-2
     loop-holds
-    tell-visit-requires
     visit-requires
     loop-less
     loop-again

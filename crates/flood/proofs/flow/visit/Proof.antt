@@ -1,6 +1,6 @@
 -- The popped span bears the id, so it is a span (Visits). It objects, and the flow is the rule's; or it counts,
--- and its neighbours are pushed from the workspace without it. Assumes nothing.
-use mathlib.Core.Path.{_≡_, _∙_}
+-- and its neighbours are pushed from the workspace without it. What is told goes by the same two ways (Stories). Assumes nothing.
+use mathlib.Core.Path.{_≡_, sym, _∙_}
 use Prim.Native.Nat.{_+_, _-_, _<_, _≤_}
 use native.Mathlib.Omega.{arith}
 use denote.Ref.{now}
@@ -11,6 +11,7 @@ use Rattle.net.proofs.Tables.{lent-span, lent-same, net-few}
 use Rattle.flood.specs.Stack.{Kept}
 use Rattle.flood.proofs.Pushes.{lent-stack-in, net-kept, kept-then}
 use Rattle.flood.proofs.Visits.{good-held, good-top, visit-objects, visit-counts, popped-kept, popped-blank}
+use Rattle.flood.proofs.Stories.{popped-back, popped-calm}
 use Rattle.flood.proofs.flow.visit.Statement.{statement}
 use Rattle.flood.proofs.flow.visit.Tie as tie
 
@@ -39,6 +40,10 @@ PC c = c .before .before .before
 
 abbrev PO : tie.After-objects → tie.After-pop
 PO c = PC (c .before .before .before)
+
+-- the objection, from where the span is given back
+abbrev B : tie.After-give-back → tie.After-objects
+B c = c .before .before .before .before
 
 abbrev Q : tie.After-slice-known5 → tie.After-push-all
 Q c = c .before .before .before .before
@@ -80,29 +85,39 @@ objects-requires c κs =
     let s = SP (PC k) in
     (at-span k, s .pre .0 .1 .idents, s .pre .1 .1 .1)
 
+give-back-requires : tie.Need-give-back-requires
+give-back-requires c κs =
+    let o = c .before .before .before in
+    let k = o .before .before .before in
+    let s = SP (PC k) in
+    ((at-span k, s .pre .0 .1 .idents, s .pre .1 .1 .1), sym (o .objects .ensures) ∙ c .before .before .if1 .taken)
+
 mul-ids : tie.Need-mul-ids
-mul-ids c = let p = PO (c .before) in omega (arith, span-in p, few (SP p))
+mul-ids c = let p = PO (B c) in omega (arith, span-in p, few (SP p))
 
 slice-write-ids : tie.Need-slice-write-ids
-slice-write-ids c = let p = PO (c .before) in omega (arith, span-in p, SP p .pre .0 .1 .idents)
+slice-write-ids c = let p = PO (B c) in omega (arith, span-in p, SP p .pre .0 .1 .idents)
 
 same-length : tie.Need-same-length
 same-length c = simp length-set
 
 same-length-2 : tie.Need-same-length-2
-same-length-2 c = kept (PO (c .before)) .size
+same-length-2 c = kept (PO (B c)) .size
 
 returns : tie.Need-returns
 returns c =
-    let o = c .before in
+    let o = B c in
     let p = PO o in
     let s = SP p in (
-      visit-objects _ _ _ _ _ _ _ _ (p .pop .ensures .1) (s .pre .0 .1 .low) _ _ (net p) _ _ _ (p .pop .ensures .0) _ (o .objects .ensures) (c .if1 .taken),
-      (kept p, popped-blank _ _ _ _ _ _ (p .pop .ensures .1) (omega (arith, s .pre .1 .0 .1)) (place-in s) (s .pre .1 .0 .0 .blank)),
+      visit-objects _ _ _ _ _ _ _ _ (p .pop .ensures .1) (s .pre .0 .1 .low) _ _ (net p) _ _ _ (p .pop .ensures .0) _ (o .objects .ensures) (c .before .before .before .if1 .taken),
+      (
+        (kept p, popped-blank _ _ _ _ _ _ (p .pop .ensures .1) (omega (arith, s .pre .1 .0 .1)) (place-in s) (s .pre .1 .0 .0 .blank)),
+        popped-back _ _ _ _ _ _ (p .pop .ensures .1) (s .pre .0 .1 .low) _ _ (net p) _ _ _ (p .pop .ensures .0) _ _ (c .give-back .ensures),
+      ),
     )
 
-add-t15 : tie.Need-add-t15
-add-t15 c = let s = SP (PO (c .before .before)) in omega (arith, good-held _ _ _ _ _ _ (s .pre .1 .0 .0 .good) .1, few s)
+add-t17 : tie.Need-add-t17
+add-t17 c = let s = SP (PO (c .before .before)) in omega (arith, good-held _ _ _ _ _ _ (s .pre .1 .0 .0 .good) .1, few s)
 
 push-all-requires : tie.Need-push-all-requires
 push-all-requires c κs =
@@ -125,8 +140,11 @@ returns-2 c =
     let s = SP p in (
       visit-counts _ _ _ _ _ _ _ _ (p .pop .ensures .1) (s .pre .0 .1 .low) _ _ (net p) _ _ _ (p .pop .ensures .0) _ (o .objects .ensures) _ _ _ (e .if1 .left) (q .push-all .ensures .0),
       (
-        kept-then (kept p) (q .push-all .ensures .1 .kept),
-        q .push-all .ensures .1 .blank (popped-blank _ _ _ _ _ _ (p .pop .ensures .1) (omega (arith, s .pre .1 .0 .1)) (place-in s) (s .pre .1 .0 .0 .blank)),
+        (
+          kept-then (kept p) (q .push-all .ensures .1 .kept),
+          q .push-all .ensures .1 .blank (popped-blank _ _ _ _ _ _ (p .pop .ensures .1) (omega (arith, s .pre .1 .0 .1)) (place-in s) (s .pre .1 .0 .0 .blank)),
+        ),
+        popped-calm _ _ _ _ _ _ (p .pop .ensures .1) (s .pre .0 .1 .low) _ _ (net p) _ _ _ (p .pop .ensures .0) _ _ (o .objects .ensures) (e .if1 .left),
       ),
     )
 
@@ -139,12 +157,13 @@ visit-spec =
     pop-requires
     connections-requires
     objects-requires
+    give-back-requires
     mul-ids
     slice-write-ids
     same-length
     same-length-2
     returns
-    add-t15
+    add-t17
     push-all-requires
     same-length-3
     same-length-4

@@ -4,7 +4,7 @@ use native.Mathlib.Omega.{arith}
 use borrow.Author.Needs.{needs}
 use denote.Ref.{now}
 use lib.ListN.{length}
-use Prim.Native.Nat.{_<_}
+use Prim.Native.Nat.{_+_, _*_, _%_, _<_}
 use Rattle.field.proofs.Places.{turned}
 use Rattle.net.proofs.Tables.{slot-in, net-few, net-inside}
 use Rattle.flood.proofs.Stories.{objector-none, objector-side, objector-corner}
@@ -40,6 +40,9 @@ shared-slice-read-region c = omega (arith, inside (c .before), S (c .before .bef
 other-requires : tie.Need-other-requires
 other-requires c κs = search needs
 
+cast-result : tie.Need-cast-result
+cast-result c = let e = c .before .before .before in omega (arith, inside e, net-few _ _ _ (S (e .before) .pre .0 .closed))
+
 returns-2 : tie.Need-returns-2
 returns-2 c = search (needs, objector-side)
 
@@ -53,12 +56,19 @@ neighbour-requires-2 c κs =
     let v = s .pre .0 in
     (v .place, omega (arith, inside e, net-few _ _ _ (v .closed)), turned _ _, omega (arith, inside e, v .room, turned (s .args .d) 1))
 
+cast-result-2 : tie.Need-cast-result-2
+cast-result-2 c =
+    let n = c .before in
+    let a = n .before .before .before .before .before in
+    let s = S a in
+    omega (arith, n .neighbour2 .ensures, a .before .shared-slice-known3 .given (s .args .table + (4 * a .neighbour .result .0 + (s .args .d + 1) % 4)))
+
 returns-3 : tie.Need-returns-3
 returns-3 c =
-    let o = c .before .before in
+    let o = c .before .before .before in
     let e = o .before .before in
     let s = S (e .before) in
-    objector-corner _ _ _ _ _ _ _ _ (s .pre .0) (s .pre .2) _ (e .before .neighbour .ensures) _ (o .other .ensures) (c .before .if2 .left) (inside e) _ (c .neighbour2 .ensures)
+    objector-corner _ _ _ _ _ _ _ _ (s .pre .0) (s .pre .2) _ (e .before .neighbour .ensures) _ (o .other .ensures) (c .before .before .if2 .left) (inside e) _ (c .before .neighbour2 .ensures)
 
 pub objector-spec : {M : Type 1} → statement M
 objector-spec =
@@ -69,7 +79,9 @@ objector-spec =
     mul-region
     shared-slice-read-region
     other-requires
+    cast-result
     returns-2
     add-neighbour
     neighbour-requires-2
+    cast-result-2
     returns-3)

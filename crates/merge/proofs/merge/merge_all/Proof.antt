@@ -3,7 +3,7 @@
 use mathlib.Core.Path.{_≡_}
 use lib.ListN.{length}
 use Rattle.table.specs.View.{recsOf}
-use Rattle.pool.specs.Pool.{Pool, Laid}
+use Rattle.pool.specs.Forms.{PoolIn, LaidIn}
 use Rattle.pool.proofs.MergeLaws.{owners}
 use Rattle.merge.proofs.TurnLaws.{Rounds, laid-start, rounds-start, rounds-go, rounds-falls, rounds-done, rounds-joined, pool-calm}
 use borrow.Author.Needs.{needs}
@@ -11,19 +11,25 @@ use Rattle.merge.proofs.merge.merge_all.Statement.{statement}
 use Rattle.merge.proofs.merge.merge_all.Tie as tie
 
 abbrev Inv-loop : tie.InvT-loop
-Inv-loop ws₀ m p area h o now₀ other₀ top₀ ws now other top = (length ws ≡ length ws₀) × Pool m p now other ws × Rounds area m ws₀ ws × Laid m p now other top ws
+Inv-loop ws₀ m n area first size second half₀ ws half = (length ws ≡ length ws₀) × PoolIn m half ws × Rounds area m ws₀ ws × LaidIn m half ws
 
 abbrev μ-loop : tie.MeasureT-loop
-μ-loop ws₀ m p area h o now₀ other₀ top₀ ws now other top = owners m (recsOf ws m)
+μ-loop ws₀ m n area first size second half₀ ws half = owners m (recsOf ws m)
 
-add-top : tie.Need-add-top Inv-loop μ-loop
-add-top c = search needs
+mul-first : tie.Need-mul-first Inv-loop μ-loop
+mul-first c = search needs
+
+mul-size : tie.Need-mul-size Inv-loop μ-loop
+mul-size c = search needs
+
+add-second : tie.Need-add-second Inv-loop μ-loop
+add-second c = search needs
 
 loop-holds : tie.Need-loop-holds Inv-loop μ-loop
 loop-holds c = (search needs, search needs, search rounds-start, search laid-start)
 
 merge-round-requires : tie.Need-merge-round-requires Inv-loop μ-loop
-merge-round-requires c κs = (search needs, (search rounds-joined, search needs))
+merge-round-requires c κs = (search needs, search needs, search rounds-joined)
 
 same-length : tie.Need-same-length Inv-loop μ-loop
 same-length c = search needs
@@ -43,7 +49,9 @@ merge-all-spec =
     (tie.spec
     Inv-loop
     μ-loop
-    add-top
+    mul-first
+    mul-size
+    add-second
     loop-holds
     merge-round-requires
     same-length

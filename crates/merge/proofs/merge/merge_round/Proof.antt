@@ -5,9 +5,9 @@ use mathlib.Core.Path.{_≡_}
 use lib.ListN.{length}
 use Rattle.rules.specs.Base.{upto}
 use Rattle.rules.specs.Merge.{Merge}
-use Rattle.table.specs.View.{recsOf}
 use Rattle.pool.specs.Fixed.{mergeOneF}
-use Rattle.pool.specs.Pool.{Pool, Laid}
+use Rattle.pool.specs.Forms.{PoolIn, LaidIn}
+use Rattle.merge.specs.Rounds.{roundAt}
 use Rattle.merge.proofs.TurnLaws.{round-start, round-go, round-end, round-reps}
 use borrow.Author.Needs.{needs}
 use native.Mathlib.Omega.{arith}
@@ -15,18 +15,18 @@ use Rattle.merge.proofs.merge.merge_round.Statement.{statement}
 use Rattle.merge.proofs.merge.merge_round.Tie as tie
 
 abbrev Inv-loop : tie.InvT-loop
-Inv-loop ws₀ m p area h o top g₀ i₀ ws g i = (i ≤ m) × (length ws ≡ length ws₀) × (g .merges ≤ i) × Pool m p (g .now) (g .other) ws
-    × (_≡_ {A = Merge} (record { recs = recsOf ws m; merges = g .merges }) (upto i (mergeOneF area) (record { recs = recsOf ws₀ m; merges = 0 })))
-    × Laid m p (g .now) (g .other) (g .top) ws
+Inv-loop ws₀ m area g₀ i₀ ws g i = (i ≤ m) × (length ws ≡ length ws₀) × (g .merges ≤ i) × PoolIn m (g .half) ws
+    × (_≡_ {A = Merge} (roundAt m ws (g .merges)) (upto i (mergeOneF area) (roundAt m ws₀ 0)))
+    × LaidIn m (g .half) ws × (g .half .size ≡ g₀ .half .size)
 
 abbrev μ-loop : tie.MeasureT-loop
-μ-loop ws₀ m p area h o top g₀ i₀ ws g i = m - i
+μ-loop ws₀ m area g₀ i₀ ws g i = m - i
 
 loop-holds : tie.Need-loop-holds Inv-loop μ-loop
-loop-holds c = (search needs, search needs, search needs, search needs, search round-start, search needs)
+loop-holds c = (search needs, search needs, search needs, search needs, search round-start, search needs, search needs)
 
 merge-one-requires : tie.Need-merge-one-requires Inv-loop μ-loop
-merge-one-requires c κs = (search needs, (search round-reps, (search needs, (omega (arith, c .before .before .loop .inv .3 .held .few), search needs))))
+merge-one-requires c κs = ((search needs, search needs, omega (arith, c .before .before .loop .inv .3 .held .few)), (search round-reps, search needs))
 
 add-i : tie.Need-add-i Inv-loop μ-loop
 add-i c = search needs
@@ -35,13 +35,13 @@ loop-less : tie.Need-loop-less Inv-loop μ-loop
 loop-less c = search needs
 
 loop-again : tie.Need-loop-again Inv-loop μ-loop
-loop-again c = (search needs, search needs, search needs, search needs, search round-go, search needs)
+loop-again c = (search needs, search needs, search needs, search needs, search round-go, search needs, search needs)
 
 same-length : tie.Need-same-length Inv-loop μ-loop
 same-length c = search needs
 
 returns : tie.Need-returns Inv-loop μ-loop
-returns c = (search round-end, (search needs, search needs))
+returns c = (search round-end, (search needs, search needs, search needs))
 
 pub merge-round-spec : {M : Type 1} → statement M
 merge-round-spec =

@@ -22,7 +22,7 @@ returns c =
     let o = c .before .before in
     let s = o .before .before .before in
     let q = o .filter-told .ensures in
-    filtered-in _ _ _ _ _ _ _ (s .pre .0) (o .filter-told .kept .0) (q .0) (q .1 .0) (q .1 .1 .0) (q .1 .1 .1)
+    filtered-in _ _ _ _ _ _ _ (s .pre .0) (o .filter-told .kept .0) (q .0) (q .1 .0 .0) (q .1 .0 .1) (q .1 .1)
 
 pub filter-in-spec : {M : Type 1} → statement M
 filter-in-spec =

@@ -9,15 +9,6 @@ use Rattle.merge.proofs.regions.merge_and_filter_regions.Tie as tie
 filter-requires : tie.Need-filter-requires
 filter-requires c κs = search needs
 
-mul-h : tie.Need-mul-h
-mul-h c = search needs
-
-mul-p : tie.Need-mul-p
-mul-p c = search needs
-
-add-merge-all : tie.Need-add-merge-all
-add-merge-all c = search needs
-
 merge-all-requires : tie.Need-merge-all-requires
 merge-all-requires c κs = let f = c .before .before .before .filter in (
   filtered-pool _ _ _ _ (c .before .before .before .before .before .before .before .pre) _ _ (f .ensures .0) (f .ensures .1 .0) (f .ensures .1 .1) (f .kept .0),
@@ -28,7 +19,7 @@ number-requires : tie.Need-number-requires
 number-requires c κs = let g = c .before .before .before .before in
     let f = g .before .before .before .before in
     let p = f .before .before .before .before .pre in
-    (search calm-column, (search calm-blank, (p .named, omega (arith, p .room, f .filter .kept .0, g .merge-all .kept .0))))
+    (search calm-column, search calm-blank, p .named, omega (arith, p .room, f .filter .kept .0, g .merge-all .kept .0))
 
 same-length : tie.Need-same-length
 same-length c = search needs
@@ -45,9 +36,6 @@ merge-and-filter-regions-spec =
     tie.close
     (tie.spec
     filter-requires
-    mul-h
-    mul-p
-    add-merge-all
     merge-all-requires
     number-requires
     same-length

@@ -24,15 +24,6 @@ mul-id c = search needs
 slice-read-id : tie.Need-slice-read-id
 slice-read-id c = search needs
 
-mul-h : tie.Need-mul-h
-mul-h c = search needs
-
-mul-p : tie.Need-mul-p
-mul-p c = search needs
-
-add-merge-all-noted : tie.Need-add-merge-all-noted
-add-merge-all-noted c = search needs
-
 merge-all-noted-requires : tie.Need-merge-all-noted-requires
 merge-all-noted-requires c κs =
     let f = F c in
@@ -79,9 +70,6 @@ merge-and-filter-told-spec =
     filter-in-requires
     mul-id
     slice-read-id
-    mul-h
-    mul-p
-    add-merge-all-noted
     merge-all-noted-requires
     number-in-requires
     same-length

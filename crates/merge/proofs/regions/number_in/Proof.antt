@@ -14,7 +14,7 @@ slice-aggregate-number : tie.Need-slice-aggregate-number
 slice-aggregate-number c = sym (part-length _ _ (c .before .before .before .before .pre .0))
 
 number-requires : tie.Need-number-requires
-number-requires c κs = let s = c .before .before .before .before in (s .pre .1, (s .pre .2, (s .pre .3, omega (arith, s .pre .4, part-length (s .args .end) (now (s .args .ws)) (s .pre .0)))))
+number-requires c κs = let s = c .before .before .before .before in (s .pre .1, s .pre .2, s .pre .3, omega (arith, s .pre .4, part-length (s .args .end) (now (s .args .ws)) (s .pre .0)))
 
 same-length : tie.Need-same-length
 same-length c = search needs

@@ -11,10 +11,10 @@ use Rattle.merge.proofs.told.merge_all_noted.Statement.{statement}
 use Rattle.merge.proofs.told.merge_all_noted.Tie as tie
 
 abbrev Inv-loop : tie.InvT-loop
-Inv-loop ws₀ end m p area h o now₀ other₀ top₀ count₀ ws now other top count = AllNoted area m p end ws₀ ws now other top count
+Inv-loop ws₀ end m n area first size second half₀ count₀ ws half count = AllNoted area m end ws₀ ws half count
 
 abbrev μ-loop : tie.MeasureT-loop
-μ-loop ws₀ end m p area h o now₀ other₀ top₀ count₀ ws now other top count = owners m (recsOf (take end ws) m)
+μ-loop ws₀ end m n area first size second half₀ count₀ ws half count = owners m (recsOf (take end ws) m)
 
 -- the round, and the head of the loop
 abbrev R : tie.After-struct-known Inv-loop μ-loop → tie.After-merge-round-noted Inv-loop μ-loop
@@ -23,11 +23,17 @@ R c = c .before .before .before .before
 abbrev L : tie.After-merge-round-noted Inv-loop μ-loop → tie.At-loop Inv-loop μ-loop
 L c = c .before .before
 
-add-top : tie.Need-add-top Inv-loop μ-loop
-add-top c = search needs
+mul-first : tie.Need-mul-first Inv-loop μ-loop
+mul-first c = search needs
+
+mul-size : tie.Need-mul-size Inv-loop μ-loop
+mul-size c = search needs
+
+add-second : tie.Need-add-second Inv-loop μ-loop
+add-second c = search needs
 
 loop-holds : tie.Need-loop-holds Inv-loop μ-loop
-loop-holds c = let s = c .before in all-start _ _ _ _ _ _ _ (s .pre .1) (s .pre .2)
+loop-holds c = let s = c .before in all-start _ _ _ _ _ (s .pre .1) (s .pre .2)
 
 merge-round-noted-requires : tie.Need-merge-round-noted-requires Inv-loop μ-loop
 merge-round-noted-requires c κs =
@@ -39,13 +45,13 @@ same-length : tie.Need-same-length Inv-loop μ-loop
 same-length c = let r = R (c .before) in r .merge-round-noted .kept .0 ∙ L r .loop .inv .size
 
 returns : tie.Need-returns Inv-loop μ-loop
-returns c = let r = R (c .before) in all-done _ _ _ _ _ _ _ _ _ _ (L r .loop .inv) _ _ (r .merge-round-noted .ensures) (r .merge-round-noted .kept .0) (c .if1 .taken)
+returns c = let r = R (c .before) in all-done _ _ _ _ _ _ _ (L r .loop .inv) _ _ (r .merge-round-noted .ensures) (r .merge-round-noted .kept .0) (c .if1 .taken)
 
 loop-less : tie.Need-loop-less Inv-loop μ-loop
-loop-less c = let r = R (c .before) in all-falls _ _ _ _ _ _ _ _ _ _ (L r .loop .inv) _ _ (r .merge-round-noted .ensures) (r .merge-round-noted .kept .0) (c .if1 .left)
+loop-less c = let e = c .before in let r = R (e .before) in all-falls _ _ _ _ _ _ _ (L r .loop .inv) _ _ (r .merge-round-noted .ensures) (r .merge-round-noted .kept .0) (e .if1 .left)
 
 loop-again : tie.Need-loop-again Inv-loop μ-loop
-loop-again c = let r = R (c .before) in all-next _ _ _ _ _ _ _ _ _ _ (L r .loop .inv) _ _ (r .merge-round-noted .ensures) (r .merge-round-noted .kept .0) (c .if1 .left)
+loop-again c = let e = c .before in let r = R (e .before) in all-next _ _ _ _ _ _ _ (L r .loop .inv) _ _ (r .merge-round-noted .ensures) (r .merge-round-noted .kept .0) (e .if1 .left)
 
 pub merge-all-noted-spec : {M : Type 1} → statement M
 merge-all-noted-spec =
@@ -53,7 +59,9 @@ merge-all-noted-spec =
     (tie.spec
     Inv-loop
     μ-loop
-    add-top
+    mul-first
+    mul-size
+    add-second
     loop-holds
     merge-round-noted-requires
     same-length

@@ -38,7 +38,7 @@ returns : tie.Need-returns
 returns c =
     let r = R (c .before) in
     let s = S r in
-    noted-none _ _ _ _ _ _ (s .args .g) (s .pre .1 .1) (s .pre .0 .0) (mid s) (s .pre .1 .0) (s .pre .1 .3) _ _ (r .merge-in .ensures) (r .merge-in .kept .0) (c .if1 .taken)
+    noted-none _ _ _ _ _ (s .args .noted) (s .pre .1 .1) (s .pre .0 .0) (mid s) (s .pre .1 .0) (s .pre .1 .3) _ _ (r .merge-in .ensures) (r .merge-in .kept .0) (c .if1 .taken)
 
 mul-new : tie.Need-mul-new
 mul-new c = let s = S (R (c .before)) in omega (arith, s .pre .1 .1, s .pre .0 .1 .held .few)
@@ -57,10 +57,14 @@ note-merge-requires c κs =
     let e = c .before .before .before in
     let r = R (e .before) in
     let s = S r in
-    note-in _ _ _ _ _ _ (s .args .g) (s .pre .1 .1) (s .pre .0 .0) (mid s) (s .pre .1 .0) (s .pre .1 .3) _ _ (r .merge-in .ensures) (r .merge-in .kept .0) (e .if1 .left) _ _ refl refl _ refl
+    note-in _ _ _ _ _ (s .args .noted) (s .pre .1 .1) (s .pre .0 .0) (mid s) (s .pre .1 .0) (s .pre .1 .3) _ _ (r .merge-in .ensures) (r .merge-in .kept .0) (e .if1 .left) _ _ refl refl _ refl
 
-add-t12 : tie.Need-add-t12
-add-t12 c = search needs
+add-t11 : tie.Need-add-t11
+add-t11 c =
+    let n = c .before .before .before in
+    let e = n .before .before .before .before in
+    let s = S (R (e .before)) in
+    omega (arith, s .pre .1 .3, s .pre .0 .1 .held .few)
 
 same-length-2 : tie.Need-same-length-2
 same-length-2 c = search needs
@@ -71,7 +75,7 @@ returns-2 c =
     let e = n .before .before .before .before in
     let r = R (e .before) in
     let s = S r in
-    noted-some _ _ _ _ _ _ (s .args .g) (s .pre .1 .1) (s .pre .0 .0) (mid s) (s .pre .1 .0) (s .pre .1 .3) _ _ (r .merge-in .ensures) (r .merge-in .kept .0) (e .if1 .left) _ _ refl refl _ (n .note-merge .ensures)
+    noted-some _ _ _ _ _ (s .args .noted) (s .pre .1 .1) (s .pre .0 .0) (mid s) (s .pre .1 .0) (s .pre .1 .3) _ _ (r .merge-in .ensures) (r .merge-in .kept .0) (e .if1 .left) _ _ refl refl _ (n .note-merge .ensures)
 
 pub merge-one-noted-spec : {M : Type 1} → statement M
 merge-one-noted-spec =
@@ -87,6 +91,6 @@ merge-one-noted-spec =
     mul-note-merge
     add-note-merge
     note-merge-requires
-    add-t12
+    add-t11
     same-length-2
     returns-2)

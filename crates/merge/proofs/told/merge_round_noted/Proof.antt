@@ -10,17 +10,17 @@ use Rattle.merge.proofs.told.merge_round_noted.Statement.{statement}
 use Rattle.merge.proofs.told.merge_round_noted.Tie as tie
 
 abbrev Inv-loop : tie.InvT-loop
-Inv-loop ws₀ end m p area h o top count g₀ i₀ ws g i = (i ≤ m) × (length ws ≡ length ws₀) × NotedRound area i m p end ws₀ count ws g
+Inv-loop ws₀ end m area count g₀ i₀ ws g i = (i ≤ m) × (length ws ≡ length ws₀) × NotedRound area i m (g₀ .round .half .size) end ws₀ count ws g
 
 abbrev μ-loop : tie.MeasureT-loop
-μ-loop ws₀ end m p area h o top count g₀ i₀ ws g i = m - i
+μ-loop ws₀ end m area count g₀ i₀ ws g i = m - i
 
 -- the entry, from the head of the loop
 abbrev S : tie.At-loop Inv-loop μ-loop → tie.Start Inv-loop μ-loop
 S c = c .before .before
 
 loop-holds : tie.Need-loop-holds Inv-loop μ-loop
-loop-holds c = let s = c .before in (omega arith, refl, round-start _ _ _ _ _ _ _ _ _ (s .pre .0 .1) (s .pre .0 .2) (s .pre .1 .1))
+loop-holds c = let s = c .before in (omega arith, refl, round-start _ _ _ _ _ _ (s .pre .0 .1) (s .pre .0 .2) (s .pre .1 .1))
 
 merge-one-noted-requires : tie.Need-merge-one-noted-requires Inv-loop μ-loop
 merge-one-noted-requires c κs =

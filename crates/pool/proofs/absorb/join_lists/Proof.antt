@@ -29,7 +29,7 @@ end-of-requires-2 : tie.Need-end-of-requires-2
 end-of-requires-2 c κs = search needs
 
 join-requires : tie.Need-join-requires
-join-requires c κs = (join-first _ _ _ _ _ _ _ _ (c .before .before .before .before .before .before .before .before .before .before .pre .0) (c .before .before .before .before .before .before .before .before .before .before .pre .1) _ _ _ _ (c .before .before .before .before .before .before .before .start-of .ensures .0) (c .before .before .before .before .before .end-of .ensures .0) (c .before .before .before .start-of2 .ensures .0) (c .before .end-of2 .ensures .0), (join-second _ _ _ _ _ _ _ _ (c .before .before .before .before .before .before .before .before .before .before .pre .0) (c .before .before .before .before .before .before .before .before .before .before .pre .1) _ _ _ _ (c .before .before .before .before .before .before .before .start-of .ensures .0) (c .before .before .before .before .before .end-of .ensures .0) (c .before .before .before .start-of2 .ensures .0) (c .before .end-of2 .ensures .0), (join-entry _ _ _ _ _ _ _ _ (c .before .before .before .before .before .before .before .before .before .before .pre .0) (c .before .before .before .before .before .before .before .before .before .before .pre .1) _ _ _ _ (c .before .before .before .before .before .before .before .start-of .ensures .0) (c .before .before .before .before .before .end-of .ensures .0) (c .before .before .before .start-of2 .ensures .0) (c .before .end-of2 .ensures .0), (join-entry-2 _ _ _ _ _ _ _ _ (c .before .before .before .before .before .before .before .before .before .before .pre .0) (c .before .before .before .before .before .before .before .before .before .before .pre .1) _ _ _ _ (c .before .before .before .before .before .before .before .start-of .ensures .0) (c .before .before .before .before .before .end-of .ensures .0) (c .before .before .before .start-of2 .ensures .0) (c .before .end-of2 .ensures .0), join-room _ _ _ _ _ _ _ _ (c .before .before .before .before .before .before .before .before .before .before .pre .0) (c .before .before .before .before .before .before .before .before .before .before .pre .1) _ _ _ _ (c .before .before .before .before .before .before .before .start-of .ensures .0) (c .before .before .before .before .before .end-of .ensures .0) (c .before .before .before .start-of2 .ensures .0) (c .before .end-of2 .ensures .0)))))
+join-requires c κs = ((join-first _ _ _ _ _ _ _ _ (c .before .before .before .before .before .before .before .before .before .before .pre .0) (c .before .before .before .before .before .before .before .before .before .before .pre .1) _ _ _ _ (c .before .before .before .before .before .before .before .start-of .ensures .0) (c .before .before .before .before .before .end-of .ensures .0) (c .before .before .before .start-of2 .ensures .0) (c .before .end-of2 .ensures .0), join-second _ _ _ _ _ _ _ _ (c .before .before .before .before .before .before .before .before .before .before .pre .0) (c .before .before .before .before .before .before .before .before .before .before .pre .1) _ _ _ _ (c .before .before .before .before .before .before .before .start-of .ensures .0) (c .before .before .before .before .before .end-of .ensures .0) (c .before .before .before .start-of2 .ensures .0) (c .before .end-of2 .ensures .0)), (join-entry _ _ _ _ _ _ _ _ (c .before .before .before .before .before .before .before .before .before .before .pre .0) (c .before .before .before .before .before .before .before .before .before .before .pre .1) _ _ _ _ (c .before .before .before .before .before .before .before .start-of .ensures .0) (c .before .before .before .before .before .end-of .ensures .0) (c .before .before .before .start-of2 .ensures .0) (c .before .end-of2 .ensures .0), join-entry-2 _ _ _ _ _ _ _ _ (c .before .before .before .before .before .before .before .before .before .before .pre .0) (c .before .before .before .before .before .before .before .before .before .before .pre .1) _ _ _ _ (c .before .before .before .before .before .before .before .start-of .ensures .0) (c .before .before .before .before .before .end-of .ensures .0) (c .before .before .before .start-of2 .ensures .0) (c .before .end-of2 .ensures .0), join-room _ _ _ _ _ _ _ _ (c .before .before .before .before .before .before .before .before .before .before .pre .0) (c .before .before .before .before .before .before .before .before .before .before .pre .1) _ _ _ _ (c .before .before .before .before .before .before .before .start-of .ensures .0) (c .before .before .before .before .before .end-of .ensures .0) (c .before .before .before .start-of2 .ensures .0) (c .before .end-of2 .ensures .0)))
 
 replace-neighbour-requires : tie.Need-replace-neighbour-requires
 replace-neighbour-requires c κs = (c .before .before .before .join .ensures .1 .0 .0, join-top _ _ _ _ _ _ _ _ (c .before .before .before .before .before .before .before .before .before .before .before .before .before .before .pre .0) (c .before .before .before .before .before .before .before .before .before .before .before .before .before .before .pre .1) _ _ _ _ (c .before .before .before .before .before .before .before .before .before .before .before .start-of .ensures .0) (c .before .before .before .before .before .before .before .before .before .end-of .ensures .0) (c .before .before .before .before .before .before .before .start-of2 .ensures .0) (c .before .before .before .before .before .end-of2 .ensures .0) (c .before .before .before .join .last .0) _ (c .before .before .before .join .kept .0) (c .before .before .before .join .ensures .1 .0))

@@ -4,17 +4,17 @@ use borrow.Author.Needs.{needs}
 use Rattle.pool.proofs.build.copy_around.Statement.{statement}
 use Rattle.pool.proofs.build.copy_around.Tie as tie
 
-add-c : tie.Need-add-c
-add-c c = search needs
+add-after : tie.Need-add-after
+add-after c = search needs
 
-add-c-2 : tie.Need-add-c-2
-add-c-2 c = search needs
+add-after-2 : tie.Need-add-after-2
+add-after-2 c = search needs
 
-sub-d : tie.Need-sub-d
-sub-d c = search needs
+sub-rest : tie.Need-sub-rest
+sub-rest c = search needs
 
-add-d : tie.Need-add-d
-add-d c = search needs
+add-rest : tie.Need-add-rest
+add-rest c = search needs
 
 copy-requires : tie.Need-copy-requires
 copy-requires c κs = search around-1
@@ -38,10 +38,10 @@ pub copy-around-spec : {M : Type 1} → statement M
 copy-around-spec =
     tie.close
     (tie.spec
-    add-c
-    add-c-2
-    sub-d
-    add-d
+    add-after
+    add-after-2
+    sub-rest
+    add-rest
     copy-requires
     add-copy
     copy-requires-2

@@ -10,10 +10,10 @@ use Rattle.pool.proofs.carry.carry_all.Statement.{statement}
 use Rattle.pool.proofs.carry.carry_all.Tie as tie
 
 abbrev Inv-loop : tie.InvT-loop
-Inv-loop ws₀ m i n old new to z e₀ x₀ ws e x = (x ≤ m) × (length ws ≡ length ws₀) × Carried m i n x old new to e z ws₀ ws
+Inv-loop ws₀ m pair names to limit e₀ x₀ ws e x = (x ≤ m) × (length ws ≡ length ws₀) × Carried m (pair .absorbed) (pair .absorber) x (names .old) (names .new) to e limit ws₀ ws
 
 abbrev μ-loop : tie.MeasureT-loop
-μ-loop ws₀ m i n old new to z e₀ x₀ ws e x = x
+μ-loop ws₀ m pair names to limit e₀ x₀ ws e x = x
 
 loop-holds : tie.Need-loop-holds Inv-loop μ-loop
 loop-holds c = (search needs, search needs, search carried-none)

@@ -11,7 +11,7 @@ returns-2 : tie.Need-returns-2
 returns-2 c = search next-n
 
 carry-one-requires : tie.Need-carry-one-requires
-carry-one-requires c κs = c .before .before .before .before .pre (c .before .before .if1 .left) (c .before .if2 .left)
+carry-one-requires c κs = c .before .before .before .before .before .before .pre (c .before .before .before .if1 .left) (c .before .if2 .left)
 
 same-length : tie.Need-same-length
 same-length c = search needs

@@ -9,10 +9,10 @@ use Rattle.pool.proofs.own.own_all.Statement.{statement}
 use Rattle.pool.proofs.own.own_all.Tie as tie
 
 abbrev Inv-loop : tie.InvT-loop
-Inv-loop ws₀ m h o p x₀ ws x = (x ≤ m) × (length ws ≡ length ws₀) × Owning m p h o x ws₀ ws
+Inv-loop ws₀ m half x₀ ws x = (x ≤ m) × (length ws ≡ length ws₀) × Owning m (half .size) (half .now) (half .other) x ws₀ ws
 
 abbrev μ-loop : tie.MeasureT-loop
-μ-loop ws₀ m h o p x₀ ws x = m - x
+μ-loop ws₀ m half x₀ ws x = m - x
 
 loop-holds : tie.Need-loop-holds Inv-loop μ-loop
 loop-holds c = (search needs, search needs, search owning-none)

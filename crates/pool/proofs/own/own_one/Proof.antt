@@ -17,7 +17,7 @@ end-of-requires : tie.Need-end-of-requires
 end-of-requires c κs = search needs
 
 own-part-requires : tie.Need-own-part-requires
-own-part-requires c κs = (search own-from, (search own-order, (own-in _ _ _ _ _ _ _ _ (c .before .before .before .before .before .before .pre .0) (c .before .before .before .before .before .before .pre .1) (c .before .before .before .start-of .ensures .0) (c .before .end-of .ensures .0), search own-fits)))
+own-part-requires c κs = (search own-from, search own-order, own-in _ _ _ _ _ _ _ _ (c .before .before .before .before .before .before .pre .0) (c .before .before .before .before .before .before .pre .1) (c .before .before .before .start-of .ensures .0) (c .before .end-of .ensures .0), search own-fits)
 
 same-length : tie.Need-same-length
 same-length c = search needs

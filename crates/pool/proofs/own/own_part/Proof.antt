@@ -4,17 +4,17 @@ use borrow.Author.Needs.{needs}
 use Rattle.pool.proofs.own.own_part.Statement.{statement}
 use Rattle.pool.proofs.own.own_part.Tie as tie
 
-sub-b : tie.Need-sub-b
-sub-b c = search needs
+sub-from : tie.Need-sub-from
+sub-from c = search needs
 
-add-b : tie.Need-add-b
-add-b c = search needs
+add-from : tie.Need-add-from
+add-from c = search needs
 
-sub-f : tie.Need-sub-f
-sub-f c = search needs
+sub-until : tie.Need-sub-until
+sub-until c = search needs
 
-add-f : tie.Need-add-f
-add-f c = search needs
+add-until : tie.Need-add-until
+add-until c = search needs
 
 mul-fill : tie.Need-mul-fill
 mul-fill c = search needs
@@ -44,10 +44,10 @@ pub own-part-spec : {M : Type 1} → statement M
 own-part-spec =
     tie.close
     (tie.spec
-    sub-b
-    add-b
-    sub-f
-    add-f
+    sub-from
+    add-from
+    sub-until
+    add-until
     mul-fill
     sub-fill
     part-fill-start

@@ -1,6 +1,6 @@
 -- `pool::regions::merge_regions` meets its contract. Lists, counts, ids, marks, in this order: `region-recs` is the rule's outcome; counts and ids lie below
 -- the table, the marks between table and pool, so `region-pool` and `region-laid` follow from how `relist` leaves the lists.
-use Rattle.pool.proofs.RegionLaws.{spans-fit, columns-in, marks-in, region-recs, region-pool, region-laid}
+use Rattle.pool.proofs.RegionLaws.{spans-fit, columns-in, marks-in, region-recs, region-pool, region-laid, pool-sized, laid-sized}
 use borrow.Author.Needs.{needs}
 use Rattle.pool.proofs.regions.merge_regions.Statement.{statement}
 use Rattle.pool.proofs.regions.merge_regions.Tie as tie
@@ -15,10 +15,10 @@ cast-new : tie.Need-cast-new
 cast-new c = search needs
 
 relist-requires : tie.Need-relist-requires
-relist-requires c κs = (search needs, (search needs, (search needs, search needs)))
+relist-requires c κs = (search needs, search needs, search needs, search needs)
 
 recount-requires : tie.Need-recount-requires
-recount-requires c κs = (search columns-in, (search needs, (search needs, search spans-fit)))
+recount-requires c κs = ((search columns-in, search needs, search needs), search spans-fit)
 
 sub-swap : tie.Need-sub-swap
 sub-swap c = search needs
@@ -33,7 +33,7 @@ swap-requires : tie.Need-swap-requires
 swap-requires c κs = search needs
 
 carry-mark-requires : tie.Need-carry-mark-requires
-carry-mark-requires c κs = (search (needs, marks-in), (search needs, search needs))
+carry-mark-requires c κs = (search (needs, marks-in), search needs, search needs)
 
 same-length : tie.Need-same-length
 same-length c = search needs
@@ -43,11 +43,13 @@ returns c = let k = c .before .before in
     let s = k .before .before .before .before in
     let n = s .before .before .before .before in
     let r = n .before .before .before .before in
-    let p = r .before .before .before .before .pre in (
-      region-recs _ _ _ _ _ _ _ _ _ _ _ _ _ _ (p .0) (p .1 .1) (r .relist .ensures .0) (r .relist .ensures .1 .0) (r .relist .kept .0) (n .recount .ensures) (n .recount .kept .0) (s .swap .ensures) (s .swap .kept .0) _ (k .carry-mark .ensures),
+    let p = r .before .before .before .before .pre in
+    let q = r .relist .ensures in (
+      region-recs _ _ _ _ _ _ _ _ _ _ _ _ _ _ (p .0) (p .2) (q .0 .1) (q .1 .0) (r .relist .kept .0) (n .recount .ensures) (n .recount .kept .0) (s .swap .ensures) (s .swap .kept .0) _ (k .carry-mark .ensures),
       (
-        region-pool _ _ _ _ _ _ _ _ _ _ _ _ _ _ (p .0) (p .1 .1) (r .relist .ensures .0) (r .relist .ensures .1 .0) (r .relist .kept .0) (n .recount .ensures) (n .recount .kept .0) (s .swap .ensures) (s .swap .kept .0) _ (k .carry-mark .ensures),
-        region-laid _ _ _ _ _ _ _ _ _ _ _ _ _ _ (p .0) (p .1 .1) (r .relist .ensures .0) (r .relist .ensures .1 .0) (r .relist .kept .0) (n .recount .ensures) (n .recount .kept .0) (s .swap .ensures) (s .swap .kept .0) _ (k .carry-mark .ensures) _ (r .relist .ensures .1 .1),
+        pool-sized _ _ _ _ _ _ (q .0 .0) (region-pool _ _ _ _ _ _ _ _ _ _ _ _ _ _ (p .0) (p .2) (q .0 .1) (q .1 .0) (r .relist .kept .0) (n .recount .ensures) (n .recount .kept .0) (s .swap .ensures) (s .swap .kept .0) _ (k .carry-mark .ensures)),
+        laid-sized _ _ _ _ _ _ _ _ (q .0 .0) (region-laid _ _ _ _ _ _ _ _ _ _ _ _ _ _ (p .0) (p .2) (q .0 .1) (q .1 .0) (r .relist .kept .0) (n .recount .ensures) (n .recount .kept .0) (s .swap .ensures) (s .swap .kept .0) _ (k .carry-mark .ensures) _) (q .1 .1),
+        q .0 .0,
       ),
     )
 

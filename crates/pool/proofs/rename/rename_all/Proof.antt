@@ -10,10 +10,11 @@ use Rattle.pool.proofs.rename.rename_all.Statement.{statement}
 use Rattle.pool.proofs.rename.rename_all.Tie as tie
 
 abbrev Inv-loop : tie.InvT-loop
-Inv-loop ws₀ m i n h o top old new q₀ ws q = (h ≤ q) × (q ≤ top) × (length ws ≡ length ws₀) × Sought m i n q old new ws₀ ws
+Inv-loop ws₀ m pair half names top q₀ ws q = (half .now ≤ q) × (q ≤ half .top) × (length ws ≡ length ws₀)
+    × Sought m (pair .absorbed) (pair .absorber) q (names .old) (names .new) ws₀ ws
 
 abbrev μ-loop : tie.MeasureT-loop
-μ-loop ws₀ m i n h o top old new q₀ ws q = top - q
+μ-loop ws₀ m pair half names top q₀ ws q = half .top - q
 
 loop-holds : tie.Need-loop-holds Inv-loop μ-loop
 loop-holds c = (search needs, search needs, search needs, search sought-none)
@@ -55,14 +56,14 @@ add-q-2 : tie.Need-add-q-2 Inv-loop μ-loop
 add-q-2 c = search needs
 
 loop-less : tie.Need-loop-less Inv-loop μ-loop
-loop-less c = let t = turn-below _ _ _ _ _ _ _ _ _ _ _ _ (c .before .before .before .before .before .before .before .before .before .before .before .pre .0) (c .before .before .before .before .before .before .before .before .before .loop .inv .3) (c .before .before .before .before .before .before .before .before .before .loop .inv .2) (c .before .before .before .before .before .before .before .before .before .loop .inv .0) (c .before .before .before .before .before .before .before .before .loop-test .taken) (c .before .before .before .before .before .place .ensures .0) (c .before .before .before .before .before .place .ensures .1) (c .before .before .before .before .if1 .left) in omega (arith, t)
+loop-less c = let t = turn-below _ _ _ _ _ _ _ _ _ _ _ _ (c .before .before .before .before .before .before .before .before .before .before .before .before .before .pre .0) (c .before .before .before .before .before .before .before .before .before .before .before .loop .inv .3) (c .before .before .before .before .before .before .before .before .before .before .before .loop .inv .2) (c .before .before .before .before .before .before .before .before .before .before .before .loop .inv .0) (c .before .before .before .before .before .before .before .before .before .before .loop-test .taken) (c .before .before .before .before .before .before .before .place .ensures .0) (c .before .before .before .before .before .before .before .place .ensures .1) (c .before .before .before .before .before .before .if1 .left) in omega (arith, t)
 
 loop-again : tie.Need-loop-again Inv-loop μ-loop
 loop-again c = (
   search needs,
-  omega (arith, turn-below _ _ _ _ _ _ _ _ _ _ _ _ (c .before .before .before .before .before .before .before .before .before .before .before .pre .0) (c .before .before .before .before .before .before .before .before .before .loop .inv .3) (c .before .before .before .before .before .before .before .before .before .loop .inv .2) (c .before .before .before .before .before .before .before .before .before .loop .inv .0) (c .before .before .before .before .before .before .before .before .loop-test .taken) (c .before .before .before .before .before .place .ensures .0) (c .before .before .before .before .before .place .ensures .1) (c .before .before .before .before .if1 .left)),
+  omega (arith, turn-below _ _ _ _ _ _ _ _ _ _ _ _ (c .before .before .before .before .before .before .before .before .before .before .before .before .before .pre .0) (c .before .before .before .before .before .before .before .before .before .before .before .loop .inv .3) (c .before .before .before .before .before .before .before .before .before .before .before .loop .inv .2) (c .before .before .before .before .before .before .before .before .before .before .before .loop .inv .0) (c .before .before .before .before .before .before .before .before .before .before .loop-test .taken) (c .before .before .before .before .before .before .before .place .ensures .0) (c .before .before .before .before .before .before .before .place .ensures .1) (c .before .before .before .before .before .before .if1 .left)),
   search needs,
-  turn-go _ _ _ _ _ _ _ _ _ _ _ _ (c .before .before .before .before .before .before .before .before .before .before .before .pre .0) (c .before .before .before .before .before .before .before .before .before .loop .inv .3) (c .before .before .before .before .before .before .before .before .before .loop .inv .2) (c .before .before .before .before .before .before .before .before .before .loop .inv .0) (c .before .before .before .before .before .before .before .before .loop-test .taken) (c .before .before .before .before .before .place .ensures .0) (c .before .before .before .before .before .place .ensures .1) (c .before .before .before .before .if1 .left) (c .before .before .before .before .before .before .before .before .before .before .before .pre .1) _ (c .before .before .rename-at .kept .0) (c .before .before .rename-at .ensures),
+  turn-go _ _ _ _ _ _ _ _ _ _ _ _ (c .before .before .before .before .before .before .before .before .before .before .before .before .before .pre .0) (c .before .before .before .before .before .before .before .before .before .before .before .loop .inv .3) (c .before .before .before .before .before .before .before .before .before .before .before .loop .inv .2) (c .before .before .before .before .before .before .before .before .before .before .before .loop .inv .0) (c .before .before .before .before .before .before .before .before .before .before .loop-test .taken) (c .before .before .before .before .before .before .before .place .ensures .0) (c .before .before .before .before .before .before .before .place .ensures .1) (c .before .before .before .before .before .before .if1 .left) (c .before .before .before .before .before .before .before .before .before .before .before .before .before .pre .1) _ (c .before .before .rename-at .kept .0) (c .before .before .rename-at .ensures),
 )
 
 same-length-2 : tie.Need-same-length-2 Inv-loop μ-loop

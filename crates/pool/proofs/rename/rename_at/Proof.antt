@@ -14,7 +14,7 @@ returns : tie.Need-returns
 returns c = search met-nobody
 
 rename-one-requires : tie.Need-rename-one-requires
-rename-one-requires c κs = (search needs, (search needs, search row-far))
+rename-one-requires c κs = (search needs, search needs, search row-far)
 
 same-length-2 : tie.Need-same-length-2
 same-length-2 c = search needs

@@ -17,7 +17,7 @@ end-of-requires : tie.Need-end-of-requires
 end-of-requires c κs = search needs
 
 replace-neighbour-requires : tie.Need-replace-neighbour-requires
-replace-neighbour-requires c κs = (search rename-order, rename-within _ _ _ _ _ (c .before .before .before .before .before .before .pre .0) (c .before .before .before .before .before .before .pre .1 .0) (c .before .before .before .before .before .before .pre .1 .1 .0) (c .before .before .before .before .before .before .pre .1 .1 .1) (c .before .before .before .start-of .ensures .0) (c .before .end-of .ensures .0))
+replace-neighbour-requires c κs = (search rename-order, rename-within _ _ _ _ _ (c .before .before .before .before .before .before .pre .0) (c .before .before .before .before .before .before .pre .1) (c .before .before .before .before .before .before .pre .2) (c .before .before .before .before .before .before .pre .3) (c .before .before .before .start-of .ensures .0) (c .before .end-of .ensures .0))
 
 same-length : tie.Need-same-length
 same-length c = search needs

@@ -20,7 +20,7 @@ shared-slice-read-r : tie.Need-shared-slice-read-r
 shared-slice-read-r c = search needs
 
 returns : tie.Need-returns
-returns c = added-none _ _ _ _ _ _ _ _ (S (c .before) .pre) (plain-zero _ (c .if1 .taken))
+returns c = added-none _ _ _ _ _ _ _ _ (S (c .before) .pre .0) (plain-zero _ (c .if1 .taken))
 
 is-border-requires : tie.Need-is-border-requires
 is-border-requires c κs = search needs
@@ -28,13 +28,14 @@ is-border-requires c κs = search needs
 returns-2 : tie.Need-returns-2
 returns-2 c = let b = c .before in
     let s = S (b .before .before) in
-    added-none _ _ _ _ _ _ _ _ (s .pre) (border-not (getD (now (s .args .ids)) (s .args .span .0) 0) _ (b .is-border .ensures) (c .if2 .taken))
+    added-none _ _ _ _ _ _ _ _ (s .pre .0) (border-not (getD (now (s .args .ids)) (s .args .span .0) 0) _ (b .is-border .ensures) (c .if2 .taken))
 
 count-span-requires : tie.Need-count-span-requires
 count-span-requires c κs = let f = c .before in
     let b = f .before in
     let e = b .before in
-    (S (e .before) .pre, region-yes _ _ (b .is-border .ensures) (e .if1 .left) (f .if2 .left))
+    let s = S (e .before) in
+    ((s .pre .0, region-yes _ _ (b .is-border .ensures) (e .if1 .left) (f .if2 .left)), s .pre .1)
 
 same-length : tie.Need-same-length
 same-length c = search needs

@@ -18,17 +18,18 @@ at-requires c κs = search needs
 add-cell-requires : tie.Need-add-cell-requires
 add-cell-requires c κs = let a = c .before in
     let p = S a .pre in
-    ((p .0 .keeping, p .0 .within), (a .at .ensures .0, p .1))
+    let w = p .0 .0 .within in
+    ((p .0 .0 .keeping, w), ((a .at .ensures .0, p .0 .1), λ k. rw (a .at .ensures .0) (p .1 k .took _ (w .lower) (w .upper) (p .0 .1))))
 
 add-contour-requires : tie.Need-add-contour-requires
 add-contour-requires c κs = let k = c .before .before .before in
     let a = A k in
     let p = S a .pre in
     let e = a .at .ensures .0 in (
-      reach-then _ _ _ _ _ _ _ _ (p .0) (p .1) _ e _ (k .add-cell .ensures),
+      reach-then _ _ _ _ _ _ _ _ (p .0 .0) (p .0 .1) _ e _ (k .add-cell .ensures),
       (
         k .add-cell .ensures .keeping,
-        (e, own-below _ _ _ _ _ _ _ _ (p .0) (p .1) _ e, own-some _ _ _ _ _ _ _ _ (p .0) (p .1) _ e),
+        (e, own-below _ _ _ _ _ _ _ _ (p .0 .0) (p .0 .1) _ e, own-some _ _ _ _ _ _ _ _ (p .0 .0) (p .0 .1) _ e),
       ),
     )
 
@@ -40,7 +41,7 @@ returns c = let d = c .before .before in
     let k = d .before .before .before .before in
     let a = A k in
     let p = S a .pre in
-    added-one _ _ _ _ _ _ _ _ (p .0) (p .1) _ (a .at .ensures .0) _ (k .add-cell .ensures) _ _ (d .add-contour .ensures)
+    added-one _ _ _ _ _ _ _ _ (p .0 .0) (p .0 .1) _ (a .at .ensures .0) _ (k .add-cell .ensures) _ _ (d .add-contour .ensures)
 
 pub count-span-spec : {M : Type 1} → statement M
 count-span-spec =

@@ -32,6 +32,9 @@ shared-slice-read-own c = (let p = S c .pre in omega (arith, p .inside, p .upper
 loop-holds : tie.Need-loop-holds Inv-loop μ-loop
 loop-holds c = (join-start _ _ _ _ _ _ (S c .pre), twins-start _ _ _ _ _)
 
+cast-t17 : tie.Need-cast-t17 Inv-loop μ-loop
+cast-t17 c = let p = S (c .before .before) .pre in omega (arith, p .few, c .loop-test .taken)
+
 at-requires : tie.Need-at-requires Inv-loop μ-loop
 at-requires c κs = let p = S (c .before .before) .pre in omega (arith, p .inside, p .spans, c .loop-test .taken)
 
@@ -81,6 +84,7 @@ join-spec =
     mul-own
     shared-slice-read-own
     loop-holds
+    cast-t17
     at-requires
     met-requires
     join-one-requires

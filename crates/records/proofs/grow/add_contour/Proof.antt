@@ -4,7 +4,7 @@ use mathlib.Core.Path.{_≡_, _∙_}
 use lib.ListN.{length-set}
 use denote.Ref.{now}
 use Rattle.table.specs.View.{startOf, endOf}
-use Rattle.records.specs.Map.{listsAt}
+use Rattle.table.specs.Map.{listsAt}
 use Rattle.records.proofs.RowLaws.{list-parts}
 use Rattle.records.proofs.ContourLaws.{contour-there, none-after, area-keeping, area-tracing, contour-taken}
 use native.Mathlib.Omega.{arith}

@@ -22,6 +22,12 @@ records-end-requires c κs =
     let n = few _ _ _ _ _ _ (now (s .args .dist)) _ _ (admitted-by _ (now (s .args .dist)) _ (now (s .args .ws)) (now (s .args .trail)) (s .pre .0)) in
     (omega (arith, n), n)
 
+cast-grow-regions : tie.Need-cast-grow-regions
+cast-grow-regions c =
+    let s = c .before .before .before .before .before .before .before .before .before .before in
+    let n = few _ _ _ _ _ _ (now (s .args .dist)) _ _ (admitted-by _ (now (s .args .dist)) _ (now (s .args .ws)) (now (s .args .trail)) (s .pre .0)) in
+    omega (arith, n, s .pre .1)
+
 grow-regions-requires : tie.Need-grow-regions-requires
 grow-regions-requires c κs = (let s = c .before .before .before .before .before .before .before .before .before .before in admitted-by _ _ _ (now (s .args .ws)) (now (s .args .trail)) (s .pre .0), c .before .before .records-end .ensures)
 
@@ -78,6 +84,7 @@ explain-found-spec =
     (tie.spec
     add-records-end
     records-end-requires
+    cast-grow-regions
     grow-regions-requires
     wipe-requires
     refused-requires

@@ -5,7 +5,7 @@ use Prim.Native.Nat.{ℕ, _<_}
 use mathlib.Core.Path.{_≡_}
 use lib.ListN.{length, getD}
 use denote.Ref.{now}
-use Rattle.watershed.proofs.GrownLaws.{sized, story-small}
+use Rattle.watershed.proofs.GrownLaws.{sized}
 use Rattle.watershed.proofs.ExplainLaws.{no-room-told, tells-not-walkable, tells-painted, tells-never-reached, not-walkable-at, painted-at, never-reached-at}
 use Rattle.watershed.proofs.explain.explain_grown.Statement.{statement}
 use Rattle.watershed.proofs.explain.explain_grown.Tie as tie
@@ -33,7 +33,7 @@ clear-requires : tie.Need-clear-requires
 clear-requires c κs = search needs
 
 without-room-requires : tie.Need-without-room-requires
-without-room-requires c κs = let k = c .before .before .before .before .before .before .before .before .before .before .before in story-small _ _ _ _ _ _ _ _ _ _ _ _ _ _ _ (S k .pre) (bytes k)
+without-room-requires c κs = search needs
 
 same-length : tie.Need-same-length
 same-length c = search needs
@@ -51,7 +51,7 @@ sub-without-room : tie.Need-sub-without-room
 sub-without-room c = search needs
 
 without-room-requires-2 : tie.Need-without-room-requires-2
-without-room-requires-2 c κs = let k = c .before .before .before .before .before .before .before .before .before .before .before .before .before .before in story-small _ _ _ _ _ _ _ _ _ _ _ _ _ _ _ (S k .pre) (bytes k)
+without-room-requires-2 c κs = search needs
 
 same-length-2 : tie.Need-same-length-2
 same-length-2 c = search needs
@@ -67,7 +67,7 @@ clear-requires-3 : tie.Need-clear-requires-3
 clear-requires-3 c κs = search needs
 
 without-room-requires-3 : tie.Need-without-room-requires-3
-without-room-requires-3 c κs = let k = c .before .before .before .before .before .before .before .before .before .before .before .before .before .before in story-small _ _ _ _ _ _ _ _ _ _ _ _ _ _ _ (S k .pre) (bytes k)
+without-room-requires-3 c κs = search needs
 
 same-length-3 : tie.Need-same-length-3
 same-length-3 c = search needs

@@ -8,7 +8,7 @@ use lib.ListN.{length, getD}
 use denote.Ref.{now}
 use Rattle.rules.specs.Reasons.{Story, trail}
 use Rattle.trail.specs.Noted.{mergingsFrom}
-use Rattle.watershed.proofs.GrownLaws.{can-ready-part, short, sized, past-room, part-given, part-blank, part-fits, part-ready, id-below, group-small, story-small, told-id, told-group, told-trail, told-number, noted-room, laid-room}
+use Rattle.watershed.proofs.GrownLaws.{can-ready-part, short, sized, past-room, part-given, part-blank, part-fits, part-ready, id-below, group-small, told-id, told-group, told-trail, told-number, noted-room, laid-room}
 use Rattle.watershed.proofs.ExplainLaws.{no-room-told, room-told, tells-filtered-out, filtered-out-at, has-room-at}
 use Rattle.watershed.proofs.explain.explain_region.Statement.{statement}
 use Rattle.watershed.proofs.explain.explain_region.Tie as tie
@@ -69,7 +69,7 @@ cast-without-room c =
     omega (arith, group-small _ _ _ _ _ _ _ _ _ _ _ _ _ _ _ (S k .pre .0) (bytes k) _ refl _ (r .ready-records .kept .0) (r .ready-records .ensures) _ (b .build-in .kept .1 .1 .1 .1 .1 .1 .1 .0) (b .build-in .ensures) _ _ _ _ _ _ _ _ refl (m .merge-and-filter-told .ensures), S k .fits .min-region-area)
 
 without-room-requires : tie.Need-without-room-requires
-without-room-requires c κs = let k = c .before .before .before .before .before .before .before .before .before .before .before .before .before .before .before .before .before .before .before .before .before .before .before .before .before .before .before .before in story-small _ _ _ _ _ _ _ _ _ _ _ _ _ _ _ (S k .pre .0) (bytes k)
+without-room-requires c κs = search needs
 
 same-length : tie.Need-same-length
 same-length c =
@@ -125,7 +125,7 @@ in-room-requires c κs =
     let r = b .before .before .before .before .before in
     let k = r .before .before .before .before .before .before .before in
     let z = c .before .before .before .before .before .before .before .before .before .if1 .left in
-    (story-small _ _ _ _ _ _ _ _ _ _ _ _ _ _ _ (S k .pre .0) (bytes k), omega (arith, c .before .before .lay-trail .ensures .0, laid-room _ _ _ _ _ _ _ _ _ _ _ _ _ _ _ (S k .pre .0) (bytes k) _ refl _ (r .ready-records .kept .0) (r .ready-records .ensures) _ (b .build-in .kept .1 .1 .1 .1 .1 .1 .1 .0) (b .build-in .ensures) _ _ _ _ _ _ _ _ refl (m .merge-and-filter-told .ensures) z, short _ _ _ _ _ _ _ _ _ _ _ _ _ _ _ (S k .pre .0) (bytes k)))
+    omega (arith, c .before .before .lay-trail .ensures .0, laid-room _ _ _ _ _ _ _ _ _ _ _ _ _ _ _ (S k .pre .0) (bytes k) _ refl _ (r .ready-records .kept .0) (r .ready-records .ensures) _ (b .build-in .kept .1 .1 .1 .1 .1 .1 .1 .0) (b .build-in .ensures) _ _ _ _ _ _ _ _ refl (m .merge-and-filter-told .ensures) z, short _ _ _ _ _ _ _ _ _ _ _ _ _ _ _ (S k .pre .0) (bytes k))
 
 same-length-3 : tie.Need-same-length-3
 same-length-3 c =

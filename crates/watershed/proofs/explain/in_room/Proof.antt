@@ -11,9 +11,6 @@ with-room-requires c κs = search needs
 returns : tie.Need-returns
 returns c = λ n t e. c .with-room .ensures _ ∙ tells-flooded n _ _ _ _ _ t e (c .before .if1 .taken)
 
-cast-with-room : tie.Need-cast-with-room
-cast-with-room c = search needs
-
 with-room-requires-2 : tie.Need-with-room-requires-2
 with-room-requires-2 c κs = search needs
 
@@ -22,4 +19,4 @@ returns-2 c = λ n t e. c .with-room2 .ensures _ ∙ tells-expanded n _ _ _ _ _ 
 
 pub in-room-spec : {M : Type 1} → statement M
 in-room-spec =
-    tie.close (tie.spec with-room-requires returns cast-with-room with-room-requires-2 returns-2)
+    tie.close (tie.spec with-room-requires returns with-room-requires-2 returns-2)

@@ -1,4 +1,4 @@
--- Each number is the rule's; the story's spans fit 16 bits. Assumes nothing.
+-- Each number is the rule's. Assumes nothing.
 use borrow.Author.Needs.{needs}
 use mathlib.Core.Path.{refl}
 use Rattle.watershed.specs.Explain.{withRoom}
@@ -8,12 +8,9 @@ use Rattle.watershed.proofs.explain.with_room.Tie as tie
 cast-t7 : tie.Need-cast-t7
 cast-t7 c = search needs
 
-cast-t8 : tie.Need-cast-t8
-cast-t8 c = search needs
-
 returns : tie.Need-returns
 unfolding withRoom
 returns c = λ l. refl
 
 pub with-room-spec : {M : Type 1} → statement M
-with-room-spec = tie.close (tie.spec cast-t7 cast-t8 returns)
+with-room-spec = tie.close (tie.spec cast-t7 returns)

@@ -101,7 +101,10 @@ fn least_at(w: usize, index: &[u32], con: &[u8], raw: &[u16], p: Place) -> u16
     side(w, index, con, raw, cons, p, 2, 1, best)
 }
 
-// The same. A value of at most 2 can't become less, since at least 2 is added to each other.
+// A value of at most this can't become less, since at least 2 is added to each other.
+const SETTLED: u16 = 2;
+
+// The same, where the value is not settled yet.
 fn lowered(w: usize, index: &[u32], con: &[u8], raw: &[u16], p: Place) -> u16
     requires { ⌜ Room w (now index) (now con) (now raw) (p .cell) (p .span .0) 2 1 × Room w (now index) (now con) (now raw) (p .cell) (p .span .0) 1 0 ⌝ }
     ensures { λ r. ⌜ ((F : Field) → Spot F w (now (index .entry)) (now (con .entry)) (p .cell) (p .span .0)
@@ -109,7 +112,7 @@ fn lowered(w: usize, index: &[u32], con: &[u8], raw: &[u16], p: Place) -> u16
 {
     let i = p.span.0;
     let own = raw[i];
-    if own <= 2 {
+    if own <= SETTLED {
         return own;
     }
     least_at(w, index, con, raw, p)
@@ -441,7 +444,7 @@ fn unsettled(raw: &[u16], s: usize) -> usize
 {
     let mut k = s;
     while 0 < k {
-        if 2 < raw[k - 1] {
+        if SETTLED < raw[k - 1] {
             return k;
         }
         k -= 1;
@@ -469,7 +472,7 @@ pub fn pass2(
     let mut s = area.len();
     while 0 < s {
         s -= 1;
-        if raw[s] <= 2 {
+        if raw[s] <= SETTLED {
             s = unsettled(raw, s);
             continue;
         }

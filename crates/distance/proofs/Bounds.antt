@@ -7,7 +7,7 @@ use native.Mathlib.Nat.{mod-lt, mul-suc, mul-comm}
 use native.Mathlib.Numerals.{add-one}
 use native.Mathlib.Decide.{decLt, ℕ-discrete}
 use mathlib.Core.Path.{_≡_, refl, sym, ap, _∙_}
-use mathlib.Core.Bool.{Bool, true}
+use mathlib.Core.Bool.{Bool, true, false}
 use mathlib.Core.List.{List}
 use lib.ListN.{length, getD, set, length-set}
 use lib.Arith.{digits-mod}
@@ -20,12 +20,15 @@ use Rattle.laws.proofs.Basics.{getD-set-at, getD-any}
 use Rattle.laws.proofs.Cells.{near-none, before, cellOf-in}
 use Rattle.laws.proofs.Passes.{wide-pos, mod-pred, start-edge, start-at}
 use Rattle.laws.proofs.Rows.{from-start}
-use Rattle.field.specs.Lent.{Stands, Reached, Spot, lent}
+use Rattle.field.specs.Lent.{Stands, Reached, Spot, consAt, lent}
 use Rattle.field.specs.Blocks.{emptyBlock}
 use Rattle.field.proofs.Blocks.{block-none}
 use Rattle.field.proofs.Places.{cell-is, sum-is, stands-in, reaches, layer-spot}
 use Rattle.field.proofs.Loops.{upto-go}
-use Rattle.distance.specs.Value.{side, leastFrom, least, LowBefore, Passing, PassedTo, Low, Room}
+use Rattle.distance.specs.Walk.{spansUp}
+use Rattle.distance.specs.Value.{ringed, side, leastFrom, least, LowBefore, Passing, PassedTo, Low, Room}
+use Rattle.distance.proofs.Walks.{run-go}
+use Rattle.distance.proofs.Sides.{from-edge}
 use Rattle.distance.proofs.Earlier.{inner, before-0, before-03, before-3, before-32, earlier}
 
 pub low-before : (F : Field) (c : ℕ) (l : List ℕ) → Low F l → LowBefore F c l
@@ -158,8 +161,13 @@ module _ (F : Field) (ok : Reached F) where
     pub flat-up : Room (F .w) (F .index) (F .con) l c s 3 2
     flat-up = record { F = F; spot = here; size = b .size; first = λ i. flat-low _ i (earlier F ok s (v .span) .third i); second = λ i. flat-low _ i (earlier F ok s (v .span) .fourth i) }
 
-    pub flat-start : (k : List ℕ) (n : ℕ) → l ≡ upto s (fromStart F) k → n ≡ leastFrom F (startAt F s) 0 3 3 2 s l → set l s n ≡ upto (s + 1) (fromStart F) k
-    flat-start k n e g = upto-go (fromStart F) s k l (set l s n) e (ap (set l s) g ∙ start-is F ok s l (b .size) (v .span))
+    flat-is : (n : ℕ) → n ≡ leastFrom F (startAt F s) 0 3 3 2 s l → set l s n ≡ fromStart F s l
+    flat-is n g = ap (set l s) g ∙ start-is F ok s l (b .size) (v .span)
+
+    -- one more in a run from a on
+    pub flat-run : (a : ℕ) (k : List ℕ) (n : ℕ) → a ≤ s → l ≡ spansUp (fromStart F) a (s - a) k → n ≡ leastFrom F (startAt F s) 0 3 3 2 s l
+        → set l s n ≡ spansUp (fromStart F) a (s + 1 - a) k
+    flat-run a k n h e g = run-go (fromStart F) a s k l (set l s n) h e (flat-is n g)
 
   pub flat-first : (l : List ℕ) → length l ≡ spans F → PassedTo F 0 l
   flat-first l n = record { size = n; low = λ t h. absurd (omega arith) }
@@ -223,6 +231,22 @@ module _ (F : Field) (ok : Reached F) (c s : ℕ) (l : List ℕ) (b : Low F l) (
 
     pub down-next : set l s x ≡ lower F 2 1 1 0 s l
     down-next = ap (set l s) (n F at-spot) ∙ lower-is F 2 1 1 0 s l
+
+-- a run of spans that lack a neighbour, at span k
+module _ (w h : ℕ) (is ks ar cs l : List ℕ) (k : ℕ) (ok : Reached (lent w h is ks ar cs)) (b : PassedTo (lent w h is ks ar cs) k l) (i : k < length ar)
+    (cons : List ℕ) (q : cons ≡ consAt cs k) (r : Bool) (e : r ≡ ringed cons) (z : r ≡ false) (bytes : (j : ℕ) → getD ar j 0 < 256) where
+  edge-stands : Stands (lent w h is ks ar cs) (cellOf ks k) k
+  edge-stands = record { span = i; cell = refl }
+
+  edge-least : 0 ≡ leastFrom (lent w h is ks ar cs) (startAt (lent w h is ks ar cs) k) 0 3 3 2 k l
+  edge-least = from-edge w h is ks ar cs l (cellOf ks k) k ok edge-stands cons q r e z bytes
+
+  pub edge-run : (s : ℕ) (m : List ℕ) → s ≤ k → l ≡ spansUp (fromStart (lent w h is ks ar cs)) s (k - s) m
+      → set l k 0 ≡ spansUp (fromStart (lent w h is ks ar cs)) s (k + 1 - s) m
+  edge-run s m g f = flat-run (lent w h is ks ar cs) ok (cellOf ks k) k l b edge-stands s m 0 g f edge-least
+
+  pub edge-go : PassedTo (lent w h is ks ar cs) (k + 1) (set l k 0)
+  edge-go = flat-go (lent w h is ks ar cs) ok (cellOf ks k) k l b edge-stands bytes 0 edge-least
 
 module _ (w h : ℕ) (is ks ar cs : List ℕ) (c i k j : ℕ) (l : List ℕ) (ok : Reached (lent w h is ks ar cs)) (p : i ≡ getD is c 0) (q : k ≡ getD ks c 0) (g : j < k) where
   spot : Spot (lent w h is ks ar cs) w is cs c (i + j)

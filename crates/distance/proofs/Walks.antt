@@ -9,19 +9,20 @@ use mathlib.Core.Path.{_≡_, refl, sym, ap, _∙_}
 use mathlib.Core.Bool.{Bool, true}
 use mathlib.Core.List.{List}
 use lib.ListN.{length, getD, set}
-use lib.Seq.{getD-set-other}
-use Rattle.rules.specs.Base.{upto}
-use Rattle.rules.specs.Field.{Field, spans, cellOf}
-use Rattle.rules.specs.Distance.{lower, start, pass1, pass2, raw, blurAt, blur}
+use lib.Seq.{getD-set-other, set-getD}
+use borrow.Author.Tests.{lt-leb, le-leb, leb-true}
+use Rattle.rules.specs.Base.{if_then_else_, upto}
+use Rattle.rules.specs.Field.{Field, spans, near, cellOf}
+use Rattle.rules.specs.Distance.{far, leastOf, lower, start, pass1, pass2, raw, blurAt, blur}
 use Rattle.rules.specs.Rows.{overCell, downto, column, rowUp, rowDown, fromStart, blurTo, pass1Row, pass2Row, blurRow}
-use Rattle.laws.proofs.Basics.{upto-ind, upto-join, tab-at, length-tab}
+use Rattle.laws.proofs.Basics.{if-ind, upto-ind, upto-join, upto-ext, tab-at, length-tab, getD-any}
 use Rattle.laws.proofs.Rows.{downto-join, spans-upto, stored, pass1-from-start, pass2-from-last}
 use mir.Val.{Fits}
 use mir.Syntax.{w64}
 use Rattle.field.specs.Lent.{Stands, Reached, lent}
 use Rattle.field.specs.Blocks.{emptyBlock}
 use Rattle.field.proofs.Blocks.{block-none, upto-still, downto-still, still-cell}
-use Rattle.distance.specs.Walk.{columnsUp, columnsDown, cellsUp, noteCell, cellsOf}
+use Rattle.distance.specs.Walk.{columnsUp, columnsDown, cellsUp, spansUp, highTo, noteCell, cellsOf}
 use Rattle.field.proofs.Places.{stands-at}
 use Rattle.field.proofs.Loops.{upto-go, upto-end, product-small}
 use Rattle.distance.proofs.Earlier.{earlier, apart}
@@ -39,6 +40,85 @@ module _ {ℓ} {A : Type ℓ} where
   unfolding downto
   down-end f zero z t h e = sym e
   down-end f (suc c) z t h e = absurd (omega arith)
+
+-- ---------------------------------------------------------------- runs of spans
+
+-- a run from s on, up to span k: none yet, one more, and one run after another
+module _ (f : ℕ → List ℕ → List ℕ) where
+  pub run-first : (s : ℕ) (l : List ℕ) → l ≡ spansUp f s (s - s) l
+  unfolding spansUp upto
+  run-first s l = let e : s - s ≡ 0 = omega arith in rw e
+
+  pub run-go : (s k : ℕ) (l m n : List ℕ) → s ≤ k → m ≡ spansUp f s (k - s) l → n ≡ f k m → n ≡ spansUp f s (k + 1 - s) l
+  unfolding spansUp
+  run-go s k l m n h e g =
+      let q : k + 1 - s ≡ k - s + 1 = omega arith in
+      let p : k ≡ s + (k - s) = omega arith in
+      rw q (upto-go (λ j. f (s + j)) (k - s) l m n e (g ∙ ap (λ (i : ℕ). f i m) p))
+
+  pub run-join : (s a k : ℕ) (l m n : List ℕ) → s ≤ a → a ≤ k → m ≡ spansUp f s (a - s) l → n ≡ spansUp f a (k - a) m → n ≡ spansUp f s (k - s) l
+  unfolding spansUp
+  run-join s a k l m n h g e d =
+      let p : a - s + (k - a) ≡ k - s = omega arith in
+      d ∙ ap (upto (k - a) (λ j. f (a + j))) e
+      ∙ upto-ext (k - a) (λ j. f (a + j)) (λ j. f (s + (a - s + j))) (upto (a - s) (λ j. f (s + j)) l) (λ j x _. let q : a + j ≡ s + (a - s + j) = omega arith in ap (λ (i : ℕ). f i x) q)
+      ∙ sym (upto-join (a - s) (k - a) (λ j. f (s + j)) l) ∙ ap (λ (i : ℕ). upto i (λ j. f (s + j)) l) p
+
+  run-all : (k : ℕ) (l m : List ℕ) → m ≡ spansUp f 0 (k - 0) l → m ≡ upto k f l
+  unfolding spansUp
+  run-all k l m e =
+      let p : k - 0 ≡ k = omega arith in
+      e ∙ ap (λ (i : ℕ). upto i (λ j. f (0 + j)) l) p ∙ upto-ext k (λ j. f (0 + j)) f l (λ j x _. let q : 0 + j ≡ j = omega arith in ap (λ (i : ℕ). f i x) q)
+
+-- the values above 2: what is after the last of them stays in pass 2
+high-le : (l : List ℕ) (s : ℕ) → highTo l s ≤ s
+unfolding highTo
+high-le l zero = omega arith
+high-le l (suc s) = if-ind (λ r. r ≤ suc s) _ (λ _. omega (arith, high-le l s)) (λ _. omega arith)
+
+pub high-fits : (l : List ℕ) (n m s : ℕ) → s ≡ highTo l n → n ≤ m → s ≤ m
+high-fits l n m s e h = omega (arith, high-le l n)
+
+pub high-here : (l : List ℕ) (k : ℕ) → 0 < k → 2 < getD l (k - 1) 0 → k ≡ highTo l k
+unfolding highTo if_then_else_
+high-here l zero h g = absurd (omega arith)
+high-here l (suc k) h g = let q : suc k - 1 ≡ k = omega arith in rw (lt-leb (getD l k 0) 2 (rw q at g))
+
+pub high-go : (l : List ℕ) (k z : ℕ) → 0 < k → getD l (k - 1) 0 ≤ 2 → z ≡ highTo l k → z ≡ highTo l (k - 1)
+unfolding highTo if_then_else_
+high-go l zero z h g e = absurd (omega arith)
+high-go l (suc k) z h g e = let q : suc k - 1 ≡ k = omega arith in rw q (rw (le-leb (getD l k 0) 2 (rw q at g)) at e)
+
+pub high-none : (l : List ℕ) (k z : ℕ) → k ≤ 0 → z ≡ highTo l k → 0 ≡ z
+unfolding highTo
+high-none l zero z h e = sym e
+high-none l (suc k) z h e = absurd (omega arith)
+
+low-stays : (F : Field) (l : List ℕ) (s a b c e : ℕ) → s < length l → getD l s 0 ≤ 2 → lower F a b c e s l ≡ l
+unfolding lower leastOf
+low-stays F l s a b c e i h =
+    let f : far l s ≡ getD l s 0 = getD-any l s 65535 0 i in
+    let p = far l (near F s a) in
+    let q = far l (near F (near F s a) b) in
+    let r = far l (near F s c) in
+    let t = far l (near F (near F s c) e) in
+    let k : min (far l s) (min (min (p + 2) (q + 3)) (min (r + 2) (t + 3))) ≡ far l s = omega arith in
+    ap (set l s) k ∙ set-getD l s 65535
+
+-- one that is at most 2, and those before it up to the last above 2
+pub low-skip : (F : Field) (l z : List ℕ) (s : ℕ) → 0 < s → s ≤ length l → getD l (s - 1) 0 ≤ 2 → z ≡ downto s (lower F 2 1 1 0) l → z ≡ downto (s - 1) (lower F 2 1 1 0) l
+low-skip F l z s h i g e = down-go (lower F 2 1 1 0) s z l l h e (sym (low-stays F l (s - 1) 2 1 1 0 (omega arith) g))
+
+high-rest : (F : Field) (l : List ℕ) (s : ℕ) → s ≤ length l → downto s (lower F 2 1 1 0) l ≡ downto (highTo l s) (lower F 2 1 1 0) l
+unfolding highTo downto
+high-rest F l zero h = refl
+high-rest F l (suc s) h =
+    if-ind (λ r. downto s (lower F 2 1 1 0) (lower F 2 1 1 0 s l) ≡ downto r (lower F 2 1 1 0) l) _
+    (λ e. ap (downto s (lower F 2 1 1 0)) (low-stays F l s 2 1 1 0 (omega arith) (leb-true (getD l s 0) 2 e)) ∙ high-rest F l s (omega arith))
+    (λ _. refl)
+
+pub high-next : (F : Field) (l z : List ℕ) (s r : ℕ) → r ≡ highTo l s → s ≤ length l → z ≡ downto s (lower F 2 1 1 0) l → z ≡ downto r (lower F 2 1 1 0) l
+high-next F l z s r e h g = g ∙ high-rest F l s h ∙ ap (λ (i : ℕ). downto i (lower F 2 1 1 0) l) (sym e)
 
 -- ---------------------------------------------------------------- the turns of the loops
 
@@ -118,6 +198,18 @@ pub note-in : (w h : ℕ) (is ks ar cs : List ℕ) (c i k j : ℕ) (m : List ℕ
     → length m ≡ length ar → i + j < length m
 note-in w h is ks ar cs c i k j m ok p q g n = omega (arith, stands-at (lent w h is ks ar cs) (ok .celled) c i k j p q g .span)
 
+-- a cell of one span
+module _ (w h : ℕ) (is ks ar cs : List ℕ) (c i k : ℕ) (l : List ℕ) (ok : Reached (lent w h is ks ar cs)) (p : i ≡ getD is c 0) (q : k ≡ getD ks c 0) (z : k ≡ 1) where
+  pub note-one : set l i c ≡ overCell (lent w h is ks ar cs) (noteCell (lent w h is ks ar cs)) c l
+  unfolding upto
+  note-one =
+      let e : i ≡ i + 0 = omega arith in
+      cell-end (lent w h is ks ar cs) (noteCell (lent w h is ks ar cs)) c i k 1 l (set l i c) p q
+      (ap (λ (x : ℕ). set l x c) e ∙ note-go w h is ks ar cs c i k 0 l l ok p q (omega arith) refl) (omega arith) (omega arith)
+
+  pub note-one-in : length l ≡ length ar → i < length l
+  note-one-in n = omega (arith, note-in w h is ks ar cs c i k 0 l ok p q (omega arith) n)
+
 pub spread-end : (F : Field) (c n : ℕ) (l m : List ℕ) → Reached F → length l ≡ spans F → n ≡ F .w * F .h → m ≡ upto c (overCell F (noteCell F)) l → c ≤ n → n ≤ c → m ≡ cellsOf F
 unfolding cellsOf noteCell
 spread-end F c n l m ok e d a h g =
@@ -150,10 +242,12 @@ pub blur-row-end : (F : Field) (r : List ℕ) (y x : ℕ) (l m : List ℕ) → m
 unfolding blurRow
 blur-row-end F r y x l m e h g = row-end F (blurTo F r) y x l m e h g
 
-pub pass1-end : (F : Field) (s d : ℕ) (l m : List ℕ) → Reached F → length l ≡ spans F → m ≡ upto s (fromStart F) l → s ≤ spans F → d ≡ spans F → d ≤ s → m ≡ pass1 F (start F)
-pass1-end F s d l m ok n e h q f =
-    let g : spans F ≤ s = omega arith in
-    upto-end (fromStart F) (spans F) s l m e h g ∙ pass1-from-start F (earlier F ok) l n
+-- a run from the first span to a, and one from there on
+pub pass1-end : (F : Field) (a s d : ℕ) (k l m : List ℕ) → Reached F → length k ≡ spans F → l ≡ spansUp (fromStart F) 0 (a - 0) k
+    → a ≤ s → s ≤ d → m ≡ spansUp (fromStart F) a (s - a) l → d ≡ spans F → d ≤ s → m ≡ pass1 F (start F)
+pass1-end F a s d k l m ok n e h i g q f =
+    upto-end (fromStart F) (spans F) s k m (run-all (fromStart F) s k m (run-join (fromStart F) 0 a s k l m (omega arith) h e g)) (omega arith) (omega arith)
+    ∙ pass1-from-start F (earlier F ok) k n
 
 pub blur-end : (F : Field) (s d : ℕ) (l k m : List ℕ) → k ≡ cellsOf F → m ≡ upto s (blurTo F l) k → s ≤ spans F → d ≡ spans F → d ≤ s → m ≡ blur F l
 unfolding blur blurTo

@@ -1,11 +1,22 @@
 -- What a stage gives a span, and the bounds that keep every sum within 65,535.
 use Prim.Native.Nat.{ℕ, _+_, _*_, _-_, _%_, _≤_, _<_, min}
 use mathlib.Core.Path.{_≡_}
+use mathlib.Core.Bool.{Bool, true, false, not}
 use mathlib.Core.List.{List}
-use lib.ListN.{length}
+use lib.ListN.{length, getD}
+use lib.Dec.{eqb}
+use Rattle.rules.specs.Base.{every}
 use Rattle.rules.specs.Field.{Field, spans, near, cellOf}
 use Rattle.rules.specs.Distance.{far}
-use Rattle.field.specs.Lent.{Spot, Leaf}
+use Rattle.field.specs.Lent.{Spot, Leaf, consAt}
+
+-- a span with the connections cons has a neighbour in each direction
+unfoldable pub ringed : List ℕ → Bool
+ringed cons = every 4 (λ d. not (eqb (getD cons d 0) 255))
+
+-- each of four connections is none or a layer, of which a cell has at most 63
+pub record Layers (cons : List ℕ) : Type 0 where
+  pub low : (d : ℕ) → d < 4 → (getD cons d 0 ≡ 255 → ⊥) → getD cons d 0 < 128
 
 -- neighbour a plus 2 or its neighbour b plus 3, whichever is less
 unfoldable pub side : Field → List ℕ → ℕ → ℕ → ℕ → ℕ
@@ -23,6 +34,13 @@ least F a b c e s l = leastFrom F (far l s) a b c e s l
 pub record LowBefore (F : Field) (c : ℕ) (l : List ℕ) : Type 0 where
   pub size : length l ≡ spans F
   pub low : (t : ℕ) → t < spans F → cellOf (F .count) t < c → far l t ≤ 510
+
+-- of n spans, which have the connections con, span s is there and has four neighbours, or there is none more
+pub record Goes (n : ℕ) (con : List ℕ) (s : ℕ) (more : Bool) : Type 0 where
+  pub within : s ≤ n
+  pub there : more ≡ true → s < n
+  pub four : more ≡ true → ringed (consAt con s) ≡ true
+  pub last : more ≡ false → n ≤ s
 
 -- pass 1 has gone through the rows before y, and through the columns before x of row y, whose spans hold at most twice their column
 pub record Passing (F : Field) (y x : ℕ) (l : List ℕ) : Type 0 where

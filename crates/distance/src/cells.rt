@@ -10,7 +10,7 @@ ghost use Rattle.field.specs.Lent.{lent, Reached};
 ghost use Rattle.rules.specs.Rows.{overCell};
 ghost use Rattle.distance.specs.Walk.{noteCell, cellsUp, cellsOf};
 
-// For the spans of cell c.
+// For the spans of cell c. Most have one, for which a loop sets up more than it does.
 fn spread_cell(
     w: usize,
     h: usize,
@@ -28,6 +28,10 @@ fn spread_cell(
 {
     let i = at32(index, c);
     let k = at8(count, c);
+    if k == 1 {
+        cells[i] = c as u16;
+        return;
+    }
     for j in 0..k {
         cells[i + j] = c as u16;
     }

@@ -1,6 +1,7 @@
 // The start and the two passes: each span takes the least of itself and of what its neighbours on two sides hold, plus 2, or plus 3 at a corner.
 use crate::start::FARTHEST;
 use crate::start::start_span;
+use crate::start::surrounded;
 use field::block::block_of;
 use field::block::is_empty;
 use field::place::NO_LAYER;
@@ -12,14 +13,15 @@ use field::read::at8;
 use field::read::at16;
 use field::read::at32;
 ghost use mathlib.Core.Path.{_≡_};
-ghost use Prim.Native.Nat.{_+_, _*_, _<_, _≤_, min};
+ghost use mathlib.Core.Bool.{true};
+ghost use Prim.Native.Nat.{_+_, _*_, _-_, _<_, _≤_, min};
 ghost use lib.ListN.{length, getD};
 ghost use Rattle.rules.specs.Field.{Field};
 ghost use Rattle.rules.specs.Distance as rules;
 ghost use Rattle.field.specs.Lent.{lent, Reached, Stands, Spot, consAt};
 ghost use Rattle.rules.specs.Rows.{overCell, fromStart, pass1Row, pass2Row};
-ghost use Rattle.distance.specs.Value.{least, leastFrom, Passing, LowBefore, Low, Room};
-ghost use Rattle.distance.specs.Walk.{columnsUp, columnsDown, cellsOf};
+ghost use Rattle.distance.specs.Value.{least, leastFrom, ringed, Goes, Passing, PassedTo, LowBefore, Low, Room};
+ghost use Rattle.distance.specs.Walk.{columnsUp, columnsDown, spansUp, highTo, cellsOf};
 ghost use Rattle.distance.specs.Value as value;
 
 // The least of best and the value of span t plus n.
@@ -34,7 +36,36 @@ fn lower(raw: &[u16], t: usize, n: u16, best: u16) -> u16
     v
 }
 
-// The least of best, neighbour d plus 2, and its neighbour e plus 3, of the span at place p, whose connections are cons.
+// The least of best, neighbour d plus 2, and its neighbour e plus 3, of the span at place p, whose connections are cons; neighbour d is there.
+// It comes last: of all that a span reads, neighbour d may be the one that was written just before.
+fn beside(
+    w: usize,
+    index: &[u32],
+    con: &[u8],
+    raw: &[u16],
+    cons: [u8; 4],
+    p: Place,
+    d: usize,
+    e: usize,
+    best: u16,
+) -> u16
+    requires { ⌜ Room w (now index) (now con) (now raw) (p .cell) (p .span .0) d e × (cons ≡ consAt (now con) (p .span .0)) × (d < 4) × (e < 4) ⌝ }
+    requires { ⌜ (getD cons d 0 ≡ 255 → ⊥) ⌝ }
+    ensures { λ r. ⌜ ((F : Field) → Spot F w (now (index .entry)) (now (con .entry)) (p .cell) (p .span .0)
+        → r ≡ min best (value.side F (now (raw .entry)) (p .span .0) d e)) ⌝ }
+{
+    let q = follow(w, index, cons, p.cell, d);
+    let t = q.span;
+    let next = connections(con, t);
+    if next[e] == NO_LAYER {
+        return lower(raw, t.0, 2, best);
+    }
+    let k = follow(w, index, next, q.cell, e);
+    let b = lower(raw, k.span.0, 3, best);
+    lower(raw, t.0, 2, b)
+}
+
+// The same where neighbour d may be missing.
 fn side(
     w: usize,
     index: &[u32],
@@ -53,19 +84,11 @@ fn side(
     if cons[d] == NO_LAYER {
         return best;
     }
-    let q = follow(w, index, cons, p.cell, d);
-    let t = q.span;
-    let b = lower(raw, t.0, 2, best);
-    let next = connections(con, t);
-    if next[e] == NO_LAYER {
-        return b;
-    }
-    let k = follow(w, index, next, q.cell, e);
-    lower(raw, k.span.0, 3, b)
+    beside(w, index, con, raw, cons, p, d, e, best)
 }
 
-// What pass 2 gives the span at place p. A value of at most 2 can't become less, since at least 2 is added to each other.
-fn lowered(w: usize, index: &[u32], con: &[u8], raw: &[u16], p: Place) -> u16
+// What pass 2 gives the span at place p. The neighbour in the span's own row comes last, see beside.
+fn least_at(w: usize, index: &[u32], con: &[u8], raw: &[u16], p: Place) -> u16
     requires { ⌜ Room w (now index) (now con) (now raw) (p .cell) (p .span .0) 2 1 × Room w (now index) (now con) (now raw) (p .cell) (p .span .0) 1 0 ⌝ }
     ensures { λ r. ⌜ ((F : Field) → Spot F w (now (index .entry)) (now (con .entry)) (p .cell) (p .span .0)
         → r ≡ least F 2 1 1 0 (p .span .0) (now (raw .entry))) ⌝ }
@@ -73,15 +96,56 @@ fn lowered(w: usize, index: &[u32], con: &[u8], raw: &[u16], p: Place) -> u16
     let s = p.span;
     let i = p.span.0;
     let own = raw[i];
-    if own <= 2 {
-        return own;
-    }
     let cons = connections(con, s);
-    let best = side(w, index, con, raw, cons, p, 2, 1, own);
-    side(w, index, con, raw, cons, p, 1, 0, best)
+    let best = side(w, index, con, raw, cons, p, 1, 0, own);
+    side(w, index, con, raw, cons, p, 2, 1, best)
 }
 
-// What pass 1 gives the span at place p, from where it starts: a span that starts above 0 starts above all that its neighbours make of it.
+// A value of at most this can't become less, since at least 2 is added to each other.
+const SETTLED: u16 = 2;
+
+// The same, where the value is not settled yet.
+fn lowered(w: usize, index: &[u32], con: &[u8], raw: &[u16], p: Place) -> u16
+    requires { ⌜ Room w (now index) (now con) (now raw) (p .cell) (p .span .0) 2 1 × Room w (now index) (now con) (now raw) (p .cell) (p .span .0) 1 0 ⌝ }
+    ensures { λ r. ⌜ ((F : Field) → Spot F w (now (index .entry)) (now (con .entry)) (p .cell) (p .span .0)
+        → r ≡ least F 2 1 1 0 (p .span .0) (now (raw .entry))) ⌝ }
+{
+    let i = p.span.0;
+    let own = raw[i];
+    if own <= SETTLED {
+        return own;
+    }
+    least_at(w, index, con, raw, p)
+}
+
+// What pass 1 gives the span at place p, which has four neighbours: one that starts above 0 starts above all that its neighbours make of it.
+fn from_inside(
+    w: usize,
+    h: usize,
+    index: &[u32],
+    count: &[u8],
+    area: &[u8],
+    con: &[u8],
+    raw: &[u16],
+    p: Place,
+) -> u16
+    requires { ⌜ (let F = lent w h (now index) (now count) (now area) (now con) in
+        Reached F × Stands F (p .cell) (p .span .0)) ⌝ }
+    requires { ⌜ Room w (now index) (now con) (now raw) (p .cell) (p .span .0) 0 3 × Room w (now index) (now con) (now raw) (p .cell) (p .span .0) 3 2 ⌝ }
+    requires { ⌜ ringed (consAt (now con) (p .span .0)) ≡ true ⌝ }
+    ensures { λ r. ⌜ (let F = lent w h (now (index .entry)) (now (count .entry)) (now (area .entry)) (now (con .entry)) in
+        r ≡ leastFrom F (rules.startAt F (p .span .0)) 0 3 3 2 (p .span .0) (now (raw .entry))) ⌝ }
+{
+    let s = p.span;
+    let cons = connections(con, s);
+    if start_span(w, index, area, cons, p) == 0 {
+        return 0;
+    }
+    let best = beside(w, index, con, raw, cons, p, 3, 2, FARTHEST);
+    beside(w, index, con, raw, cons, p, 0, 3, best)
+}
+
+// The same for any span: one that lacks a neighbour starts at 0.
 fn from_start(
     w: usize,
     h: usize,
@@ -98,13 +162,12 @@ fn from_start(
     ensures { λ r. ⌜ (let F = lent w h (now (index .entry)) (now (count .entry)) (now (area .entry)) (now (con .entry)) in
         r ≡ leastFrom F (rules.startAt F (p .span .0)) 0 3 3 2 (p .span .0) (now (raw .entry))) ⌝ }
 {
-    if start_span(w, index, con, area, p) == 0 {
-        return 0;
-    }
     let s = p.span;
     let cons = connections(con, s);
-    let best = side(w, index, con, raw, cons, p, 0, 3, FARTHEST);
-    side(w, index, con, raw, cons, p, 3, 2, best)
+    if surrounded(cons) {
+        return from_inside(w, h, index, count, area, con, raw, p);
+    }
+    0
 }
 
 // The start and pass 1 over the spans of the cell in column x of row y.
@@ -208,7 +271,43 @@ pub fn pass1_row(
     }
 }
 
-// The start and pass 1 over all spans; cells has the cell of each.
+// Where a run of spans ends, and whether a span stands there. Both are told, so that who goes on from there need not ask again.
+struct Run {
+    at: usize,
+    more: bool,
+}
+
+// 0 for each span from s on that lacks a neighbour, up to the first that has four, or to the end.
+fn edges(
+    w: usize,
+    h: usize,
+    index: &[u32],
+    count: &[u8],
+    area: &[u8],
+    con: &[u8],
+    raw: &mut [u16],
+    s: usize,
+) -> Run
+    requires { ⌜ (let F = lent w h (now index) (now count) (now area) (now con) in
+        Reached F × (s ≤ length (now area)) × PassedTo F s (now raw)) ⌝ }
+    ensures { λ r. ⌜ (let F = lent w h (now (index .entry)) (now (count .entry)) (now (area .entry)) (now (con .entry)) in
+        (now (raw .exit) ≡ spansUp (fromStart F) s (r .at - s) (now (raw .entry))) × PassedTo F (r .at) (now (raw .exit)) × (s ≤ r .at)
+        × Goes (length (now (area .entry))) (now (con .entry)) (r .at) (r .more)) ⌝ }
+{
+    let mut k = s;
+    while k < area.len() {
+        let cons = connections(con, SpanIx(k));
+        if surrounded(cons) {
+            return Run { at: k, more: true };
+        }
+        raw[k] = 0;
+        k += 1;
+    }
+    Run { at: k, more: false }
+}
+
+// The start and pass 1 over all spans; cells has the cell of each. Spans that lack a neighbour have a loop of their own. As that stands within it, the loop here is
+// compiled so that the lesser of two values is chosen and not jumped to: where a cell has many layers, no processor foresees which of them is less.
 pub fn pass1(
     w: usize,
     h: usize,
@@ -224,12 +323,15 @@ pub fn pass1(
     ensures { λ _. ⌜ (let F = lent w h (now (index .entry)) (now (count .entry)) (now (area .entry)) (now (con .entry)) in
         (now (raw .exit) ≡ rules.pass1 F (rules.start F)) × Low F (now (raw .exit))) ⌝ }
 {
-    for s in 0..area.len() {
+    let mut r = edges(w, h, index, count, area, con, raw, 0);
+    while r.more {
+        let s = r.at;
         let p = Place {
             cell: at16(cells, s),
             span: SpanIx(s),
         };
-        raw[s] = from_start(w, h, index, count, area, con, raw, p);
+        raw[s] = from_inside(w, h, index, count, area, con, raw, p);
+        r = edges(w, h, index, count, area, con, raw, s + 1);
     }
 }
 
@@ -335,7 +437,23 @@ pub fn pass2_row(
     }
 }
 
+// As many of the first s values as there are up to the last above 2: those after it can't become less.
+fn unsettled(raw: &[u16], s: usize) -> usize
+    requires { ⌜ s ≤ length (now raw) ⌝ }
+    ensures { λ r. ⌜ r ≡ highTo (now (raw .entry)) s ⌝ }
+{
+    let mut k = s;
+    while 0 < k {
+        if SETTLED < raw[k - 1] {
+            return k;
+        }
+        k -= 1;
+    }
+    0
+}
+
 // Pass 2 over all spans from the last to the first; cells has the cell of each. A cell's layers do not read each other, so their order is free.
+// Those that can't become less have a loop of their own, as in pass 1.
 pub fn pass2(
     w: usize,
     h: usize,
@@ -354,10 +472,14 @@ pub fn pass2(
     let mut s = area.len();
     while 0 < s {
         s -= 1;
+        if raw[s] <= SETTLED {
+            s = unsettled(raw, s);
+            continue;
+        }
         let p = Place {
             cell: at16(cells, s),
             span: SpanIx(s),
         };
-        raw[s] = lowered(w, index, con, raw, p);
+        raw[s] = least_at(w, index, con, raw, p);
     }
 }

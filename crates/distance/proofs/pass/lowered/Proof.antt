@@ -1,6 +1,6 @@
--- `lowered` is the rule's least: itself, then one side, then the other; a value of at most 2 is the least at once.
+-- `lowered` is the rule's least: a value of at most 2 is the least at once.
 -- Assumes nothing.
-use Rattle.distance.proofs.Sides.{room-con, room-in, least-low, least-is}
+use Rattle.distance.proofs.Sides.{room-in, least-low}
 use borrow.Author.Needs.{needs}
 use Rattle.distance.proofs.pass.lowered.Statement.{statement}
 use Rattle.distance.proofs.pass.lowered.Tie as tie
@@ -14,17 +14,12 @@ shared-slice-read-own c = search (needs, room-in)
 returns : tie.Need-returns
 returns c = search (needs, least-low)
 
-connections-requires : tie.Need-connections-requires
-connections-requires c κs = search (needs, room-con)
-
-side-requires : tie.Need-side-requires
-side-requires c κs = search needs
-
-side-requires-2 : tie.Need-side-requires-2
-side-requires-2 c κs = search needs
+least-at-requires : tie.Need-least-at-requires
+least-at-requires c κs = search needs
 
 returns-2 : tie.Need-returns-2
-returns-2 c = least-is _ _ _ _ _ _ _ _ _ _ _ _ (c .before .before .before .before .before .before .before .before .before .pre .0) (c .before .side .ensures) (c .side2 .ensures)
+returns-2 c = search needs
 
 pub lowered-spec : {M : Type 1} → statement M
-lowered-spec = tie.close (tie.spec mul-own shared-slice-read-own returns connections-requires side-requires side-requires-2 returns-2)
+lowered-spec =
+    tie.close (tie.spec mul-own shared-slice-read-own returns least-at-requires returns-2)

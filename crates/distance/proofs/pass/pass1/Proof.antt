@@ -1,55 +1,66 @@
--- Invariant: pass 1 has gone through the spans below s, each of which came to at most twice its column, that is 510.
--- What a span reads is earlier in the order of spans. Assumes nothing.
+-- Invariant: pass 1 has gone through the spans below r .at, the first of them before the loop, each of which came to at most twice its column, that is 510; the span
+-- there, if there is one, has four neighbours. What a span reads is earlier in the order of spans. Assumes nothing.
 use Prim.Native.Nat.{_≤_, _-_}
-use mathlib.Core.Path.{_≡_}
+use native.Mathlib.Omega.{arith}
+use mathlib.Core.Path.{_≡_, refl}
 use lib.ListN.{length}
-use Rattle.rules.specs.Base.{upto}
 use Rattle.rules.specs.Rows.{fromStart}
 use Rattle.field.specs.Lent.{lent}
-use Rattle.distance.specs.Value.{PassedTo}
-use Rattle.distance.proofs.Walks.{cell-stands, cells-sized, pass1-end}
-use Rattle.distance.proofs.Bounds.{flat-first, flat-left, flat-up, flat-start, flat-go, flat-last}
+use Rattle.distance.specs.Value.{Goes, PassedTo}
+use Rattle.distance.specs.Walk.{spansUp}
+use Rattle.distance.proofs.Walks.{cell-stands, cells-sized, run-first, run-join, pass1-end}
+use Rattle.distance.proofs.Bounds.{flat-first, flat-left, flat-up, flat-run, flat-go, flat-last}
 use borrow.Author.Needs.{needs}
-use native.Mathlib.Omega.{arith}
 use Rattle.distance.proofs.pass.pass1.Statement.{statement}
 use Rattle.distance.proofs.pass.pass1.Tie as tie
 
 abbrev Inv-loop : tie.InvT-loop
-Inv-loop w h index count area con raw₀ cells s₀ s-end raw s = (s ≤ length area) × (s-end ≡ length area) × (raw ≡ upto s (fromStart (lent w h index count area con)) raw₀) × PassedTo (lent w h index count area con) s raw
+Inv-loop w h index count area con raw₀ cells r₀ raw r = (r₀ .at ≤ r .at) × (raw ≡ spansUp (fromStart (lent w h index count area con)) (r₀ .at) (r .at - r₀ .at) raw₀) × PassedTo (lent w h index count area con) (r .at) raw × Goes (length area) con (r .at) (r .more)
 
 abbrev μ-loop : tie.MeasureT-loop
-μ-loop w h index count area con raw₀ cells s₀ s-end raw s = length area - s
+μ-loop w h index count area con raw₀ cells r₀ raw r = length area - r .at
+
+edges-requires : tie.Need-edges-requires Inv-loop μ-loop
+edges-requires c κs = (search needs, search needs, search (needs, flat-first))
 
 loop-holds : tie.Need-loop-holds Inv-loop μ-loop
-unfolding upto
-loop-holds c = (search needs, search needs, search needs, search (needs, flat-first))
+loop-holds c = (search needs, run-first _ _ _, search needs, search needs)
 
 at16-requires : tie.Need-at16-requires Inv-loop μ-loop
-at16-requires c κs = let n = cells-sized _ _ (c .before .before .before .before .before .before .before .before .pre .2) in search needs
+at16-requires c κs = let n = cells-sized _ _ (c .before .before .before .before .before .before .before .before .before .before .before .before .pre .2) in
+    omega (arith, n, c .before .loop .inv .3 .there (c .loop-test .taken))
 
-from-start-requires : tie.Need-from-start-requires Inv-loop μ-loop
-from-start-requires c κs = ((search needs, (cell-stands _ _ _ _ _ (c .before .before .before .before .before .before .before .before .before .before .pre .2) (c .before .before .loop-test .taken) (c .before .before .before .loop .inv .1) (c .before .at16 .ensures .0))), (flat-left _ (c .before .before .before .before .before .before .before .before .before .before .pre .0) _ _ _ (c .before .before .before .loop .inv .3) (cell-stands _ _ _ _ _ (c .before .before .before .before .before .before .before .before .before .before .pre .2) (c .before .before .loop-test .taken) (c .before .before .before .loop .inv .1) (c .before .at16 .ensures .0)), flat-up _ (c .before .before .before .before .before .before .before .before .before .before .pre .0) _ _ _ (c .before .before .before .loop .inv .3) (cell-stands _ _ _ _ _ (c .before .before .before .before .before .before .before .before .before .before .pre .2) (c .before .before .loop-test .taken) (c .before .before .before .loop .inv .1) (c .before .at16 .ensures .0))))
+from-inside-requires : tie.Need-from-inside-requires Inv-loop μ-loop
+from-inside-requires c κs = let st = cell-stands _ _ _ _ _ (c .before .before .before .before .before .before .before .before .before .before .before .before .before .before .pre .2) (c .before .before .before .loop .inv .3 .there (c .before .before .loop-test .taken)) refl (c .before .at16 .ensures .0) in
+    ((search needs, st), ((flat-left _ (c .before .before .before .before .before .before .before .before .before .before .before .before .before .before .pre .0) _ _ _ (c .before .before .before .loop .inv .2) st, flat-up _ (c .before .before .before .before .before .before .before .before .before .before .before .before .before .before .pre .0) _ _ _ (c .before .before .before .loop .inv .2) st), c .before .before .before .loop .inv .3 .four (c .before .before .loop-test .taken)))
 
 mul-raw : tie.Need-mul-raw Inv-loop μ-loop
 mul-raw c = search needs
 
 slice-write-raw : tie.Need-slice-write-raw Inv-loop μ-loop
-slice-write-raw c = search needs
+slice-write-raw c = omega (arith, c .before .before .before .before .loop .inv .2 .size, c .before .before .before .before .loop .inv .3 .there (c .before .before .before .loop-test .taken))
 
-add-s : tie.Need-add-s Inv-loop μ-loop
-add-s c = search needs
+add-edges : tie.Need-add-edges Inv-loop μ-loop
+add-edges c = search needs
+
+edges-requires-2 : tie.Need-edges-requires-2 Inv-loop μ-loop
+edges-requires-2 c κs = let st = cell-stands _ _ _ _ _ (c .before .before .before .before .before .before .before .before .before .before .before .before .before .before .before .before .pre .2) (c .before .before .before .before .before .loop .inv .3 .there (c .before .before .before .before .loop-test .taken)) refl (c .before .before .before .at16 .ensures .0) in
+    (search needs, omega (arith, st .span), flat-go _ (c .before .before .before .before .before .before .before .before .before .before .before .before .before .before .before .before .pre .0) _ _ _ (c .before .before .before .before .before .loop .inv .2) st (λ i. omega (arith, c .before .before .before .before .before .before .before .before .before .before .before .before .before .shared-slice-known3 .given i)) _ (c .before .from-inside .ensures))
 
 loop-less : tie.Need-loop-less Inv-loop μ-loop
 loop-less c = search needs
 
 loop-again : tie.Need-loop-again Inv-loop μ-loop
-loop-again c = (search needs, search needs, flat-start _ (c .before .before .before .before .before .before .before .before .before .before .before .pre .0) _ _ _ (c .before .before .before .before .loop .inv .3) (cell-stands _ _ _ _ _ (c .before .before .before .before .before .before .before .before .before .before .before .pre .2) (c .before .before .before .loop-test .taken) (c .before .before .before .before .loop .inv .1) (c .before .before .at16 .ensures .0)) _ _ (c .before .before .before .before .loop .inv .2) (c .from-start .ensures), flat-go _ (c .before .before .before .before .before .before .before .before .before .before .before .pre .0) _ _ _ (c .before .before .before .before .loop .inv .3) (cell-stands _ _ _ _ _ (c .before .before .before .before .before .before .before .before .before .before .before .pre .2) (c .before .before .before .loop-test .taken) (c .before .before .before .before .loop .inv .1) (c .before .before .at16 .ensures .0)) (λ r. omega (arith, c .before .before .before .before .before .before .before .before .shared-slice-known3 .given r)) _ (c .from-start .ensures))
+loop-again c = let st = cell-stands _ _ _ _ _ (c .before .before .before .before .before .before .before .before .before .before .before .before .before .before .before .before .before .before .before .pre .2) (c .before .before .before .before .before .before .before .before .loop .inv .3 .there (c .before .before .before .before .before .before .before .loop-test .taken)) refl (c .before .before .before .before .before .before .at16 .ensures .0) in
+    let one = flat-run _ (c .before .before .before .before .before .before .before .before .before .before .before .before .before .before .before .before .before .before .before .pre .0) _ _ _ (c .before .before .before .before .before .before .before .before .loop .inv .2) st _ _ _ (c .before .before .before .before .before .before .before .before .loop .inv .0) (c .before .before .before .before .before .before .before .before .loop .inv .1) (c .before .before .before .before .from-inside .ensures) in
+    (omega (arith, c .before .before .before .before .before .before .before .before .loop .inv .0, c .before .before .edges2 .ensures .2), run-join _ _ _ _ _ _ _ (omega (arith, c .before .before .before .before .before .before .before .before .loop .inv .0)) (c .before .before .edges2 .ensures .2) one (c .before .before .edges2 .ensures .0), search needs, search needs)
 
 same-length : tie.Need-same-length Inv-loop μ-loop
 same-length c = search needs
 
 returns : tie.Need-returns Inv-loop μ-loop
-returns c = (search (needs, pass1-end), search (needs, flat-last))
+returns c = let f = c .before .loop .inv .3 .last (c .loop-test .left) in
+    (pass1-end _ _ _ _ _ _ _ (c .before .before .before .before .before .before .before .before .before .before .before .before .pre .0) (c .before .before .before .before .before .before .before .before .before .before .before .before .pre .1) (c .before .before .before .before .edges .ensures .0) (c .before .loop .inv .0) (c .before .loop .inv .3 .within) (c .before .loop .inv .1) refl f, flat-last _ (c .before .before .before .before .before .before .before .before .before .before .before .before .pre .0) _ _ _ refl f (c .before .loop .inv .2))
 
 pub pass1-spec : {M : Type 1} → statement M
 pass1-spec =
@@ -57,12 +68,14 @@ pass1-spec =
     (tie.spec
     Inv-loop
     μ-loop
+    edges-requires
     loop-holds
     at16-requires
-    from-start-requires
+    from-inside-requires
     mul-raw
     slice-write-raw
-    add-s
+    add-edges
+    edges-requires-2
     loop-less
     loop-again
     same-length

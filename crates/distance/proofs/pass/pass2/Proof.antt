@@ -1,13 +1,15 @@
--- Invariant: the pass as a whole equals the s spans that are to go, done to the list as it is. A turn does the last of them.
+-- Invariant: the pass as a whole equals the s spans that are to go, done to the list as it is. A turn does the last of them, or passes over those that stay.
 -- It only lowers, so every value stays at most 510. Assumes nothing.
 use Prim.Native.Nat.{_≤_}
+use native.Mathlib.Nat.{le-refl}
+use native.Mathlib.Omega.{arith}
 use mathlib.Core.Path.{_≡_}
 use lib.ListN.{length}
 use Rattle.rules.specs.Distance.{lower}
 use Rattle.rules.specs.Rows.{downto}
 use Rattle.field.specs.Lent.{lent}
 use Rattle.distance.specs.Value.{Low}
-use Rattle.distance.proofs.Walks.{down-go, last-stands, cells-sized, pass2-end}
+use Rattle.distance.proofs.Walks.{low-skip, down-go, last-stands, cells-sized, high-fits, high-next, pass2-end}
 use Rattle.distance.proofs.Bounds.{low-room, low-next, down-next}
 use borrow.Author.Needs.{needs}
 use Rattle.distance.proofs.pass.pass2.Statement.{statement}
@@ -25,11 +27,27 @@ loop-holds c = search needs
 sub-s : tie.Need-sub-s Inv-loop μ-loop
 sub-s c = search needs
 
-at16-requires : tie.Need-at16-requires Inv-loop μ-loop
-at16-requires c κs = let n = cells-sized _ _ (c .before .before .before .before .before .before .before .before .pre .2) in search needs
+mul-if1 : tie.Need-mul-if1 Inv-loop μ-loop
+mul-if1 c = search needs
 
-lowered-requires : tie.Need-lowered-requires Inv-loop μ-loop
-lowered-requires c κs = (low-room _ (c .before .before .before .before .before .before .before .before .before .before .pre .0) _ _ _ (c .before .before .before .loop .inv .2) (last-stands _ _ _ _ (c .before .before .before .before .before .before .before .before .before .before .pre .2) (c .before .before .loop-test .taken) (c .before .before .before .loop .inv .0) (c .before .at16 .ensures .0)) _ _, low-room _ (c .before .before .before .before .before .before .before .before .before .before .pre .0) _ _ _ (c .before .before .before .loop .inv .2) (last-stands _ _ _ _ (c .before .before .before .before .before .before .before .before .before .before .pre .2) (c .before .before .loop-test .taken) (c .before .before .before .loop .inv .0) (c .before .at16 .ensures .0)) _ _)
+slice-read-if1 : tie.Need-slice-read-if1 Inv-loop μ-loop
+slice-read-if1 c = search needs
+
+unsettled-requires : tie.Need-unsettled-requires Inv-loop μ-loop
+unsettled-requires c κs = search needs
+
+loop-less : tie.Need-loop-less Inv-loop μ-loop
+loop-less c = omega (arith, high-fits _ _ _ _ (c .unsettled .ensures) (le-refl _), c .before .before .before .before .loop-test .taken)
+
+loop-again : tie.Need-loop-again Inv-loop μ-loop
+loop-again c = (high-fits _ _ _ _ (c .unsettled .ensures) (omega (arith, c .before .before .before .before .before .loop .inv .0)), high-next _ _ _ _ _ (c .unsettled .ensures) (omega (arith, c .before .before .before .before .before .loop .inv .0, c .before .before .before .before .before .loop .inv .2 .size)) (low-skip _ _ _ _ (c .before .before .before .before .loop-test .taken) (omega (arith, c .before .before .before .before .before .loop .inv .0, c .before .before .before .before .before .loop .inv .2 .size)) (c .before .before .if1 .taken) (c .before .before .before .before .before .loop .inv .1)), search needs)
+
+at16-requires : tie.Need-at16-requires Inv-loop μ-loop
+at16-requires c κs = let n = cells-sized _ _ (c .before .before .before .before .before .before .before .before .before .before .pre .2) in search needs
+
+least-at-requires : tie.Need-least-at-requires Inv-loop μ-loop
+least-at-requires c κs = let st = last-stands _ _ _ _ (c .before .before .before .before .before .before .before .before .before .before .before .before .pre .2) (c .before .before .before .before .loop-test .taken) (c .before .before .before .before .before .loop .inv .0) (c .before .at16 .ensures .0) in
+    (low-room _ (c .before .before .before .before .before .before .before .before .before .before .before .before .pre .0) _ _ _ (c .before .before .before .before .before .loop .inv .2) st _ _, low-room _ (c .before .before .before .before .before .before .before .before .before .before .before .before .pre .0) _ _ _ (c .before .before .before .before .before .loop .inv .2) st _ _)
 
 mul-raw : tie.Need-mul-raw Inv-loop μ-loop
 mul-raw c = search needs
@@ -37,11 +55,12 @@ mul-raw c = search needs
 slice-write-raw : tie.Need-slice-write-raw Inv-loop μ-loop
 slice-write-raw c = search needs
 
-loop-less : tie.Need-loop-less Inv-loop μ-loop
-loop-less c = search needs
+loop-less-2 : tie.Need-loop-less-2 Inv-loop μ-loop
+loop-less-2 c = search needs
 
-loop-again : tie.Need-loop-again Inv-loop μ-loop
-loop-again c = (search needs, down-go _ _ _ _ _ (c .before .before .before .loop-test .taken) (c .before .before .before .before .loop .inv .1) (down-next _ (c .before .before .before .before .before .before .before .before .before .before .before .pre .0) _ _ _ (c .before .before .before .before .loop .inv .2) (last-stands _ _ _ _ (c .before .before .before .before .before .before .before .before .before .before .before .pre .2) (c .before .before .before .loop-test .taken) (c .before .before .before .before .loop .inv .0) (c .before .before .at16 .ensures .0)) _ (c .lowered .ensures)), low-next _ (c .before .before .before .before .before .before .before .before .before .before .before .pre .0) _ _ _ (c .before .before .before .before .loop .inv .2) (last-stands _ _ _ _ (c .before .before .before .before .before .before .before .before .before .before .before .pre .2) (c .before .before .before .loop-test .taken) (c .before .before .before .before .loop .inv .0) (c .before .before .at16 .ensures .0)) _ (c .lowered .ensures))
+loop-again-2 : tie.Need-loop-again-2 Inv-loop μ-loop
+loop-again-2 c = let st = last-stands _ _ _ _ (c .before .before .before .before .before .before .before .before .before .before .before .before .before .pre .2) (c .before .before .before .before .before .loop-test .taken) (c .before .before .before .before .before .before .loop .inv .0) (c .before .before .at16 .ensures .0) in
+    (search needs, down-go _ _ _ _ _ (c .before .before .before .before .before .loop-test .taken) (c .before .before .before .before .before .before .loop .inv .1) (down-next _ (c .before .before .before .before .before .before .before .before .before .before .before .before .before .pre .0) _ _ _ (c .before .before .before .before .before .before .loop .inv .2) st _ (c .least-at .ensures)), low-next _ (c .before .before .before .before .before .before .before .before .before .before .before .before .before .pre .0) _ _ _ (c .before .before .before .before .before .before .loop .inv .2) st _ (c .least-at .ensures))
 
 same-length : tie.Need-same-length Inv-loop μ-loop
 same-length c = search needs
@@ -57,11 +76,16 @@ pass2-spec =
     μ-loop
     loop-holds
     sub-s
-    at16-requires
-    lowered-requires
-    mul-raw
-    slice-write-raw
+    mul-if1
+    slice-read-if1
+    unsettled-requires
     loop-less
     loop-again
+    at16-requires
+    least-at-requires
+    mul-raw
+    slice-write-raw
+    loop-less-2
+    loop-again-2
     same-length
     returns)

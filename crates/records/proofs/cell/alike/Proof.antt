@@ -39,10 +39,10 @@ part-same-end : tie.Need-part-same-end
 part-same-end c = lies c
 
 add-same-2 : tie.Need-add-same-2
-add-same-2 c = let k = c .before in omega (arith, lies-last k, S k .pre .0)
+add-same-2 c = let k = c .before in omega (arith, lies k, lies-last k, S k .pre .0)
 
 mul-same-2 : tie.Need-mul-same-2
-mul-same-2 c = let k = c .before in omega (arith, lies-last k, S k .pre .0)
+mul-same-2 c = let k = c .before in omega (arith, lies k, lies-last k, S k .pre .0)
 
 sub-same-2 : tie.Need-sub-same-2
 sub-same-2 c = search needs
@@ -51,7 +51,7 @@ part-same-start-2 : tie.Need-part-same-start-2
 part-same-start-2 c = search needs
 
 part-same-end-2 : tie.Need-part-same-end-2
-part-same-end-2 c = lies-last (c .before)
+part-same-end-2 c = let k = c .before in omega (arith, lies k, lies-last k)
 
 same-requires : tie.Need-same-requires
 same-requires c κs = search needs

@@ -306,8 +306,8 @@ fn edges(
     Run { at: k, more: false }
 }
 
-// The start and pass 1 over all spans; cells has the cell of each. Spans that lack a neighbour have a loop of their own. As that stands within it, the loop here is
-// compiled so that the lesser of two values is chosen and not jumped to: where a cell has many layers, no processor foresees which of them is less.
+// The start and pass 1 over all spans; cells has the cell of each. Spans that lack a neighbour have a loop of their own. As that stands within it, the
+// loop here is compiled so that the lesser of two values is chosen and not jumped to: where a cell has many layers, no processor foresees which is less.
 pub fn pass1(
     w: usize,
     h: usize,

@@ -146,7 +146,8 @@ fn sort_block(
     from: u16,
     i: usize,
 )
-    requires { ⌜ SortLists (now area) (now dist) (now ids) (now stacks) × Fills (length (now area)) (now fills) × (i + blockSize ≤ length (now area)) ⌝ }
+    requires { ⌜ SortLists (now area) (now dist) (now ids) (now stacks) × Fills (length (now area)) (now fills)
+        × (i + blockSize ≤ length (now area)) ⌝ }
     requires { ⌜ levelsAt (now stacks) (length (now area)) (now fills) ≡ sortedTo (now area) (now dist) (now ids) level i ⌝ }
     requires { ⌜ from ≡ 2 * (level / 2 - lastStack) ⌝ }
     ensures { λ _. ⌜ (let after = sortedTo (now (area .entry)) (now (dist .entry)) (now (ids .entry)) level (i + blockSize) in

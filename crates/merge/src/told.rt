@@ -41,7 +41,8 @@ fn note_merge(ws: &mut [u16], b: usize, old: u16, new: u16)
 
 // Record i of a round; if it merges, that is noted.
 fn merge_one_noted(ws: &mut [u16], end: usize, m: usize, area: u16, i: usize, noted: Noted) -> Noted
-    requires { ⌜ (end + 2 * m ≤ length (now ws)) × PoolIn m (noted .round .half) (take end (now ws)) × LaidIn m (noted .round .half) (take end (now ws)) ⌝ }
+    requires { ⌜ (end + 2 * m ≤ length (now ws)) × PoolIn m (noted .round .half) (take end (now ws))
+        × LaidIn m (noted .round .half) (take end (now ws)) ⌝ }
     requires { ⌜ Joined (recsOf (take end (now ws)) m) × (i < m) × (noted .round .merges < 65536)
         × (noted .count + owners m (recsOf (take end (now ws)) m) ≤ m) ⌝ }
     ensures { λ r. ⌜ NotedOne area i m end (now (ws .entry)) noted (now (ws .exit)) r ⌝ }

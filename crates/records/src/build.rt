@@ -115,7 +115,7 @@ fn spans_of(index: &[u32], count: &[u8], c: usize) -> Spans
 }
 
 // The pool's end, and the last cell with several spans.
-pub struct Turn {
+pub struct SoFar {
     pub top: usize,
     pub last: Spans,
 }
@@ -130,8 +130,8 @@ fn add_cell_at(
     ws: &mut [u16],
     plan: Plan,
     c: usize,
-    t: Turn,
-) -> Turn
+    t: SoFar,
+) -> SoFar
     requires { ⌜ (c < length (now index)) × (c < length (now count)) ⌝ }
     requires { ⌜ (let cell = spansAt (now index) (now count) c in
         Entering plan (now area) (now con) (now ids) cell (t .top) (now ws) × Knowing (now ids) (plan .records) (t .last) (now ws)) ⌝ }
@@ -147,7 +147,7 @@ fn add_cell_at(
     let last = t.last;
     let back = look_back(ids, last, cell);
     let next = back.last;
-    Turn {
+    SoFar {
         top: add_spans(area, con, ids, ws, plan, cell, back.known, t.top),
         last: next,
     }
@@ -176,7 +176,7 @@ pub fn build_records(
         table,
     };
     renew(ids, ws, next + 1);
-    let mut t = Turn {
+    let mut t = SoFar {
         top: 0,
         last: Spans { from: 0, size: 0 },
     };

@@ -46,7 +46,8 @@ fn write_numbers(to: &mut [u16], a: u16, b: u16, c: u16)
 // A refusal, and zeros beside it.
 fn put_refused(sizes: &mut [f64], numbers: &mut [u16], k: u16)
     requires { ⌜ (length (now sizes) ≡ 5) × (length (now numbers) ≡ 3) ⌝ }
-    ensures { λ _. ⌜ (now (sizes .exit) ≡ zero64 ∷ zero64 ∷ zero64 ∷ zero64 ∷ zero64 ∷ []) × (now (numbers .exit) ≡ k ∷ 0 ∷ 0 ∷ []) ⌝ }
+    ensures { λ _. ⌜ (now (sizes .exit) ≡ zero64 ∷ zero64 ∷ zero64 ∷ zero64 ∷ zero64 ∷ [])
+        × (now (numbers .exit) ≡ k ∷ 0 ∷ 0 ∷ []) ⌝ }
 {
     let z = no_size();
     write_sizes(sizes, z, z, z, z, z);

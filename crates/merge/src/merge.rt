@@ -10,6 +10,7 @@ use table::map::HALF;
 use table::map::LISTS;
 use table::map::OVERLAPS;
 use table::map::POOL;
+use table::map::RECORD_ROOM;
 use table::place;
 ghost use mathlib.Core.Path.{_≡_};
 ghost use Prim.Native.Nat.{suc, _+_, _≤_, _<_};
@@ -147,6 +148,7 @@ pub(crate) fn merge_all(ws: &mut [u16], m: usize, n: usize, area: u16)
         other: second,
         size,
         top: second,
+        links: first + RECORD_ROOM * n,
     };
     loop {
         let round = merge_round(ws, m, area, half);

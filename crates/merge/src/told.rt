@@ -5,6 +5,7 @@ use crate::merge::merge_one;
 use pool::Half;
 use table::map::HALF;
 use table::map::POOL;
+use table::map::RECORD_ROOM;
 ghost use mathlib.Core.Path.{_≡_};
 ghost use Prim.Native.Nat.{_+_, _*_, _≤_, _<_};
 ghost use lib.ListN.{length, take, set};
@@ -102,6 +103,7 @@ pub(crate) fn merge_all_noted(ws: &mut [u16], end: usize, m: usize, n: usize, ar
         other: second,
         size,
         top: second,
+        links: first + RECORD_ROOM * n,
     };
     let mut count = 0;
     loop {

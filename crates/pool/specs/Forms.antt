@@ -3,6 +3,8 @@ use Prim.Native.Nat.{ℕ}
 use mathlib.Core.List.{List}
 use Rattle.table.specs.View.{listIn}
 use Rattle.pool.specs.Pool.{joinedList, Pool, Laid, Standing, EachLists, Listed, Searched, Swept, Sources, Carried, Absorbed, Relisted}
+use Rattle.pool.specs.Links.{LinkRoom}
+use Rattle.pool.specs.Sweep.{Reached, RenamedFor}
 use Rattle.pool.specs.declared.Half.{Half}
 use Rattle.pool.specs.declared.Pair.{Pair}
 use Rattle.pool.specs.declared.Renaming.{Renaming}
@@ -17,6 +19,10 @@ LaidIn m half ws = Laid m (half .size) (half .now) (half .other) (half .top) ws
 
 abbrev pub StandingIn : ℕ → Half → List ℕ → Type 0
 StandingIn m half ws = Standing m (half .size) (half .now) (half .other) ws
+
+-- the places of the half, up to its top, can be linked
+abbrev pub LinkRoomIn : ℕ → Half → List ℕ → Type 0
+LinkRoomIn m half ws = LinkRoom m (half .size) (half .now) (half .top) (half .links) ws
 
 -- ---- of a pair
 
@@ -33,6 +39,10 @@ OthersTo m pair to limit ws = Sources m (pair .absorbed) (pair .absorber) to lim
 -- all lists but the pair's can be looked for
 abbrev pub SearchedIn : ℕ → Pair → Half → List ℕ → Type 0
 SearchedIn m pair half ws = Searched m (pair .absorbed) (pair .absorber) (half .now) (half .other) (half .top) ws
+
+-- all lists but the pair's can be reached through linked places
+abbrev pub ReachedIn : ℕ → Pair → Half → List ℕ → Type 0
+ReachedIn m pair half ws = Reached m (pair .absorbed) (pair .absorber) (half .size) (half .other) (half .links) ws
 
 -- ---- of a pair, and its renaming
 
@@ -55,3 +65,8 @@ OthersRenamed m pair names ws ws′ = Swept m (pair .absorbed) (pair .absorber) 
 abbrev pub RelistedIn : ℕ → Pair → Renaming → Half → Half → List ℕ → List ℕ → Type 0
 RelistedIn m pair names half to ws ws′ =
     Relisted m (half .size) (pair .absorber) (pair .entry) (pair .absorbed) (pair .back) (names .old) (names .new) (to .now) (to .other) ws ws′
+
+-- the lists of the records beside the places that named y are renamed where they are
+abbrev pub NamedRenamed : ℕ → ℕ → Pair → Half → Renaming → List ℕ → List ℕ → Type 0
+NamedRenamed m y pair half names ws ws′ =
+    RenamedFor m (pair .absorbed) (pair .absorber) y (names .old) (names .new) (half .size) (half .other) (half .links) ws ws′

@@ -39,6 +39,7 @@ fn relist_there(ws: &mut [u16], m: usize, pair: Pair, names: Renaming, half: Hal
         other: half.now,
         size: half.size,
         top,
+        links: half.links,
     };
     own_all(ws, m, there);
     there
@@ -59,6 +60,7 @@ fn relist_here(ws: &mut [u16], m: usize, pair: Pair, names: Renaming, half: Half
         other: half.other,
         size: half.size,
         top: e,
+        links: half.links,
     }
 }
 

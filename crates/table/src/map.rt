@@ -24,3 +24,6 @@ pub const HALF: usize = 4;
 
 // What the floors take, which lie after its two halves: numbers a span.
 pub const FLOOR_ROOM: usize = 62;
+
+// What pool and floors take: numbers a span.
+pub const RECORD_ROOM: usize = 2 * HALF + FLOOR_ROOM;

@@ -1,0 +1,44 @@
+-- The places of the pool that name an id, linked: from each to the one before it that named the same id when the links were made, and the last of them from
+-- the id itself. A place is counted from 1, so that 0 is none. Links stand in two halves, low and p numbers further on high, from a place `from` on; past them, as
+-- wide as the records are many, the last place of each id.
+use Prim.Native.Nat.{ℕ, zero, suc, _+_, _*_, _≤_, _<_}
+use mathlib.Core.Path.{_≡_}
+use mathlib.Core.List.{List}
+use lib.ListN.{length, getD}
+use lib.Dec.{eqb}
+use Rattle.rules.specs.Base.{if_then_else_}
+use Rattle.table.specs.Map.{wideEnd}
+use Rattle.table.specs.View.{wide}
+
+-- the last of the places before q that names r
+unfoldable pub lastNamed : (ℕ → ℕ) → ℕ → ℕ → ℕ
+lastNamed named r zero = 0
+lastNamed named r (suc q) = if eqb (named q) r then suc q else lastNamed named r q
+
+-- the place that place q is linked to
+abbrev pub linkAt : List ℕ → ℕ → ℕ → ℕ → ℕ
+linkAt ws p from q = wide ws p (from + q)
+
+-- the last place of id r
+abbrev pub lastAt : List ℕ → ℕ → ℕ → ℕ → ℕ → ℕ
+lastAt ws m p from r = wide ws m (from + 2 * p + r)
+
+abbrev pub linksEnd : ℕ → ℕ → ℕ → ℕ
+linksEnd m p from = from + 2 * p + 2 * m
+
+-- what the places from h on hold
+abbrev pub heldFrom : List ℕ → ℕ → ℕ → ℕ
+heldFrom ws h q = getD ws (h + q) 0
+
+-- the first k places are linked as they were named
+pub record Linked (m p from k : ℕ) (named : ℕ → ℕ) (ws : List ℕ) : Type 0 where
+  pub lasts : (r : ℕ) → r < m → lastAt ws m p from r ≡ lastNamed named r k
+  pub links : (q : ℕ) → q < k → named q < m → linkAt ws p from q ≡ lastNamed named (named q) q
+
+-- room for the links of the places from h up to top, past them
+pub record LinkRoom (m p h top from : ℕ) (ws : List ℕ) : Type 0 where
+  pub order : h ≤ top
+  pub upto : top ≤ h + p
+  pub past : h + p ≤ from
+  pub into : linksEnd m p from ≤ length ws
+  pub fits : p + 1 < wideEnd

@@ -4,6 +4,7 @@ pub mod PartLaws
 pub mod CarryLaws
 pub mod SumLaws
 pub mod AbsorbLaws
+pub mod BearerLaws
 pub mod RenameLaws
 pub mod OwnLaws
 pub mod RelistLaws

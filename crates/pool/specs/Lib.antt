@@ -2,6 +2,7 @@ pub mod Lists
 pub mod Part
 pub mod Fixed
 pub mod Alike
+pub mod Bearers
 pub mod Pool
 pub mod Links
 pub mod Sweep

@@ -16,6 +16,7 @@ use Rattle.space.specs.Space.{Frame}
 use Rattle.table.specs.Map.{border, wideEnd, spareAt, listsAt, floorPartsAt, cutsAt, poolAt}
 use Rattle.table.specs.View.{part, Parts, listStart, listEnd, listIn, floorsStart, RecordsIn}
 use Rattle.pool.specs.Part.{CopyRoom, renamedList}
+use Rattle.pool.specs.Bearers.{Bearers}
 
 -- f with 0 at i
 unfoldable pub without : (ℕ → ℕ) → ℕ → ℕ → ℕ
@@ -54,7 +55,11 @@ pub record Pool (m p h o : ℕ) (ws : List ℕ) : Type 0 where
   pub floors : (r : ℕ) → r < m → (h + p ≤ floorsStart ws m r) × (o + p ≤ floorsStart ws m r)
   pub room : sumTo (lenAt ws m) m ≤ p
   pub spans : sumTo (countAt ws m) m < 65536
-  pub blank : (x : ℕ) → x < 2 * m → getD ws (spareAt m + x) 0 ≡ 0
+  -- the records that bear one id, and a record that lists something bears its own number
+  pub bearers : Bearers m ws
+  pub owns : (x : ℕ) → x < m → (getD ws x 0 ≡ 0 → ⊥) → (lenAt ws m x ≡ 0 → ⊥) → getD ws x 0 ≡ x
+  -- the second column to spare
+  pub blank : (x : ℕ) → x < m → getD ws (spareAt m + m + x) 0 ≡ 0
 
 -- one of the lists of x and y ends before the other starts
 abbrev pub Beside : List ℕ → ℕ → ℕ → ℕ → Type 0

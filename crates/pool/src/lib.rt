@@ -1,5 +1,6 @@
 // The pool of neighbour lists, and one merge over it.
 mod absorb;
+mod bearers;
 mod build;
 mod carry;
 mod lists;
@@ -8,6 +9,7 @@ mod regions;
 mod relist;
 mod rename;
 
+pub use crate::bearers::next_of;
 pub use crate::lists::many;
 pub use crate::regions::merge_regions;
 pub use crate::relist::len_of;

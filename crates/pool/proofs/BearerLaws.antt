@@ -20,8 +20,8 @@ use Rattle.pool.proofs.FloorLaws.{swap-old, swap-other}
 
 module _ (m : ℕ) (ws : List ℕ) (B : Bearers m ws) where
   -- a record that bears an id is not record 0
-  pub bears-some : (y : ℕ) → (getD ws y 0 ≡ 0 → ⊥) → y ≡ 0 → ⊥
-  bears-some y z e = z (ap (λ (k : ℕ). getD ws k 0) e ∙ B .nobody)
+  pub bears-some : (y : ℕ) → y < m → (getD ws y 0 ≡ 0 → ⊥) → y ≡ 0 → ⊥
+  bears-some y g z e = z (ap (λ (k : ℕ). getD ws k 0) e ∙ B .nobody (omega arith))
 
   pub same-rank : (k y z : ℕ) → y < m → z < m → (getD ws y 0 ≡ 0 → ⊥) → getD ws y 0 ≡ getD ws z 0 → B .rank y ≡ k → B .rank z ≡ k → y ≡ z
   same-rank zero y z g h l e p q =
@@ -37,7 +37,7 @@ module _ (m : ℕ) (ws : List ℕ) (B : Bearers m ws) where
   beyond zero y z g h l e p q =
       let b = B .before z (B .rank y) h (λ w. l (sym e ∙ w)) (omega arith) in
       let w : b .who ≡ y = same-rank (B .rank y) (b .who) y (b .inside) g (λ v. l (sym e ∙ sym (b .bears) ∙ v)) (b .bears ∙ e) (b .ranks) refl in
-      bears-some z (λ v. l (sym e ∙ v)) (sym (b .names) ∙ ap (nextOf ws m) w ∙ q)
+      bears-some z h (λ v. l (sym e ∙ v)) (sym (b .names) ∙ ap (nextOf ws m) w ∙ q)
   beyond (suc d) y z g h l e p q =
       let b = B .before z (suc (B .rank y + d)) h (λ w. l (sym e ∙ w)) (omega arith) in
       beyond d y (b .who) g (b .inside) l (b .bears ∙ e) (b .ranks) q
@@ -105,7 +105,7 @@ steps-same (suc k) ws ws′ m e (suc y) = rw (e (suc y)) (ap suc (steps-same k w
 enough : (d : ℕ) (m : ℕ) (ws : List ℕ) (B : Bearers m ws) (y : ℕ) → y < m → (getD ws y 0 ≡ 0 → ⊥) → m ≤ B .rank y + d → (k : ℕ) → d ≤ k → steps k ws m y ≡ steps d ws m y
 unfolding steps
 enough zero m ws B y g l h k u = absurd (omega (arith, rank-less m ws B y g l))
-enough (suc d) m ws B zero g l h k u = absurd (bears-some m ws B 0 l refl)
+enough (suc d) m ws B zero g l h k u = absurd (bears-some m ws B 0 g l refl)
 enough (suc d) m ws B (suc y) g l h zero u = absurd (omega arith)
 enough (suc d) m ws B (suc y) g l h (suc k) u = ap suc (elim (ℕ-discrete (nextOf ws m (suc y)) 0) [
   | yes e ↦ rw e (none k ∙ sym (none d))
@@ -121,7 +121,7 @@ enough (suc d) m ws B (suc y) g l h (suc k) u = ap suc (elim (ℕ-discrete (next
 pub steps-fall : (m : ℕ) (ws : List ℕ) → Bearers m ws → (y : ℕ) → y < m → (getD ws y 0 ≡ 0 → ⊥) → steps m ws m (nextOf ws m y) < steps m ws m y
 unfolding steps
 steps-fall zero ws B y g l = absurd (omega arith)
-steps-fall (suc m) ws B zero g l = absurd (bears-some (suc m) ws B 0 l refl)
+steps-fall (suc m) ws B zero g l = absurd (bears-some (suc m) ws B 0 g l refl)
 steps-fall (suc m) ws B (suc y) g l = elim (ℕ-discrete (nextOf ws (suc m) (suc y)) 0) [
   | yes e ↦ rw e (omega arith)
   | no e ↦
@@ -182,9 +182,9 @@ walk-end P m a y ws W e z g d = W .done z g d (inl e)
 -- ---- how they come to be, and stay
 
 -- each bears its own number, or none, and none names another
-pub bearers-start : (m : ℕ) (ws : List ℕ) → getD ws 0 0 ≡ 0 → ((y : ℕ) → y < m → (getD ws y 0 ≡ 0 → ⊥) → getD ws y 0 ≡ y) → ((y : ℕ) → y < m → nextOf ws m y ≡ 0) → Bearers m ws
-bearers-start m ws z own none = record {
-  nobody = z;
+pub bearers-start : (m : ℕ) (ws : List ℕ) → ((y : ℕ) → y < m → (getD ws y 0 ≡ 0 → ⊥) → getD ws y 0 ≡ y) → ((y : ℕ) → y < m → nextOf ws m y ≡ 0) → Bearers m ws
+bearers-start m ws own none = record {
+  nobody = λ g. elim (ℕ-discrete (getD ws 0 0) 0) [ yes e ↦ e | no e ↦ own 0 g e ];
   owner = λ y g l. let e = own y g l in rw (e) (g, e);
   rank = λ _. 0;
   first = λ y g l _. own y g l;
@@ -194,9 +194,9 @@ bearers-start m ws z own none = record {
 }
 
 -- ids and names as they were
-pub bearers-same : (m : ℕ) (ws ws′ : List ℕ) → getD ws′ 0 0 ≡ 0 → ((y : ℕ) → y < m → getD ws′ y 0 ≡ getD ws y 0) → ((y : ℕ) → y < m → nextOf ws′ m y ≡ nextOf ws m y) → Bearers m ws → Bearers m ws′
-bearers-same m ws ws′ z ids names B = record {
-  nobody = z;
+pub bearers-same : (m : ℕ) (ws ws′ : List ℕ) → ((y : ℕ) → y < m → getD ws′ y 0 ≡ getD ws y 0) → ((y : ℕ) → y < m → nextOf ws′ m y ≡ nextOf ws m y) → Bearers m ws → Bearers m ws′
+bearers-same m ws ws′ ids names B = record {
+  nobody = λ g. ids 0 g ∙ B .nobody g;
   owner = λ y g l. let b = B .owner y g (live y g l) in rw (ids y g) (b .0, ids (getD ws y 0) (b .0) ∙ b .1);
   rank = B .rank;
   first = λ y g l e. ids y g ∙ B .first y g (live y g l) e;
@@ -306,7 +306,7 @@ module _ (m n i t : ℕ) (ws ws′ : List ℕ) (B : Bearers m ws) (hn : n < m) (
       | no d ↦
           let b = B .before y (k - 1) g (live-was y g l) (omega (arith, rank-i y e)) in
           let w : getD ws (b .who) 0 ≡ i = b .bears ∙ e in
-          let u : b .who ≡ t → ⊥ = (λ v. bears-some m ws B y (live-was y g l) (sym (b .names) ∙ ap (nextOf ws m) v ∙ last)) in
+          let u : b .who ≡ t → ⊥ = (λ v. bears-some m ws B y g (live-was y g l) (sym (b .names) ∙ ap (nextOf ws m) v ∙ last)) in
           record {
             who = b .who;
             inside = b .inside;
@@ -406,7 +406,7 @@ module _ (m n i t : ℕ) (ws ws′ : List ℕ) (B : Bearers m ws) (hn : n < m) (
 
   pub bearers-merged : Bearers m ws′
   bearers-merged = record {
-    nobody = id-else 0 (omega arith) (λ w. zi (sym w ∙ B .nobody)) ∙ B .nobody;
+    nobody = λ g. id-else 0 g (λ w. zi (sym w ∙ B .nobody g)) ∙ B .nobody g;
     owner = owner-now;
     rank = rankNow;
     first = first-now;
@@ -432,7 +432,7 @@ hand-start m n i ws O = record {
   frame = frame-none 0 m ws;
 }
 
-pub hand-room : (m n i y v : ℕ) (ws₀ ws : List ℕ) → Owners m n i ws₀ → length ws ≡ length ws₀ → 5 * m + m ≤ length (set ws y v)
+pub hand-room : (m n i y v : ℕ) (ws₀ ws : List ℕ) → Owners m n i ws₀ → length ws ≡ length ws₀ → 6 * m + m ≤ length (set ws y v)
 hand-room m n i y v ws₀ ws O l = rw (length-set ws y v, l) (O .room)
 
 module _ (m n i y next : ℕ) (ws₀ ws : List ℕ) (O : Owners m n i ws₀) (H : Handing m i n ws₀ ws y) (l : length ws ≡ length ws₀) (e : next ≡ nextOf (set ws y n) m y) where
@@ -446,10 +446,10 @@ module _ (m n i y next : ℕ) (ws₀ ws : List ℕ) (O : Owners m n i ws₀) (H 
   frame-set-now = frame-then (H .frame) (frame-set 0 m y n ws (omega arith) y-in)
 
   names-kept : (x : ℕ) → nextOf (set ws y n) m x ≡ nextOf ws₀ m x
-  names-kept x = getD-after (5 * m + x) frame-set-now (omega arith)
+  names-kept x = getD-after (6 * m + x) frame-set-now (omega arith)
 
   names-were : (x : ℕ) → nextOf ws m x ≡ nextOf ws₀ m x
-  names-were x = getD-after (5 * m + x) (H .frame) (omega arith)
+  names-were x = getD-after (6 * m + x) (H .frame) (omega arith)
 
   now-next : nextOf ws₀ m y ≡ next
   now-next = sym (e ∙ names-kept y)
@@ -497,16 +497,16 @@ module _ (m n i y next : ℕ) (ws₀ ws : List ℕ) (O : Owners m n i ws₀) (H 
   }
 
 module _ (m n i t : ℕ) (ws ws₁ ws₂ : List ℕ) (O : Owners m n i ws) (H : Handed m i n t ws ws₁) (l : length ws₁ ≡ length ws)
-    (e : ws₂ ≡ set (set ws₁ (5 * m + t) (nextOf ws₁ m n)) (5 * m + n) i) where
+    (e : ws₂ ≡ set (set ws₁ (6 * m + t) (nextOf ws₁ m n)) (6 * m + n) i) where
   abbrev ws₁′ : List ℕ
-  ws₁′ = set ws₁ (5 * m + t) (nextOf ws₁ m n)
+  ws₁′ = set ws₁ (6 * m + t) (nextOf ws₁ m n)
 
-  frame-rows : Frame (5 * m) (6 * m) ws₁ ws₂
-  frame-rows = rw e (frame-then (frame-set (5 * m) (6 * m) (5 * m + t) (nextOf ws₁ m n) ws₁ (omega arith) (omega (arith, H .inside)))
-      (frame-set (5 * m) (6 * m) (5 * m + n) i ws₁′ (omega arith) (omega (arith, O .first))))
+  frame-rows : Frame (6 * m) (7 * m) ws₁ ws₂
+  frame-rows = rw e (frame-then (frame-set (6 * m) (7 * m) (6 * m + t) (nextOf ws₁ m n) ws₁ (omega arith) (omega (arith, H .inside)))
+      (frame-set (6 * m) (7 * m) (6 * m + n) i ws₁′ (omega arith) (omega (arith, O .first))))
 
   names-first : (x : ℕ) → nextOf ws₁ m x ≡ nextOf ws m x
-  names-first x = getD-after (5 * m + x) (H .frame) (omega arith)
+  names-first x = getD-after (6 * m + x) (H .frame) (omega arith)
 
   ids-at : (x : ℕ) → x < m → getD ws₂ x 0 ≡ swapOne i n (getD ws x 0)
   ids-at x g = getD-before x frame-rows (omega arith) ∙ H .ids x g
@@ -518,13 +518,13 @@ module _ (m n i t : ℕ) (ws ws₁ ws₂ : List ℕ) (O : Owners m n i ws) (H : 
   joined-rows = record {
     ids = ids-at;
     bearers = bearers-merged m n i t ws ws₂ (O .bearers) (O .first) (O .second) (O .own) (O .own′) (O .some) (O .some′) (O .apart) (H .inside) (H .bore) (H .names) ids-at
-        (rw e (getD-set-other ws₁′ (5 * m + n) (5 * m + t) i 0 (λ w. t-apart (omega arith)) ∙ getD-set-same ws₁ (5 * m + t) (nextOf ws₁ m n) 0 (omega (arith, O .room, H .inside)) ∙ names-first n))
-        (rw e (getD-set-same ws₁′ (5 * m + n) i 0 (rw (length-set ws₁ (5 * m + t) (nextOf ws₁ m n)) (omega (arith, O .room, O .first)))))
-        (λ x g a b. rw e (getD-set-other ws₁′ (5 * m + n) (5 * m + x) i 0 (λ w. b (omega arith))
-            ∙ getD-set-other ws₁ (5 * m + t) (5 * m + x) (nextOf ws₁ m n) 0 (λ w. a (omega arith)) ∙ names-first x));
+        (rw e (getD-set-other ws₁′ (6 * m + n) (6 * m + t) i 0 (λ w. t-apart (omega arith)) ∙ getD-set-same ws₁ (6 * m + t) (nextOf ws₁ m n) 0 (omega (arith, O .room, H .inside)) ∙ names-first n))
+        (rw e (getD-set-same ws₁′ (6 * m + n) i 0 (rw (length-set ws₁ (6 * m + t) (nextOf ws₁ m n)) (omega (arith, O .room, O .first)))))
+        (λ x g a b. rw e (getD-set-other ws₁′ (6 * m + n) (6 * m + x) i 0 (λ w. b (omega arith))
+            ∙ getD-set-other ws₁ (6 * m + t) (6 * m + x) (nextOf ws₁ m n) 0 (λ w. a (omega arith)) ∙ names-first x));
     columns = λ y a b. getD-before y frame-rows b ∙ getD-after y (H .frame) a;
-    frame = let z : 5 * m + m ≡ 6 * m = omega arith in rw z (frame-then (frame-wider 0 (6 * m) (H .frame) (omega arith) (omega arith)) (frame-wider 0 (6 * m) frame-rows (omega arith) (omega arith)));
+    frame = let z : 6 * m + m ≡ 7 * m = omega arith in rw z (frame-then (frame-wider 0 (7 * m) (H .frame) (omega arith) (omega arith)) (frame-wider 0 (7 * m) frame-rows (omega arith) (omega arith)));
   }
 
-pub rows-in : (ws : List ℕ) (m n t v : ℕ) → 5 * m + m ≤ length ws → n < m → 5 * m + n < length (set ws (5 * m + t) v)
-rows-in ws m n t v h g = rw (length-set ws (5 * m + t) v) (omega arith)
+pub rows-in : (ws : List ℕ) (m n t v : ℕ) → 6 * m + m ≤ length ws → n < m → 6 * m + n < length (set ws (6 * m + t) v)
+rows-in ws m n t v h g = rw (length-set ws (6 * m + t) v) (omega arith)

@@ -2,7 +2,6 @@
 -- so the lists, the floors and the order of the pool stay as they were.
 use Prim.Native.Nat.{ℕ, _+_, _-_, _*_, _≤_, _<_}
 use native.Mathlib.Omega.{arith}
-use native.Mathlib.Decide.{decLt}
 use mathlib.Core.Path.{_≡_, refl, sym, ap, _∙_}
 use mathlib.Core.Logic.{⊎-elim, _⊎_, inl, inr}
 use mathlib.Core.Bool.{Bool, true, false, not}
@@ -110,9 +109,9 @@ module _ (m n i : ℕ) (ws ws′ : List ℕ) (M : Remarked m n i ws ws′) where
       floors = λ x g. rw (starts (11 * m) x (omega arith) g) (P .floors x g);
       room = rw (sum-same (lenAt ws′ m) (lenAt ws m) m len-kept) (P .room);
       spans = rw (sum-same (countAt ws′ m) (countAt ws m) m count-kept) (P .spans);
-      bearers = bearers-same m ws ws′ (M .kept 0 (elim (decLt 0 m) [ yes g ↦ inl (omega arith) | no g ↦ inr (omega arith) ]) ∙ P .bearers .nobody) (λ y g. M .kept y (inl (omega arith))) (λ y g. M .kept (5 * m + y) (inl (omega arith))) (P .bearers);
+      bearers = bearers-same m ws ws′ (λ y g. M .kept y (inl (omega arith))) (λ y g. M .kept (6 * m + y) (inl (omega arith))) (P .bearers);
       owns = λ x g l z. M .kept x (inl (omega arith)) ∙ P .owns x g (λ w. l (M .kept x (inl (omega arith)) ∙ w)) (λ w. z (len-kept x g ∙ w));
-      blank = λ x g. M .kept (5 * m + m + x) (inl (omega arith)) ∙ P .blank x g;
+      blank = λ x g. M .kept (5 * m + x) (inl (omega arith)) ∙ P .blank x g;
     }
 
     pub marked-laid : (top : ℕ) → Laid m p h o top ws → Laid m p h o top ws′

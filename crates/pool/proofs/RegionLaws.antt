@@ -91,8 +91,8 @@ renamed-rec o n z a r p₁ p₂ p₃ p₄ p₅ p₆ p₇ p₈ =
 -- ---- the workspace after the counts and the ids are written too
 
 pub record After (m n i old : ℕ) (ws ws′ : List ℕ) : Type 0 where
-  pub frame : Frame 0 (6 * m) ws ws′
-  pub columns : (y : ℕ) → 2 * m ≤ y → y < 5 * m → getD ws′ y 0 ≡ getD ws y 0
+  pub frame : Frame 0 (7 * m) ws ws′
+  pub columns : (y : ℕ) → 2 * m ≤ y → y < 6 * m → getD ws′ y 0 ≡ getD ws y 0
   pub bearers : Bearers m ws′
   pub ids : (x : ℕ) → x < m → getD ws′ x 0 ≡ swapOne old n (getD ws x 0)
   pub sum : getD ws′ (m + n) 0 ≡ getD ws (m + n) 0 + getD ws (m + i) 0
@@ -151,13 +151,13 @@ module _ (m p h o b c n k i j : ℕ) (ws ws₁ ws₃ : List ℕ) (P : Pool m p h
   floor-past : (x : ℕ) → x < m → (b + p ≤ startOf ws m (11 * m) x) × (c + p ≤ startOf ws m (11 * m) x)
   floor-past x g = turned-floors m p h o b c ws P W x g
 
-  kept : (y : ℕ) → 6 * m ≤ y → Outside m b (b + p) y → (y < c) ⊎ (c + p ≤ y) → getD ws₃ y 0 ≡ getD ws y 0
+  kept : (y : ℕ) → 7 * m ≤ y → Outside m b (b + p) y → (y < c) ⊎ (c + p ≤ y) → getD ws₃ y 0 ≡ getD ws y 0
   kept y g w v = getD-after y (A .frame) g ∙ R .kept y w v
 
   low : (y : ℕ) → y < 7 * m → getD ws₁ y 0 ≡ getD ws y 0
   low y g = R .kept y (inl g, inl (omega (arith, H .past))) (inl (omega (arith, H .past′)))
 
-  mid : (y : ℕ) → 2 * m ≤ y → y < 5 * m → getD ws₃ y 0 ≡ getD ws y 0
+  mid : (y : ℕ) → 2 * m ≤ y → y < 6 * m → getD ws₃ y 0 ≡ getD ws y 0
   mid y a b = A .columns y a b ∙ low y (omega arith)
 
   ids : (x : ℕ) → x < m → getD ws₃ x 0 ≡ swapOne old n (getD ws x 0)
@@ -261,7 +261,7 @@ module _ (m p h o b c n k i j : ℕ) (ws ws₁ ws₃ : List ℕ) (P : Pool m p h
     );
     bearers = A .bearers;
     owns = owns₃;
-    blank = λ x g. getD-after (5 * m + m + x) (A .frame) (omega arith) ∙ low (5 * m + m + x) (omega arith) ∙ P .blank x g;
+    blank = λ x g. mid (5 * m + x) (omega arith) (omega arith) ∙ P .blank x g;
   }
 
   merged-laid : (top : ℕ) → Laid m p b c top ws₁ → Laid m p b c top ws₃
@@ -362,7 +362,7 @@ module _ (m p h o b c n k i j : ℕ) (ws ws₁ ws₃ : List ℕ) (P : Pool m p h
 
 -- ---- the counts and the ids, as the code writes them
 
-module _ (m n i old : ℕ) (ws₁ ws₂ ws₃ : List ℕ) (hn : n < m) (hi : i < m) (ne : i ≡ n → ⊥) (room : 6 * m ≤ length ws₁) (o : old ≡ i)
+module _ (m n i old : ℕ) (ws₁ ws₂ ws₃ : List ℕ) (hn : n < m) (hi : i < m) (ne : i ≡ n → ⊥) (room : 2 * m ≤ length ws₁) (o : old ≡ i)
     (e : ws₂ ≡ set (set ws₁ (m + n) (getD ws₁ (m + n) 0 + getD ws₁ (m + i) 0)) (m + i) 0) (J : Joining m n i ws₂ ws₃) where
   abbrev both : ℕ
   both = getD ws₁ (m + n) 0 + getD ws₁ (m + i) 0
@@ -370,12 +370,12 @@ module _ (m n i old : ℕ) (ws₁ ws₂ ws₃ : List ℕ) (hn : n < m) (hi : i <
   frame₂ : Frame m (2 * m) ws₁ ws₂
   frame₂ = rw e (frame-then (frame-set m (2 * m) (m + n) both ws₁ (omega arith) (omega arith)) (frame-set m (2 * m) (m + i) 0 (set ws₁ (m + n) both) (omega arith) (omega arith)))
 
-  frame₃ : Frame 0 (6 * m) ws₂ ws₃
-  frame₃ = let z : 5 * m + m ≡ 6 * m = omega arith in rw z at (J .frame)
+  frame₃ : Frame 0 (7 * m) ws₂ ws₃
+  frame₃ = let z : 6 * m + m ≡ 7 * m = omega arith in rw z at (J .frame)
 
   pub after-is : After m n i old ws₁ ws₃
   after-is = record {
-    frame = frame-then (frame-wider 0 (6 * m) frame₂ (omega arith) (omega arith)) frame₃;
+    frame = frame-then (frame-wider 0 (7 * m) frame₂ (omega arith) (omega arith)) frame₃;
     columns = λ y a b. J .columns y (omega arith) b ∙ getD-after y frame₂ a;
     bearers = J .bearers;
     ids = λ x g. rw o (J .ids x g ∙ ap (swapOne i n) (getD-before x frame₂ g));
@@ -416,8 +416,8 @@ module _ (m p h o n k i j : ℕ) (ws ws₁ : List ℕ) (P : Pool m p h o ws) (L 
         let hn = L .pair .first in
         let hi = L .pair .second in
         record {
-          bearers = bearers-same m ws ws₂ (still 0 (inl (omega arith)) (omega arith) ∙ P .bearers .nobody) (λ y g. still y (inl g) (omega arith))
-              (λ y g. still (5 * m + y) (inr (omega arith)) (omega arith)) (P .bearers);
+          bearers = bearers-same m ws ws₂ (λ y g. still y (inl g) (omega arith))
+              (λ y g. still (6 * m + y) (inr (omega arith)) (omega arith)) (P .bearers);
           room = omega (arith, P .held .lists .room);
           few = P .held .few;
           first = hn;

@@ -1,16 +1,16 @@
 -- The records that bear one id, one after the other: the first is the one whose number the id is, each names the next, and the last names 0, since record 0
--- bears no id. The names stand in the first column to spare; while no record has absorbed another that column is all zeros.
+-- bears no id. The names stand in the second column to spare; while no record has absorbed another that column is all zeros.
 use Prim.Native.Nat.{ℕ, suc, _+_, _≤_, _<_}
 use mathlib.Core.Path.{_≡_}
 use mathlib.Core.List.{List}
 use lib.ListN.{length, getD}
 use Rattle.space.specs.Space.{Frame}
-use Rattle.table.specs.Map.{border, spareAt}
+use Rattle.table.specs.Map.{border, nextsAt}
 use Rattle.pool.specs.Lists.{swapOne}
 
 -- the record that y names
 abbrev pub nextOf : List ℕ → ℕ → ℕ → ℕ
-nextOf ws m y = getD ws (spareAt m + y) 0
+nextOf ws m y = getD ws (nextsAt m + y) 0
 
 -- the record that names y, of rank k
 pub record Before (m : ℕ) (rank : ℕ → ℕ) (ws : List ℕ) (y k : ℕ) : Type 0 where
@@ -27,7 +27,7 @@ pub record After (m : ℕ) (rank : ℕ → ℕ) (ws : List ℕ) (y : ℕ) : Type
   pub ranks : rank (nextOf ws m y) ≡ suc (rank y)
 
 pub record Bearers (m : ℕ) (ws : List ℕ) : Type 0 where
-  pub nobody : getD ws 0 0 ≡ 0
+  pub nobody : 0 < m → getD ws 0 0 ≡ 0
   -- an id is the number of a record that bears it
   pub owner : (y : ℕ) → y < m → (getD ws y 0 ≡ 0 → ⊥) → (getD ws y 0 < m) × (getD ws (getD ws y 0) 0 ≡ getD ws y 0)
   -- how many come before a record
@@ -36,6 +36,10 @@ pub record Bearers (m : ℕ) (ws : List ℕ) : Type 0 where
   pub start : (y : ℕ) → y < m → (getD ws y 0 ≡ 0 → ⊥) → getD ws y 0 ≡ y → rank y ≡ 0
   pub before : (y k : ℕ) → y < m → (getD ws y 0 ≡ 0 → ⊥) → rank y ≡ suc k → Before m rank ws y k
   pub after : (y : ℕ) → y < m → (getD ws y 0 ≡ 0 → ⊥) → (nextOf ws m y ≡ 0 → ⊥) → After m rank ws y
+
+-- a is the id of some record
+abbrev pub Borne : ℕ → ℕ → List ℕ → Type 0
+Borne m a ws = (a < m) × (getD ws a 0 ≡ a) × (a ≡ 0 → ⊥)
 
 -- all that bore i bear another id
 pub record Handed (m i new last : ℕ) (ws ws′ : List ℕ) : Type 0 where
@@ -50,13 +54,13 @@ pub record Handed (m i new last : ℕ) (ws ws′ : List ℕ) : Type 0 where
 pub record Joining (m n i : ℕ) (ws ws′ : List ℕ) : Type 0 where
   pub ids : (x : ℕ) → x < m → getD ws′ x 0 ≡ swapOne i n (getD ws x 0)
   pub bearers : Bearers m ws′
-  pub columns : (y : ℕ) → m ≤ y → y < spareAt m → getD ws′ y 0 ≡ getD ws y 0
-  pub frame : Frame 0 (spareAt m + m) ws ws′
+  pub columns : (y : ℕ) → m ≤ y → y < nextsAt m → getD ws′ y 0 ≡ getD ws y 0
+  pub frame : Frame 0 (nextsAt m + m) ws ws′
 
 -- records n and i, which bear their own numbers
 pub record Owners (m n i : ℕ) (ws : List ℕ) : Type 0 where
   pub bearers : Bearers m ws
-  pub room : spareAt m + m ≤ length ws
+  pub room : nextsAt m + m ≤ length ws
   pub few : m ≤ border
   pub first : n < m
   pub second : i < m

@@ -58,8 +58,8 @@ pub record Pool (m p h o : ℕ) (ws : List ℕ) : Type 0 where
   -- the records that bear one id, and a record that lists something bears its own number
   pub bearers : Bearers m ws
   pub owns : (x : ℕ) → x < m → (getD ws x 0 ≡ 0 → ⊥) → (lenAt ws m x ≡ 0 → ⊥) → getD ws x 0 ≡ x
-  -- the second column to spare
-  pub blank : (x : ℕ) → x < m → getD ws (spareAt m + m + x) 0 ≡ 0
+  -- the other column to spare
+  pub blank : (x : ℕ) → x < m → getD ws (spareAt m + x) 0 ≡ 0
 
 -- one of the lists of x and y ends before the other starts
 abbrev pub Beside : List ℕ → ℕ → ℕ → ℕ → Type 0

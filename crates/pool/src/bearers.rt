@@ -1,18 +1,18 @@
-// The records that bear an id, one after the other: each names the next in the first column to spare, and the last names 0.
+// The records that bear an id, one after the other: each names the next in a column of its own, and the last names 0.
 use table::at;
-use table::map::SPARE;
+use table::map::NEXTS;
 ghost use mathlib.Core.Path.{_≡_};
 ghost use Prim.Native.Nat.{_+_, _≤_, _<_};
 ghost use lib.ListN.{length, getD, set};
-ghost use Rattle.table.specs.Map.{spareAt};
+ghost use Rattle.table.specs.Map.{nextsAt};
 ghost use Rattle.pool.specs.Bearers.{nextOf, Handed, Joining, Owners};
 
 // The record that y names.
 pub fn next_of(ws: &[u16], m: usize, y: usize) -> usize
-    requires { ⌜ (spareAt m + m ≤ length (now ws)) × (y < m) ⌝ }
+    requires { ⌜ (nextsAt m + m ≤ length (now ws)) × (y < m) ⌝ }
     ensures { λ r. ⌜ (r ≡ nextOf (now (ws .entry)) m y) × (r < 65536) ⌝ }
 {
-    at(ws, SPARE * m + y)
+    at(ws, NEXTS * m + y)
 }
 
 // All that bear i bear the new id. Gives the last of them.
@@ -33,12 +33,12 @@ fn rename_ids(ws: &mut [u16], m: usize, i: usize, new: u16) -> usize
 
 // The row of i, up to its last, comes right after n.
 fn join_rows(ws: &mut [u16], m: usize, n: usize, i: usize, last: usize)
-    requires { ⌜ (spareAt m + m ≤ length (now ws)) × (n < m) × (i < m) × (last < m) × (m ≤ 65536) ⌝ }
+    requires { ⌜ (nextsAt m + m ≤ length (now ws)) × (n < m) × (i < m) × (last < m) × (m ≤ 65536) ⌝ }
     ensures { λ _. ⌜ now (ws .exit)
-        ≡ set (set (now (ws .entry)) (spareAt m + last) (nextOf (now (ws .entry)) m n)) (spareAt m + n) i ⌝ }
+        ≡ set (set (now (ws .entry)) (nextsAt m + last) (nextOf (now (ws .entry)) m n)) (nextsAt m + n) i ⌝ }
 {
-    ws[SPARE * m + last] = ws[SPARE * m + n];
-    ws[SPARE * m + n] = i as u16;
+    ws[NEXTS * m + last] = ws[NEXTS * m + n];
+    ws[NEXTS * m + n] = i as u16;
 }
 
 // All that bear i bear n, the absorber, and come right after it.

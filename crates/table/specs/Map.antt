@@ -27,6 +27,10 @@ visitsAt m = 4 * m
 abbrev pub spareAt : ℕ → ℕ
 spareAt m = 5 * m
 
+-- the second of them, while records merge: the next record that bears the same id
+abbrev pub nextsAt : ℕ → ℕ
+nextsAt m = 6 * m
+
 -- the table of the lists' parts
 abbrev pub listsAt : ℕ → ℕ
 listsAt m = 7 * m

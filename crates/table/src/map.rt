@@ -8,6 +8,9 @@ pub const VISITED: usize = 4;
 // Two columns to spare, zeros between the stages that use them.
 pub const SPARE: usize = 5;
 
+// The second of them, while records merge: the next record that bears the same id.
+pub const NEXTS: usize = 6;
+
 // The tables of the lists' parts, and of the floors' parts.
 pub const LISTS: usize = 7;
 

@@ -61,3 +61,7 @@ floorRoom = 62
 
 abbrev pub recordsEnd : ℕ → ℕ → ℕ
 recordsEnd m n = poolAt m + 70 * n
+
+-- past the records, the links of the lists' places: where they end
+abbrev pub linksPast : ℕ → ℕ → ℕ
+linksPast m n = recordsEnd m n + 2 * halfOf n + 2 * m

@@ -6,6 +6,7 @@ pub mod SumLaws
 pub mod AbsorbLaws
 pub mod RenameLaws
 pub mod OwnLaws
+pub mod LinkLaws
 pub mod RelistLaws
 pub mod MarkLaws
 pub mod RegionLaws

@@ -2,6 +2,7 @@
 mod absorb;
 mod build;
 mod carry;
+mod links;
 mod lists;
 mod own;
 mod regions;

@@ -230,7 +230,7 @@ module _ (m x y : ℕ) (ws : List ℕ) (ids : (r : ℕ) → r < m → getD ws r 
   beside-far R = R .far x beside-in
 
 -- that record's list is met
-pub sweep-beside-one : (m s i n old new : ℕ) (ws ws′ : List ℕ) → (old ≡ new → ⊥) → Rows m ws → ((r : ℕ) → r < m → getD ws r 0 < m) → length ws′ ≡ length ws
+sweep-beside-one : (m s i n old new : ℕ) (ws ws′ : List ℕ) → (old ≡ new → ⊥) → Rows m ws → ((r : ℕ) → r < m → getD ws r 0 < m) → length ws′ ≡ length ws
     → MetBeside m s i n old new ws ws′ → SweptOf m i n old new (λ x. (getD ws s 0 < m) × (x ≡ getD ws (getD ws s 0) 0)) ws ws′
 sweep-beside-one m s i n old new ws ws′ ne R ids l N = elim (decLt (getD ws s 0) m) [
   | yes g ↦ sweep-sub m i n old new (λ x. x ≡ getD ws (getD ws s 0) 0) ws ws′

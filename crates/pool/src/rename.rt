@@ -88,8 +88,7 @@ fn rename_beside(ws: &mut [u16], m: usize, s: usize, pair: Pair, names: Renaming
     if m <= y {
         return;
     }
-    let x = at(ws, y);
-    rename_one(ws, m, x, pair, names);
+    rename_one(ws, m, at(ws, y), pair, names);
 }
 
 // The lists of the records beside the places that named y, the last first.

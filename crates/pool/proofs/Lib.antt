@@ -7,6 +7,8 @@ pub mod AbsorbLaws
 pub mod BearerLaws
 pub mod RenameLaws
 pub mod OwnLaws
+pub mod LinkLaws
+pub mod SweepLaws
 pub mod RelistLaws
 pub mod MarkLaws
 pub mod RegionLaws

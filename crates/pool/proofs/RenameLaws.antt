@@ -142,10 +142,10 @@ module _ (old new : ℕ) (ne : old ≡ new → ⊥) where
       (λ (g : has (renamedList old new l) old ≡ false). g) (cases (has (renamedList old new l) old)))
       (λ (h : has l old ≡ false). ap (λ (k : List ℕ). has k old) (renamed-none old new l h) ∙ h) (cases (has l old))
 
-  new-free : (id : ℕ) (l : List ℕ) → (id ≡ 0 → ⊥) → has (newList old new id l) old ≡ false
+  pub new-free : (id : ℕ) (l : List ℕ) → (id ≡ 0 → ⊥) → has (newList old new id l) old ≡ false
   new-free id l z = ap (λ (k : List ℕ). has k old) (sym (new-live old new id l (renamedList old new l) z refl)) ∙ renamed-free l
 
-new-none : (old new id : ℕ) (l : List ℕ) → ((id ≡ 0 → ⊥) → has l old ≡ false) → newList old new id l ≡ l
+pub new-none : (old new id : ℕ) (l : List ℕ) → ((id ≡ 0 → ⊥) → has l old ≡ false) → newList old new id l ≡ l
 new-none old new id l h = elim (ℕ-discrete id 0) [
   | yes e ↦ sym (new-dead old new id l e)
   | no e ↦ sym (new-live old new id l l e (sym (renamed-none old new l (h e))))
@@ -175,7 +175,7 @@ sought-none m i n h o top old new ws S = record {
 }
 
 -- lists that start where they did and end no later lie apart as they did
-shrunk-apart : (m : ℕ) (ws ws′ : List ℕ) → Apart m ws → ((x : ℕ) → x < m → startOf ws′ m (7 * m) x ≡ startOf ws m (7 * m) x)
+pub shrunk-apart : (m : ℕ) (ws ws′ : List ℕ) → Apart m ws → ((x : ℕ) → x < m → startOf ws′ m (7 * m) x ≡ startOf ws m (7 * m) x)
     → ((x : ℕ) → x < m → endOf ws′ m (7 * m) x ≤ endOf ws m (7 * m) x) → Apart m ws′
 shrunk-apart m ws ws′ A starts less = record {
   apart = λ x y g k d. rw (starts x g, starts y k) (⊎-elim (λ (w : endOf ws m (7 * m) x ≤ startOf ws m (7 * m) y). inl (omega (arith, less x g)))

@@ -7,6 +7,7 @@ use mathlib.Core.List.{List}
 use lib.ListN.{length, getD}
 use lib.Dec.{eqb}
 use Rattle.rules.specs.Base.{if_then_else_}
+use Rattle.space.specs.Space.{Frame}
 use Rattle.table.specs.Map.{wideEnd}
 use Rattle.table.specs.View.{wide}
 
@@ -42,3 +43,12 @@ pub record LinkRoom (m p h top from : ℕ) (ws : List ℕ) : Type 0 where
   pub past : h + p ≤ from
   pub into : linksEnd m p from ≤ length ws
   pub fits : p + 1 < wideEnd
+
+-- place q is linked: it is the last of the id that it holds, if that is a record's, and linked to the one that was
+pub record LinkedOne (m p h from q : ℕ) (ws ws′ : List ℕ) : Type 0 where
+  pub nobody : m ≤ heldFrom ws h q → ws′ ≡ ws
+  pub link : heldFrom ws h q < m → linkAt ws′ p from q ≡ lastAt ws m p from (heldFrom ws h q)
+  pub last : heldFrom ws h q < m → lastAt ws′ m p from (heldFrom ws h q) ≡ q + 1
+  pub links : (j : ℕ) → j < p → (j ≡ q → ⊥) → linkAt ws′ p from j ≡ linkAt ws p from j
+  pub lasts : (r : ℕ) → r < m → (r ≡ heldFrom ws h q → ⊥) → lastAt ws′ m p from r ≡ lastAt ws m p from r
+  pub kept : Frame from (linksEnd m p from) ws ws′

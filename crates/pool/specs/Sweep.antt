@@ -8,7 +8,7 @@ use lib.ListN.{length, getD}
 use Rattle.rules.specs.Records.{has}
 use Rattle.table.specs.Map.{floorPartsAt}
 use Rattle.table.specs.View.{listStart, listEnd, listIn}
-use Rattle.pool.specs.Pool.{newList, Rows, Free}
+use Rattle.pool.specs.Pool.{newList, Passed, Rows, Free}
 use Rattle.pool.specs.Links.{linksEnd, Linked}
 
 pub record SweptOf (m i n old new : ℕ) (M : ℕ → Type 0) (ws ws′ : List ℕ) : Type 0 where
@@ -48,3 +48,8 @@ pub record Reached (m i n p o from : ℕ) (ws : List ℕ) : Type 0 where
 -- the lists of the records beside the places that named y are renamed, however the places are linked
 pub record RenamedFor (m i n y old new p o from : ℕ) (ws ws′ : List ℕ) : Type 0 where
   pub each : (k : ℕ) (named : ℕ → ℕ) → k ≤ p → Linked m p from k named ws → SweptOf m i n old new (NamedBy m k y o named ws) ws ws′
+
+-- the list of the record that bears what the record at s bears, if there is one at s
+pub record MetBeside (m s i n old new : ℕ) (ws ws′ : List ℕ) : Type 0 where
+  pub nobody : m ≤ getD ws s 0 → ws′ ≡ ws
+  pub passed : getD ws s 0 < m → Passed m (getD ws (getD ws s 0) 0) i n old new ws ws′

@@ -3,6 +3,7 @@ mod absorb;
 mod bearers;
 mod build;
 mod carry;
+mod links;
 mod lists;
 mod own;
 mod regions;

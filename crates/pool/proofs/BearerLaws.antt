@@ -48,6 +48,19 @@ module _ (m : ℕ) (ws : List ℕ) (B : Bearers m ws) where
     | no k ↦ omega arith
   ]
 
+  -- what comes before the next of y comes before y, or is y
+  pub next-done : (y z : ℕ) → y < m → z < m → (getD ws y 0 ≡ 0 → ⊥) → getD ws z 0 ≡ getD ws y 0 → (nextOf ws m y ≡ 0) ⊎ (B .rank z < B .rank (nextOf ws m y))
+      → (B .rank z < B .rank y) ⊎ (z ≡ y)
+  next-done y z g h l e w =
+      let less : B .rank z ≤ B .rank y = elim (ℕ-discrete (nextOf ws m y) 0) [
+        | yes u ↦ rank-last y z g h l e u
+        | no u ↦ ⊎-elim (λ (v : nextOf ws m y ≡ 0). absurd (u v)) (λ (v : B .rank z < B .rank (nextOf ws m y)). omega (arith, B .after y g l u .ranks)) w
+      ] in
+      elim (decLt (B .rank z) (B .rank y)) [
+        | yes u ↦ inl u
+        | no u ↦ inr (same-rank (B .rank y) z y h g (λ v. l (sym e ∙ v)) e (omega arith) refl)
+      ]
+
   -- those before y, and y
   row : (k y : ℕ) → y < m → (getD ws y 0 ≡ 0 → ⊥) → B .rank y ≡ k → List ℕ
   row zero y g l p = y ∷ []
@@ -74,8 +87,7 @@ module _ (m : ℕ) (ws : List ℕ) (B : Bearers m ws) where
   row-apart zero y g l p = (tt, tt)
   row-apart (suc k) y g l p =
       let b = B .before y k g l p in
-      let t = row k (b .who) (b .inside) (λ v. l (sym (b .bears) ∙ v)) (b .ranks) in
-      (
+      let t = row k (b .who) (b .inside) (λ v. l (sym (b .bears) ∙ v)) (b .ranks) in (
         All-map {P = Within k} {Q = λ x. x ≡ y → ⊥} t (λ x h e. omega (arith, h .1, ap (B .rank) e))
             (row-ranks k (b .who) (b .inside) (λ v. l (sym (b .bears) ∙ v)) (b .ranks)),
         row-apart k (b .who) (b .inside) (λ v. l (sym (b .bears) ∙ v)) (b .ranks),
@@ -93,13 +105,6 @@ unfoldable pub steps : ℕ → List ℕ → ℕ → ℕ → ℕ
 steps zero ws m y = 0
 steps (suc k) ws m zero = 0
 steps (suc k) ws m (suc y) = suc (steps k ws m (nextOf ws m (suc y)))
-
--- they are counted in the column of the names alone
-pub steps-same : (k : ℕ) (ws ws′ : List ℕ) (m : ℕ) → ((y : ℕ) → nextOf ws′ m y ≡ nextOf ws m y) → (y : ℕ) → steps k ws′ m y ≡ steps k ws m y
-unfolding steps
-steps-same zero ws ws′ m e y = refl
-steps-same (suc k) ws ws′ m e zero = refl
-steps-same (suc k) ws ws′ m e (suc y) = rw (e (suc y)) (ap suc (steps-same k ws ws′ m e (nextOf ws m (suc y))))
 
 -- what is said of k steps is said of more, once k are enough for those to come
 enough : (d : ℕ) (m : ℕ) (ws : List ℕ) (B : Bearers m ws) (y : ℕ) → y < m → (getD ws y 0 ≡ 0 → ⊥) → m ≤ B .rank y + d → (k : ℕ) → d ≤ k → steps k ws m y ≡ steps d ws m y
@@ -157,19 +162,11 @@ module _ (P Q : ℕ → Type 0) (m a y : ℕ) (ws : List ℕ) (W : Walked P m a 
       let B = W .bearers in
       let g = W .here n .0 in
       let e = W .here n .1 in
-      let upto : (x : ℕ) → x < m → getD ws x 0 ≡ a → B .rank x ≤ B .rank y → Q x = (λ x h d k. elim (decLt (B .rank x) (B .rank y)) [
-        | yes u ↦ f x h d (W .done x h d (inr u))
-        | no u ↦ let s : x ≡ y = same-rank m ws B (B .rank y) x y h g (λ v. live (e ∙ sym d ∙ v)) (d ∙ sym e) (omega arith) refl in rw s q
-      ]) in
       record {
         bearers = B;
         here = λ w. let b = B .after y g live w in (b .inside, b .bears ∙ e);
-        done = λ x h d w. ⊎-elim
-            (λ (v : nextOf ws m y ≡ 0). upto x h d (rank-last m ws B y x g h live (d ∙ sym e) v))
-            (λ (v : B .rank x < B .rank (nextOf ws m y)). elim (ℕ-discrete (nextOf ws m y) 0) [
-              | yes u ↦ upto x h d (rank-last m ws B y x g h live (d ∙ sym e) u)
-              | no u ↦ upto x h d (omega (arith, B .after y g live u .ranks))
-            ]) w;
+        done = λ x h d w.
+            ⊎-elim (λ (u : B .rank x < B .rank y). f x h d (W .done x h d (inr u))) (λ (u : x ≡ y). rw u q) (next-done m ws B y x g h live (d ∙ sym e) w);
       }
 
   pub walk-falls : steps m ws m (nextOf ws m y) < steps m ws m y
@@ -448,9 +445,6 @@ module _ (m n i y next : ℕ) (ws₀ ws : List ℕ) (O : Owners m n i ws₀) (H 
   names-kept : (x : ℕ) → nextOf (set ws y n) m x ≡ nextOf ws₀ m x
   names-kept x = getD-after (6 * m + x) frame-set-now (omega arith)
 
-  names-were : (x : ℕ) → nextOf ws m x ≡ nextOf ws₀ m x
-  names-were x = getD-after (6 * m + x) (H .frame) (omega arith)
-
   now-next : nextOf ws₀ m y ≡ next
   now-next = sym (e ∙ names-kept y)
 
@@ -478,10 +472,8 @@ module _ (m n i y next : ℕ) (ws₀ ws : List ℕ) (O : Owners m n i ws₀) (H 
   pub hand-inside : (next ≡ 0 → ⊥) → next < m
   hand-inside z = walked-now .here z .0
 
-  pub hand-falls : steps m (set ws y n) m next < steps m ws m y
-  hand-falls =
-      let f = walk-falls (λ z. getD ws z 0 ≡ n) (λ z. getD ws z 0 ≡ n) m i y ws₀ (H .walked) (O .some′) (H .some) in
-      omega (arith, f, steps-same m ws₀ (set ws y n) m names-kept next, steps-same m ws₀ ws m names-were y, ap (steps m ws₀ m) now-next)
+  pub hand-falls : steps m ws₀ m next < steps m ws₀ m y
+  hand-falls = rw (← now-next) (walk-falls (λ z. getD ws z 0 ≡ n) (λ z. getD ws z 0 ≡ n) m i y ws₀ (H .walked) (O .some′) (H .some))
 
   pub hand-done : next ≡ 0 → Handed m i n y ws₀ (set ws y n)
   hand-done z = record {
@@ -521,7 +513,7 @@ module _ (m n i t : ℕ) (ws ws₁ ws₂ : List ℕ) (O : Owners m n i ws) (H : 
         (rw e (getD-set-other ws₁′ (6 * m + n) (6 * m + t) i 0 (λ w. t-apart (omega arith)) ∙ getD-set-same ws₁ (6 * m + t) (nextOf ws₁ m n) 0 (omega (arith, O .room, H .inside)) ∙ names-first n))
         (rw e (getD-set-same ws₁′ (6 * m + n) i 0 (rw (length-set ws₁ (6 * m + t) (nextOf ws₁ m n)) (omega (arith, O .room, O .first)))))
         (λ x g a b. rw e (getD-set-other ws₁′ (6 * m + n) (6 * m + x) i 0 (λ w. b (omega arith))
-            ∙ getD-set-other ws₁ (6 * m + t) (6 * m + x) (nextOf ws₁ m n) 0 (λ w. a (omega arith)) ∙ names-first x));
+        ∙ getD-set-other ws₁ (6 * m + t) (6 * m + x) (nextOf ws₁ m n) 0 (λ w. a (omega arith)) ∙ names-first x));
     columns = λ y a b. getD-before y frame-rows b ∙ getD-after y (H .frame) a;
     frame = let z : 6 * m + m ≡ 7 * m = omega arith in rw z (frame-then (frame-wider 0 (7 * m) (H .frame) (omega arith) (omega arith)) (frame-wider 0 (7 * m) frame-rows (omega arith) (omega arith)));
   }

@@ -9,6 +9,8 @@ pub mod RenameLaws
 pub mod OwnLaws
 pub mod LinkLaws
 pub mod SweepLaws
+pub mod SeekLaws
+pub mod MentionLaws
 pub mod RelistLaws
 pub mod MarkLaws
 pub mod RegionLaws

@@ -27,10 +27,12 @@ use Rattle.pool.specs.Lists.{swapOne}
 use Rattle.pool.specs.Part.{renamedList}
 use Rattle.pool.specs.Fixed.{renamedF, absorbedF, mergedPair}
 use Rattle.pool.specs.Bearers.{Bearers, Joining, Owners}
+use Rattle.pool.specs.Links.{LinksPast}
 use Rattle.pool.specs.Pool.{lenAt, countAt, newList, joinedList, remarked, Halves, Pool, Laid, Listed, Outside, Sides, Relisted, Remarked}
 use Rattle.pool.proofs.FloorLaws.{swap-has, swap-old, swap-other, has-at}
 use Rattle.pool.proofs.MergeLaws.{has-some, tidy-has, append-has, around-has, renF-id, renF-count, renF-area, renF-visited, renF-overlap, renF-floors, renF-cut, renF-newList, renF-fresh, at-i, at-n, at-else}
 use Rattle.pool.proofs.BearerLaws.{bearers-same}
+use Rattle.pool.proofs.MentionLaws.{mentions-via}
 use Rattle.pool.proofs.OwnLaws.{halves-same, halves-turn}
 use Rattle.pool.proofs.SumLaws.{sum-split, sum-two}
 use Rattle.pool.proofs.MarkLaws.{remarked-is, marked-lists, marked-floors, marked-pool, marked-laid}
@@ -121,8 +123,8 @@ module _ (m p h o b c : ℕ) (ws : List ℕ) (P : Pool m p h o ws) (W : Sides h 
   turned-floors r g =
       ⊎-elim (λ (w : (b ≡ h) × (c ≡ o)). rw (w .0, w .1) (P .floors r g)) (λ (w : (b ≡ o) × (c ≡ h)). rw (w .0, w .1) (P .floors r g .1, P .floors r g .0)) W
 
-module _ (m p h o b c n k i j : ℕ) (ws ws₁ ws₃ : List ℕ) (P : Pool m p h o ws) (W : Sides h o b c) (L : Listed m n k i j ws) (R : Relisted m p n k i j (getD ws i 0) n b c ws ws₁)
-    (A : After m n i (getD ws i 0) ws₁ ws₃) (l₁ : length ws₁ ≡ length ws) (l₃ : length ws₃ ≡ length ws₁) where
+module _ (m p h o b c n k i j links : ℕ) (ws ws₁ ws₃ : List ℕ) (P : Pool m p h o ws) (Y : LinksPast m p h o links ws) (W : Sides h o b c) (L : Listed m n k i j ws)
+    (R : Relisted m p n k i j (getD ws i 0) n b c links ws ws₁) (A : After m n i (getD ws i 0) ws₁ ws₃) (l₁ : length ws₁ ≡ length ws) (l₃ : length ws₃ ≡ length ws₁) where
   abbrev old : ℕ
   old = getD ws i 0
 
@@ -151,11 +153,14 @@ module _ (m p h o b c n k i j : ℕ) (ws ws₁ ws₃ : List ℕ) (P : Pool m p h
   floor-past : (x : ℕ) → x < m → (b + p ≤ startOf ws m (11 * m) x) × (c + p ≤ startOf ws m (11 * m) x)
   floor-past x g = turned-floors m p h o b c ws P W x g
 
-  kept : (y : ℕ) → 7 * m ≤ y → Outside m b (b + p) y → (y < c) ⊎ (c + p ≤ y) → getD ws₃ y 0 ≡ getD ws y 0
-  kept y g w v = getD-after y (A .frame) g ∙ R .kept y w v
+  before-links : 16 * m ≤ links
+  before-links = omega (arith, P .halves .past, Y .past)
+
+  kept : (y : ℕ) → 7 * m ≤ y → Outside m b (b + p) y → (y < c) ⊎ (c + p ≤ y) → y < links → getD ws₃ y 0 ≡ getD ws y 0
+  kept y g w v u = getD-after y (A .frame) g ∙ R .kept y w v u
 
   low : (y : ℕ) → y < 7 * m → getD ws₁ y 0 ≡ getD ws y 0
-  low y g = R .kept y (inl g, inl (omega (arith, H .past))) (inl (omega (arith, H .past′)))
+  low y g = R .kept y (inl g, inl (omega (arith, H .past))) (inl (omega (arith, H .past′))) (omega (arith, before-links))
 
   mid : (y : ℕ) → 2 * m ≤ y → y < 6 * m → getD ws₃ y 0 ≡ getD ws y 0
   mid y a b = A .columns y a b ∙ low y (omega arith)
@@ -167,7 +172,7 @@ module _ (m p h o b c n k i j : ℕ) (ws ws₁ ws₃ : List ℕ) (P : Pool m p h
   lists-at x g = list-past m (7 * m) (R .parts) (A .frame) (omega arith) l₃ x g
 
   high : (y : ℕ) → 11 * m ≤ y → y < 16 * m → getD ws₃ y 0 ≡ getD ws y 0
-  high y a b = kept y (omega arith) (inr a, inl (omega (arith, H .past))) (inl (omega (arith, H .past′)))
+  high y a b = kept y (omega arith) (inr a, inl (omega (arith, H .past))) (inl (omega (arith, H .past′))) (omega (arith, before-links))
 
   start-f : (x : ℕ) → x < m → startOf ws₃ m (11 * m) x ≡ startOf ws m (11 * m) x
   start-f x g = wide-same ws ws₃ m (11 * m + x) (high (11 * m + x) (omega arith) (omega arith)) (high (11 * m + x + m) (omega arith) (omega arith))
@@ -178,7 +183,7 @@ module _ (m p h o b c n k i j : ℕ) (ws ws₁ ws₃ : List ℕ) (P : Pool m p h
   floors-at : (x : ℕ) → x < m → listAt ws₃ m (11 * m) x ≡ listAt ws m (11 * m) x
   floors-at x g =
       list-same ws ws₃ m (11 * m) x (start-f x g) (stop-f x g) (P .held .floors .order x g) (P .held .floors .within x g) (l₃ ∙ l₁) (λ y a b.
-      kept y (omega (arith, floor-past x g .0, H .past)) (inr (omega (arith, floor-past x g .0, H .past)), inr (omega (arith, floor-past x g .0))) (inr (omega (arith, floor-past x g .1))))
+      kept y (omega (arith, floor-past x g .0, H .past)) (inr (omega (arith, floor-past x g .0, H .past)), inr (omega (arith, floor-past x g .0))) (inr (omega (arith, floor-past x g .1))) (omega (arith, Y .floors x g)))
 
   -- ---- the pool is in order
 
@@ -264,15 +269,21 @@ module _ (m p h o b c n k i j : ℕ) (ws ws₁ ws₃ : List ℕ) (P : Pool m p h
     blank = λ x g. mid (5 * m + x) (omega arith) (omega arith) ∙ P .blank x g;
   }
 
-  merged-laid : (top : ℕ) → Laid m p b c top ws₁ → Laid m p b c top ws₃
+  merged-laid : (top : ℕ) → Laid m p b c top links (swapOne old n) ws₁ → Laid m p b c top links (λ y. y) ws₃
   merged-laid top D = record {
+    room = record {
+      past = D .room .past;
+      past′ = D .room .past′;
+      into = rw l₃ (D .room .into);
+      floors = λ r g. rw (stop-f r g) (Y .floors r g);
+    };
     from = D .from;
     upto = D .upto;
     below = λ w x g. rw (stop-3 x g) (D .below w x g);
     apart = λ w. record { apart = λ x y g q d. rw (start-3 x g, stop-3 x g, start-3 y q, stop-3 y q) (D .apart w .apart x y g q d) };
-    owned = λ w. record {
-      own = λ x q g u v k. getD-after (c + (q - b)) (A .frame) (omega (arith, H .past′)) ∙ D .owned w .own x q g (rw (start-3 x g) at u) (rw (stop-3 x g) at v) k;
-    };
+    mentions = λ w. mentions-via m p c links (swapOne old n) (λ y. y) ws₁ ws₃ (λ y g. A .ids y g)
+        (λ y g l e. l (A .ids y g ∙ ap (swapOne old n) e ∙ swap-other old n 0 (λ v. L .live (sym v)))) lists-at
+        (λ q g. getD-after (c + q) (A .frame) (omega (arith, H .past′))) (λ y g. getD-after y (A .frame) (omega (arith, before-links))) (D .mentions w);
   }
 
   -- ---- the records, with the marks carried too
@@ -388,28 +399,28 @@ module _ (m n i old : ℕ) (ws₁ ws₂ ws₃ : List ℕ) (hn : n < m) (hi : i <
 
 -- two counts are no more than all
 module _ (m p h o n k i j : ℕ) (ws ws₁ : List ℕ) (P : Pool m p h o ws) (L : Listed m n k i j ws) where
-  pub spans-fit : (b c old new : ℕ) → Sides h o b c → Relisted m p n k i j old new b c ws ws₁ → getD ws₁ (m + n) 0 + getD ws₁ (m + i) 0 < 65536
+  pub spans-fit : (b c links old new : ℕ) → LinksPast m p h o links ws → Sides h o b c → Relisted m p n k i j old new b c links ws ws₁ → getD ws₁ (m + n) 0 + getD ws₁ (m + i) 0 < 65536
   unfolding countAt
-  spans-fit b c old new W R =
+  spans-fit b c links old new Y W R =
       let H = turned-halves m p h o b c ws P W in
-      let a : getD ws₁ (m + n) 0 ≡ getD ws (m + n) 0 = R .kept (m + n) (inl (omega (arith, L .pair .first)), inl (omega (arith, L .pair .first, H .past))) (inl (omega (arith, L .pair .first, H .past′))) in
-      let d : getD ws₁ (m + i) 0 ≡ getD ws (m + i) 0 = R .kept (m + i) (inl (omega (arith, L .pair .second)), inl (omega (arith, L .pair .second, H .past))) (inl (omega (arith, L .pair .second, H .past′))) in
+      let a : getD ws₁ (m + n) 0 ≡ getD ws (m + n) 0 = R .kept (m + n) (inl (omega (arith, L .pair .first)), inl (omega (arith, L .pair .first, H .past))) (inl (omega (arith, L .pair .first, H .past′))) (omega (arith, L .pair .first, P .halves .past, Y .past)) in
+      let d : getD ws₁ (m + i) 0 ≡ getD ws (m + i) 0 = R .kept (m + i) (inl (omega (arith, L .pair .second)), inl (omega (arith, L .pair .second, H .past))) (inl (omega (arith, L .pair .second, H .past′))) (omega (arith, L .pair .second, P .halves .past, Y .past)) in
       omega (arith, P .spans, sum-split (countAt ws m) i n m (L .pair .second) (L .pair .first) (L .pair .apart))
 
   pub columns-in : length ws₁ ≡ length ws → 2 * m ≤ length ws₁
   columns-in l = omega (arith, P .held .lists .room)
 
   -- after the lists and the counts, the pair can hand over
-  module _ (b c old new : ℕ) (W : Sides h o b c) (R : Relisted m p n k i j old new b c ws ws₁) (l : length ws₁ ≡ length ws) (ws₂ : List ℕ)
+  module _ (b c links old new : ℕ) (Y : LinksPast m p h o links ws) (W : Sides h o b c) (R : Relisted m p n k i j old new b c links ws ws₁) (l : length ws₁ ≡ length ws) (ws₂ : List ℕ)
       (e : ws₂ ≡ set (set ws₁ (m + n) (getD ws₁ (m + n) 0 + getD ws₁ (m + i) 0)) (m + i) 0) (l₂ : length ws₂ ≡ length ws₁) where
     still : (y : ℕ) → (y < m) ⊎ (2 * m ≤ y) → y < 7 * m → getD ws₂ y 0 ≡ getD ws y 0
     still y v g =
         let H = turned-halves m p h o b c ws P W in
         let both = getD ws₁ (m + n) 0 + getD ws₁ (m + i) 0 in
         let f : Frame m (2 * m) ws₁ ws₂ = rw e (frame-then (frame-set m (2 * m) (m + n) both ws₁ (omega arith) (omega (arith, L .pair .first)))
-            (frame-set m (2 * m) (m + i) 0 (set ws₁ (m + n) both) (omega arith) (omega (arith, L .pair .second)))) in
+        (frame-set m (2 * m) (m + i) 0 (set ws₁ (m + n) both) (omega arith) (omega (arith, L .pair .second)))) in
         ⊎-elim (λ (w : y < m). getD-before y f w) (λ (w : 2 * m ≤ y). getD-after y f w) v
-        ∙ R .kept y (inl g, inl (omega (arith, H .past))) (inl (omega (arith, H .past′)))
+        ∙ R .kept y (inl g, inl (omega (arith, H .past))) (inl (omega (arith, H .past′))) (omega (arith, P .halves .past, Y .past))
 
     pub owners-still : Owners m n i ws₂
     owners-still =
@@ -430,7 +441,8 @@ module _ (m p h o n k i j : ℕ) (ws ws₁ : List ℕ) (P : Pool m p h o ws) (L 
         }
 
 -- as the code has it
-module _ (m p h o b c n k i j : ℕ) (ws ws₁ ws₂ ws₃ : List ℕ) (P : Pool m p h o ws) (L : Listed m n k i j ws) (W : Sides h o b c) (R : Relisted m p n k i j (getD ws i 0) n b c ws ws₁)
+module _ (m p h o b c n k i j links : ℕ) (ws ws₁ ws₂ ws₃ : List ℕ) (P : Pool m p h o ws) (Y : LinksPast m p h o links ws) (L : Listed m n k i j ws) (W : Sides h o b c)
+    (R : Relisted m p n k i j (getD ws i 0) n b c links ws ws₁)
     (l₁ : length ws₁ ≡ length ws)
     (e : ws₂ ≡ set (set ws₁ (m + n) (getD ws₁ (m + n) 0 + getD ws₁ (m + i) 0)) (m + i) 0) (l₂ : length ws₂ ≡ length ws₁) (J : Joining m n i ws₂ ws₃)
     (l₃ : length ws₃ ≡ length ws₂) (ws₄ : List ℕ) (e₄ : ws₄ ≡ remarked m n i ws₃) where
@@ -439,20 +451,39 @@ module _ (m p h o b c n k i j : ℕ) (ws ws₁ ws₂ ws₃ : List ℕ) (P : Pool
       after-is m n i (getD ws i 0) ws₁ ws₂ ws₃ (L .pair .first) (L .pair .second) (L .pair .apart) (omega (arith, P .held .lists .room)) (own-second m p h o n k i j ws P L) e J
 
   pool₃ : Pool m p b c ws₃
-  pool₃ = merged-pool m p h o b c n k i j ws ws₁ ws₃ P W L R after l₁ (l₃ ∙ l₂)
+  pool₃ = merged-pool m p h o b c n k i j links ws ws₁ ws₃ P Y W L R after l₁ (l₃ ∙ l₂)
 
   marked : Remarked m n i ws₃ ws₄
   marked = rw e₄ (remarked-is m n i ws₃ (L .pair .first) (L .pair .second) (L .pair .apart) (omega (arith, pool₃ .halves .into, pool₃ .halves .past)))
 
   pub region-recs : recsOf ws₄ m ≡ mergedPair (recsOf ws m) i (getD ws i 0) n
-  region-recs = merged-recs m p h o b c n k i j ws ws₁ ws₃ P W L R after l₁ (l₃ ∙ l₂) ws₄ marked
+  region-recs = merged-recs m p h o b c n k i j links ws ws₁ ws₃ P Y W L R after l₁ (l₃ ∙ l₂) ws₄ marked
 
   pub region-pool : Pool m p b c ws₄
   region-pool = marked-pool m n i ws₃ ws₄ marked p b c pool₃
 
-  pub region-laid : (top : ℕ) → Laid m p b c top ws₁ → Laid m p b c top ws₄
+  pub region-laid : (top : ℕ) → Laid m p b c top links (swapOne (getD ws i 0) n) ws₁ → Laid m p b c top links (λ y. y) ws₄
   region-laid top D =
-      marked-laid m n i ws₃ ws₄ marked p b c pool₃ top (merged-laid m p h o b c n k i j ws ws₁ ws₃ P W L R after l₁ (l₃ ∙ l₂) top D)
+      marked-laid m n i ws₃ ws₄ marked p b c pool₃ top links (merged-laid m p h o b c n k i j links ws ws₁ ws₃ P Y W L R after l₁ (l₃ ∙ l₂) top D)
+
+-- before it: each of the pair bears its own number, and the one's becomes the other's
+module _ (m p h o n k i j : ℕ) (ws : List ℕ) (P : Pool m p h o ws) (L : Listed m n k i j ws) where
+  pub pair-owners : Owners m n i ws
+  pair-owners = record {
+    bearers = P .bearers;
+    room = omega (arith, P .held .lists .room);
+    few = P .held .few;
+    first = L .pair .first;
+    second = L .pair .second;
+    apart = L .pair .apart;
+    own = own-first m p h o n k i j ws P L;
+    own′ = own-second m p h o n k i j ws P L;
+    some = λ z. L .live′ (own-first m p h o n k i j ws P L ∙ z);
+    some′ = λ z. L .live (own-second m p h o n k i j ws P L ∙ z);
+  }
+
+  pub pair-old : getD ws i 0 ≡ i
+  pair-old = own-second m p h o n k i j ws P L
 
 -- the marks lie in the workspace
 pub marks-in : (m p h o : ℕ) (ws ws′ : List ℕ) → Pool m p h o ws → length ws′ ≡ length ws → 16 * m ≤ length ws′
@@ -466,5 +497,5 @@ recount-in ws m n i v h g = rw (length-set ws (m + n) v) (omega arith)
 pub pool-sized : (m p q h o : ℕ) (ws : List ℕ) → q ≡ p → Pool m p h o ws → Pool m q h o ws
 pool-sized m p q h o ws e P = rw e P
 
-pub laid-sized : (m p q h o top : ℕ) (ws ws′ : List ℕ) → q ≡ p → (Laid m p h o top ws → Laid m p h o top ws′) → Laid m q h o top ws → Laid m q h o top ws′
-laid-sized m p q h o top ws ws′ e f = rw e f
+pub laid-sized : (m p q h o top l l′ : ℕ) (f g : ℕ → ℕ) (ws ws′ : List ℕ) → q ≡ p → l′ ≡ l → (Laid m p h o top l f ws → Laid m p h o top l g ws′) → Laid m q h o top l′ f ws → Laid m q h o top l′ g ws′
+laid-sized m p q h o top l l′ f g ws ws′ e d t = rw (e, d) t

@@ -3,7 +3,7 @@ pub mod Part
 pub mod Fixed
 pub mod Alike
 pub mod Bearers
-pub mod Pool
 pub mod Links
+pub mod Pool
 pub mod Sweep
 pub mod Forms

@@ -2,14 +2,15 @@
 use Prim.Native.Nat.{ℕ, _+_, _≤_, _<_}
 use mathlib.Core.Path.{_≡_}
 use mathlib.Core.Logic.{_⊎_}
-use mathlib.Core.Bool.{false}
+use mathlib.Core.Bool.{true, false}
 use mathlib.Core.List.{List}
 use lib.ListN.{length, getD}
 use Rattle.rules.specs.Records.{has}
 use Rattle.table.specs.Map.{floorPartsAt}
 use Rattle.table.specs.View.{listStart, listEnd, listIn}
 use Rattle.pool.specs.Pool.{newList, Passed, Rows, Free}
-use Rattle.pool.specs.Links.{linksEnd, Linked}
+use Rattle.pool.specs.Links.{linksEnd, Linked, Mention}
+use Rattle.pool.specs.Bearers.{Bearers, Borne}
 
 pub record SweptOf (m i n old new : ℕ) (M : ℕ → Type 0) (ws ws′ : List ℕ) : Type 0 where
   -- what a list is to become it was to become at first
@@ -53,3 +54,11 @@ pub record RenamedFor (m i n y old new p o from : ℕ) (ws ws′ : List ℕ) : T
 pub record MetBeside (m s i n old new : ℕ) (ws ws′ : List ℕ) : Type 0 where
   pub nobody : m ≤ getD ws s 0 → ws′ ≡ ws
   pub passed : getD ws s 0 < m → Passed m (getD ws (getD ws s 0) 0) i n old new ws ws′
+
+-- linked places mention old wherever a live record other than i and n lists it
+pub record Searched (m i n old p o from : ℕ) (ws : List ℕ) : Type 0 where
+  pub reached : Reached m i n p o from ws
+  pub bearers : Bearers m ws
+  pub borne : Borne m old ws
+  pub tells : (x : ℕ) → x < m → (x ≡ i → ⊥) → (x ≡ n → ⊥) → (getD ws x 0 ≡ 0 → ⊥) → has (listIn ws m x) old ≡ true
+      → Mention m (reached .places) o (λ y. y) (reached .named) ws x old

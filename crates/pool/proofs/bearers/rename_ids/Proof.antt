@@ -12,7 +12,7 @@ abbrev Inv-loop : tie.InvT-loop
 Inv-loop ws₀ m i new y₀ ws y = (length ws ≡ length ws₀) × (y < m) × Handing m i new ws₀ ws y
 
 abbrev μ-loop : tie.MeasureT-loop
-μ-loop ws₀ m i new y₀ ws y = steps m ws m y
+μ-loop ws₀ m i new y₀ ws y = steps m ws₀ m y
 
 loop-holds : tie.Need-loop-holds Inv-loop μ-loop
 loop-holds c = (search needs, search needs, search hand-start)

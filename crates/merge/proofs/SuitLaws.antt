@@ -1,13 +1,12 @@
 -- Laws of the workspace's view. Assumes nothing.
-use Prim.Native.Nat.{ℕ, zero, suc, _+_, _-_, _*_, _≤_, _<_}
+use Prim.Native.Nat.{ℕ, zero, suc, _+_, _*_, _≤_, _<_}
 use native.Mathlib.Omega.{arith}
 use native.Mathlib.Decide.{ℕ-discrete}
-use native.Mathlib.Numerals.{add-one}
 use mathlib.Core.Path.{_≡_, refl, sym, ap, _∙_}
+use mathlib.Core.Logic.{⊎-elim}
 use mathlib.Core.Bool.{Bool, true, false}
 use mathlib.Core.List.{List, [], _∷_}
-use lib.ListN.{drop-of-length-le, length, getD, take, drop}
-use lib.Seq.{drop-cons}
+use lib.ListN.{drop-of-length-le, length, getD, drop}
 use lib.Dec.{eqb}
 use borrow.Author.Tests.{eq-eqb, ne-eqb, le-leb, lt-leb}
 use Rattle.rules.specs.Base.{_and_, _or_, any, many}
@@ -15,7 +14,7 @@ use Rattle.rules.specs.Records.{Rec, at, fresh}
 use Rattle.laws.proofs.Basics.{tab-at, any-more, any-past}
 use Rattle.space.proofs.Laws.{cases}
 use Rattle.table.proofs.ViewLaws.{map-tab, view-length, view-at, view-drop}
-use Rattle.table.specs.View.{part, listAt, recAt, view, Below, Held}
+use Rattle.table.specs.View.{listAt, recAt, view, Below, Held}
 use Rattle.pool.specs.Bearers.{nextOf, Bearers, Borne}
 use Rattle.pool.proofs.BearerLaws.{steps, Walked, walk-start, walk-next, walk-falls, walk-end}
 use Rattle.pool.specs.Fixed.{floorIs, floorIn, idsOf, suitsF}
@@ -51,14 +50,13 @@ module _ (ws : List ℕ) (m s t a b : ℕ) where
   unfolding floorIn recAt _and_ _or_
   other-record i h n e = record { all = e .all ∙ rw (view-drop ws m s t i h, ne-eqb (getD ws i 0) a n) refl }
 
-  module _ (i : ℕ) (h : i < m) (n : getD ws i 0 ≡ a) (e : From ws m s t a b i) (l : List ℕ) (d : l ≡ listAt ws m t i) (r : Bool) (q : r ≡ any (floorIs ws b) l) where
-    found-here : r ≡ true → true ≡ floorIn ws (view ws m s t) a b
-    unfolding floorIn recAt _and_ _or_
-    found-here z = sym (e .all ∙ rw (view-drop ws m s t i h, eq-eqb (getD ws i 0) a n, ← d, ← q, z) refl)
+  found-here : (i : ℕ) → i < m → getD ws i 0 ≡ a → From ws m s t a b i → any (floorIs ws b) (listAt ws m t i) ≡ true → true ≡ floorIn ws (view ws m s t) a b
+  unfolding floorIn recAt _and_ _or_
+  found-here i h n e z = sym (e .all ∙ rw (view-drop ws m s t i h, eq-eqb (getD ws i 0) a n, z) refl)
 
-    found-next : r ≡ false → From ws m s t a b (i + 1)
-    unfolding floorIn recAt _and_ _or_
-    found-next z = record { all = e .all ∙ rw (view-drop ws m s t i h, eq-eqb (getD ws i 0) a n, ← d, ← q, z) refl }
+  found-next : (i : ℕ) → i < m → getD ws i 0 ≡ a → From ws m s t a b i → any (floorIs ws b) (listAt ws m t i) ≡ false → From ws m s t a b (i + 1)
+  unfolding floorIn recAt _and_ _or_
+  found-next i h n e z = record { all = e .all ∙ rw (view-drop ws m s t i h, eq-eqb (getD ws i 0) a n, z) refl }
 
   found-end : (i : ℕ) → m ≤ i → From ws m s t a b i → false ≡ floorIn ws (view ws m s t) a b
   unfolding floorIn
@@ -66,50 +64,57 @@ module _ (ws : List ℕ) (m s t a b : ℕ) where
       let w : length (view ws m s t) ≤ i = rw (view-length ws m s t) h in
       sym (e .all ∙ rw (drop-of-length-le (view ws m s t) w) refl)
 
--- a record of id a that has the floor, and all of id a that have none
-module _ (ws : List ℕ) (m s t a b : ℕ) where
-  abbrev Without : ℕ → Type 0
-  Without z = any (floorIs ws b) (listAt ws m t z) ≡ false
-
+  -- one of id a has the floor
   some-from : (k i y : ℕ) → i + k ≡ y → y < m → getD ws y 0 ≡ a → any (floorIs ws b) (listAt ws m t y) ≡ true → From ws m s t a b i → true ≡ floorIn ws (view ws m s t) a b
-  some-from zero i y e g n h f =
-      let z : i ≡ y = omega arith in
-      found-here ws m s t a b i (omega arith) (rw z n) f (listAt ws m t i) refl _ refl (rw z h)
+  some-from zero i y e g n h f = let z : i ≡ y = omega arith in found-here i (omega arith) (rw z n) f (rw z h)
   some-from (suc k) i y e g n h f = elim (ℕ-discrete (getD ws i 0) a) [
-    | yes d ↦ cases (any (floorIs ws b) (listAt ws m t i))
-        (λ q. found-here ws m s t a b i (omega arith) d f (listAt ws m t i) refl _ refl q)
-        (λ q. some-from k (i + 1) y (omega arith) g n h (found-next ws m s t a b i (omega arith) d f (listAt ws m t i) refl _ refl q))
-    | no d ↦ some-from k (i + 1) y (omega arith) g n h (other-record ws m s t a b i (omega arith) d f)
+    | yes d ↦ ⊎-elim
+        (λ (q : any (floorIs ws b) (listAt ws m t i) ≡ true). found-here i (omega arith) d f q)
+        (λ (q : any (floorIs ws b) (listAt ws m t i) ≡ false). some-from k (i + 1) y (omega arith) g n h (found-next i (omega arith) d f q))
+        (cases (any (floorIs ws b) (listAt ws m t i)))
+    | no d ↦ some-from k (i + 1) y (omega arith) g n h (other-record i (omega arith) d f)
   ]
 
-  none-from : (k i : ℕ) → i + k ≡ m → ((z : ℕ) → z < m → getD ws z 0 ≡ a → Without z) → From ws m s t a b i → false ≡ floorIn ws (view ws m s t) a b
-  none-from zero i e h f = found-end ws m s t a b i (omega arith) f
+  -- none of id a has it
+  none-from : (k i : ℕ) → i + k ≡ m → ((z : ℕ) → z < m → getD ws z 0 ≡ a → any (floorIs ws b) (listAt ws m t z) ≡ false) → From ws m s t a b i → false ≡ floorIn ws (view ws m s t) a b
+  none-from zero i e h f = found-end i (omega arith) f
   none-from (suc k) i e h f = none-from k (i + 1) (omega arith) h (elim (ℕ-discrete (getD ws i 0) a) [
-    | yes d ↦ found-next ws m s t a b i (omega arith) d f (listAt ws m t i) refl _ refl (h i (omega arith) d)
-    | no d ↦ other-record ws m s t a b i (omega arith) d f
+    | yes d ↦ found-next i (omega arith) d f (h i (omega arith) d)
+    | no d ↦ other-record i (omega arith) d f
   ])
 
--- the walk over the records of id a: those before y have no such floor
-module _ (ws : List ℕ) (m a b : ℕ) where
-  pub look-start : Bearers m ws → Borne m a ws → Walked (Without ws m (7 * m) (11 * m) a b) m a ws a
-  look-start B (g, e, z) = walk-start _ m a ws B g e z
+-- record z has no floor of id b
+abbrev Without : List ℕ → ℕ → ℕ → ℕ → Type 0
+Without ws m b z = any (floorIs ws b) (listAt ws m (11 * m) z) ≡ false
 
-  module _ (y : ℕ) (W : Walked (Without ws m (7 * m) (11 * m) a b) m a ws y) (z : a ≡ 0 → ⊥) (n : y ≡ 0 → ⊥) where
+-- the walk over the records of id a, at y: those before it have no floor of id b
+pub record Looked (m a b : ℕ) (ws : List ℕ) (y : ℕ) : Type 0 where
+  pub walked : Walked (Without ws m b) m a ws y
+  pub some : a ≡ 0 → ⊥
+
+pub look-start : (ws : List ℕ) (m a b : ℕ) → Bearers m ws → Borne m a ws → Looked m a b ws a
+look-start ws m a b B (g, e, z) = record { walked = walk-start (Without ws m b) m a ws B g e z; some = z }
+
+module _ (ws : List ℕ) (m a b y : ℕ) (W : Looked m a b ws y) where
+  module _ (n : y ≡ 0 → ⊥) where
     pub look-in : y < m
-    look-in = W .here n .0
+    look-in = W .walked .here n .0
 
     pub look-falls : (y′ : ℕ) → y′ ≡ nextOf ws m y → steps m ws m y′ < steps m ws m y
-    look-falls y′ e = rw e (walk-falls _ _ m a y ws W z n)
+    look-falls y′ e = rw e (walk-falls (Without ws m b) (Without ws m b) m a y ws (W .walked) (W .some) n)
 
     module _ (l : List ℕ) (d : l ≡ listAt ws m (11 * m) y) (r : Bool) (q : r ≡ any (floorIs ws b) l) where
       pub look-found : r ≡ true → true ≡ floorIn ws (view ws m (7 * m) (11 * m)) a b
-      look-found h = some-from ws m (7 * m) (11 * m) a b y 0 y (omega arith) look-in (W .here n .1) (rw (← d) (sym q ∙ h)) (from-first ws m (7 * m) (11 * m) a b)
+      look-found h = some-from ws m (7 * m) (11 * m) a b y 0 y (omega arith) look-in (W .walked .here n .1) (rw (← d) (sym q ∙ h)) (from-first ws m (7 * m) (11 * m) a b)
 
-      pub look-next : r ≡ false → (y′ : ℕ) → y′ ≡ nextOf ws m y → Walked (Without ws m (7 * m) (11 * m) a b) m a ws y′
-      look-next h y′ e = rw e (walk-next _ _ m a y ws W z n (λ _ _ _ v. v) (rw (← d) (sym q ∙ h)))
+      pub look-next : r ≡ false → (y′ : ℕ) → y′ ≡ nextOf ws m y → Looked m a b ws y′
+      look-next h y′ e = record {
+        walked = rw e (walk-next (Without ws m b) (Without ws m b) m a y ws (W .walked) (W .some) n (λ _ _ _ v. v) (rw (← d) (sym q ∙ h)));
+        some = W .some;
+      }
 
-  pub look-none : (y : ℕ) → Walked (Without ws m (7 * m) (11 * m) a b) m a ws y → y ≡ 0 → false ≡ floorIn ws (view ws m (7 * m) (11 * m)) a b
-  look-none y W e = none-from ws m (7 * m) (11 * m) a b m 0 (omega arith) (walk-end _ m a y ws W e) (from-first ws m (7 * m) (11 * m) a b)
+  pub look-none : y ≡ 0 → false ≡ floorIn ws (view ws m (7 * m) (11 * m)) a b
+  look-none e = none-from ws m (7 * m) (11 * m) a b m 0 (omega arith) (walk-end (Without ws m b) m a y ws (W .walked) e) (from-first ws m (7 * m) (11 * m) a b)
 
 -- the id of a live record
 pub live-borne : (ws : List ℕ) (m i : ℕ) → Bearers m ws → i < m → (getD ws i 0 ≡ 0 → ⊥) → Borne m (getD ws i 0) ws

@@ -7,7 +7,7 @@ use table::map::AREAS;
 use table::map::FLOORS;
 use table::map::LISTS;
 ghost use mathlib.Core.Path.{_≡_};
-ghost use Prim.Native.Nat.{_*_, _<_};
+ghost use Prim.Native.Nat.{_<_};
 ghost use lib.ListN.{length, getD};
 ghost use Rattle.rules.specs.Base.{any};
 ghost use Rattle.table.specs.Map.{listsAt, floorPartsAt};

@@ -21,7 +21,7 @@ use Rattle.filter.specs.Group.{Calm}
 use Rattle.pool.specs.Alike.{Joined}
 use Rattle.pool.specs.Fixed.{mergedF}
 use Rattle.numbering.specs.Number.{Column, Blank}
-use Rattle.pool.specs.Pool.{lenAt, countAt, Pool, Laid}
+use Rattle.pool.specs.Pool.{lenAt, countAt, Pool}
 use Rattle.pool.specs.Forms.{LaidIn}
 use Rattle.pool.proofs.BearerLaws.{bearers-start}
 use Rattle.merge.specs.Ready.{Ready}
@@ -60,18 +60,6 @@ removed-own x r h = absurd (h refl)
 
 pub filter-fresh : (least : ℕ) (rs : List Rec) → Fresh rs → Fresh (filtered least rs)
 filter-fresh least rs f = record { own = filter-each (λ x r. (r .id ≡ 0 → ⊥) → r .id ≡ x) seen-own (λ x r _. removed-own x r) least rs (f .own) }
-
--- ---- before the first merge
-
--- with the top at the half's end nothing is known of the lists
-laid-start : (m p h o : ℕ) (ws : List ℕ) → Laid m p h o (h + p) ws
-laid-start m p h o ws = record {
-  from = omega arith;
-  upto = omega arith;
-  below = λ w. absurd (omega arith);
-  apart = λ w. absurd (omega arith);
-  owned = λ w. absurd (omega arith);
-}
 
 -- ---- before the filter
 
@@ -131,8 +119,21 @@ module _ (m n : ℕ) (ws ids : List ℕ) (R : Ready m n ws ids) where
       blank = λ x g. C .blank x (omega arith);
     }
 
+    -- the top is at the half's end, so nothing is said of how the lists lie
     pub filtered-laid : LaidIn m (firstHalf m n) ws₁
-    filtered-laid = laid-start m (4 * n) (16 * m) (16 * m + 4 * n) ws₁
+    filtered-laid = record {
+      room = record {
+        past = omega arith;
+        past′ = omega arith;
+        into = omega (arith, R .room);
+        floors = λ r g. rw (end-same (11 * m) r (omega arith)) (R .floored r g);
+      };
+      from = omega arith;
+      upto = omega arith;
+      below = λ w. absurd (omega arith);
+      apart = λ w. absurd (omega arith);
+      mentions = λ w. absurd (omega arith);
+    }
 
     pub filtered-joined : Joined (recsOf ws₁ m)
     filtered-joined = record { rs = recsOf ws₁ m; alike = alike-start (recsOf ws₁ m) fresh-after }

@@ -1,4 +1,5 @@
--- Laws of the workspace's view. Assumes nothing.
+-- Whether one record may take another, read from the workspace. The floors of an id are looked for along the row of the records that bear it (`Looked`):
+-- a walk from the first meets all of them, so the rule's search through all records finds a floor where the walk does. Assumes nothing.
 use Prim.Native.Nat.{ℕ, zero, suc, _+_, _*_, _≤_, _<_}
 use native.Mathlib.Omega.{arith}
 use native.Mathlib.Decide.{ℕ-discrete}

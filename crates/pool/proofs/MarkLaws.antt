@@ -1,6 +1,6 @@
 -- The marks after a merge: the absorber bears what either bore, the absorbed record none. They lie between the tables and the pool's halves,
 -- so the lists, the floors and the order of the pool stay as they were.
-use Prim.Native.Nat.{ℕ, _+_, _-_, _*_, _≤_, _<_}
+use Prim.Native.Nat.{ℕ, _+_, _*_, _≤_, _<_}
 use native.Mathlib.Omega.{arith}
 use mathlib.Core.Path.{_≡_, refl, sym, ap, _∙_}
 use mathlib.Core.Logic.{⊎-elim, _⊎_, inl, inr}

@@ -1,6 +1,6 @@
 -- Linked places mention what live records list, before a merge and after it. Where lists are renamed in place the places stay, and what they named and the
 -- records beside them are renamed with the ids; where lists are carried the places are linked anew, and hold what is listed.
-use Prim.Native.Nat.{ℕ, zero, suc, _+_, _-_, _*_, _≤_, _<_}
+use Prim.Native.Nat.{ℕ, suc, _+_, _-_, _*_, _≤_, _<_}
 use native.Mathlib.Omega.{arith}
 use native.Mathlib.Decide.{ℕ-discrete}
 use mathlib.Core.Path.{_≡_, refl, sym, ap, _∙_}
@@ -19,7 +19,7 @@ use Rattle.table.proofs.ViewLaws.{wide-same, list-length, part-at}
 use Rattle.pool.specs.Lists.{swapOne}
 use Rattle.pool.specs.Part.{renamedList}
 use Rattle.pool.specs.Bearers.{Owners}
-use Rattle.pool.specs.Links.{heldFrom, Linked, Mention, Mentions}
+use Rattle.pool.specs.Links.{Linked, Mention, Mentions}
 use Rattle.pool.specs.Pool.{lenAt, newList, joinedList, Pool, Relisted}
 use Rattle.pool.proofs.FloorLaws.{swap-old, swap-other, swap-has}
 use Rattle.pool.proofs.MergeLaws.{has-some, tidy-has, append-has, around-has}

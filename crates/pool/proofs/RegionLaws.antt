@@ -1,6 +1,6 @@
 -- One merge is the rule's: the lists as `relist` leaves them, the counts added, the ids renamed, the marks carried; nothing else of the records changes.
 -- What is listed stays below m: an entry of a new list is one of the old ones, or the absorber.
-use Prim.Native.Nat.{ℕ, suc, _+_, _-_, _*_, _≤_, _<_}
+use Prim.Native.Nat.{ℕ, suc, _+_, _*_, _≤_, _<_}
 use native.Mathlib.Omega.{arith}
 use native.Mathlib.Decide.{ℕ-discrete}
 use native.Mathlib.Nat.{mul-le-mul-right}
@@ -8,19 +8,18 @@ use mathlib.Core.Path.{_≡_, refl, sym, ap, _∙_}
 use mathlib.Core.Logic.{⊎-elim, _⊎_, inl, inr}
 use mathlib.Core.Bool.{true, not, false≢true}
 use mathlib.Core.List.{List, [], _∷_, _++_, map}
-use lib.ListN.{length, getD, set, length-set, length-map, List·getD-map}
+use lib.ListN.{length, getD, set, length-set, length-map}
 use lib.Seq.{getD-set-same, getD-set-other}
 use lib.Dec.{eqb}
 use borrow.Author.Tests.{ne-eqb}
-use borrow.Rule.Slice.PartMut.{putMid, midOf, same-len-mid}
 use Rattle.rules.specs.Base.{_or_, if_then_else_, any}
 use Rattle.rules.specs.Records.{Rec, at, has}
 use Rattle.rules.specs.Merge.{place, around, tidy, emptied}
 use Rattle.laws.proofs.Basics.{if-ind}
 use Rattle.laws.proofs.Sums.{sum-same}
 use Rattle.laws.proofs.MergeEnds.{at-map}
-use Rattle.space.specs.Space.{Frame, sec}
-use Rattle.space.proofs.Laws.{getD-before, getD-after, frame-then, frame-set, frame-wider, frame-put, sec-put, getD-sec, length-sec}
+use Rattle.space.specs.Space.{Frame}
+use Rattle.space.proofs.Laws.{getD-before, getD-after, frame-then, frame-set, frame-wider}
 use Rattle.table.specs.View.{startOf, endOf, listAt, recAt, view, recsOf, Parts, Under, Held}
 use Rattle.table.proofs.ViewLaws.{view-length, view-at, view-by, rec-eq, list-same, list-length, wide-same, list-past, parts-past}
 use Rattle.pool.specs.Lists.{swapOne}

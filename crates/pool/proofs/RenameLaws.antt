@@ -1,28 +1,25 @@
 -- Lists renamed where they are. They lie apart, so a list that is renamed leaves the others as they were; it only gets shorter, so they stay apart.
 -- A list can be met again: it holds no old then, so it stays.
-use Prim.Native.Nat.{ℕ, suc, _+_, _-_, _*_, _≤_, _<_}
+use Prim.Native.Nat.{ℕ, _+_, _*_, _≤_, _<_}
 use native.Mathlib.Omega.{arith}
-use native.Mathlib.Decide.{ℕ-discrete, decLt}
+use native.Mathlib.Decide.{ℕ-discrete}
 use mathlib.Core.Path.{_≡_, refl, sym, ap, _∙_}
 use mathlib.Core.Logic.{⊎-elim, _⊎_, inl, inr}
-use mathlib.Core.Bool.{true, false, true≢false}
+use mathlib.Core.Bool.{true, false}
 use mathlib.Core.List.{List, map}
-use lib.ListN.{length, getD, take, drop, length-take}
+use lib.ListN.{length, getD}
 use Rattle.rules.specs.Records.{has}
-use Rattle.rules.specs.Merge.{place}
 use Rattle.space.specs.Space.{Frame}
-use Rattle.space.proofs.Laws.{cases, getD-before, getD-after, getD-sec}
+use Rattle.space.proofs.Laws.{cases, getD-before, getD-after}
 use Rattle.table.specs.View.{part, startOf, endOf, listAt, Parts, Placed}
-use Rattle.table.proofs.ViewLaws.{wide-same, list-same, part-after, part-at, part-length}
+use Rattle.table.proofs.ViewLaws.{wide-same, part-after}
 use Rattle.pool.specs.Lists.{swapOne}
 use Rattle.pool.specs.Part.{renamedList}
 use Rattle.pool.specs.Pool.{newList, Apart, Renamed, Passed, Rows, Swept}
 use Rattle.pool.proofs.CarryLaws.{new-dead, new-live}
-use Rattle.pool.proofs.HasLaws.{has-not}
 use Rattle.pool.proofs.PartLaws.{renamed-none, renamed-some}
-use Rattle.pool.proofs.FloorLaws.{swap-old, swap-other, swap-has, has-at}
+use Rattle.pool.proofs.FloorLaws.{swap-old, swap-other, swap-has}
 use Rattle.pool.proofs.MergeLaws.{tidy-has}
-use Rattle.table.proofs.SearchLaws.{place-before}
 
 -- ---- one record
 

@@ -3,7 +3,7 @@
 -- So the half at o is free between merges: beside each place of a list that was carried, as far from o as the place was from h, stands the record whose list it
 -- was, and the places are linked (Links.antt): a merge renames in the lists that name the absorbed record, and looks at no other.
 -- All lists together fit a half, since a merge never lengthens their sum.
-use Prim.Native.Nat.{ℕ, _+_, _-_, _*_, _≤_, _<_}
+use Prim.Native.Nat.{ℕ, _+_, _-_, _≤_, _<_}
 use mathlib.Core.Path.{_≡_}
 use mathlib.Core.Logic.{_⊎_}
 use mathlib.Core.Bool.{not}

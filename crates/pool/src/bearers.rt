@@ -3,7 +3,7 @@ use table::at;
 use table::map::NEXTS;
 ghost use mathlib.Core.Path.{_≡_};
 ghost use Prim.Native.Nat.{_+_, _≤_, _<_};
-ghost use lib.ListN.{length, getD, set};
+ghost use lib.ListN.{length, set};
 ghost use Rattle.table.specs.Map.{nextsAt};
 ghost use Rattle.pool.specs.Bearers.{nextOf, Handed, Joining, Owners};
 

@@ -1,19 +1,18 @@
 -- Places linked, from the first on: a place becomes the last of its id, and its link is what was the last. Links and lasts lie apart, and past the places, so
 -- what the places hold stays. A place that holds an id from m on is nobody's: it is the last of no id below m.
-use Prim.Native.Nat.{ℕ, zero, suc, _+_, _-_, _*_, _/_, _%_, _≤_, _<_}
+use Prim.Native.Nat.{ℕ, zero, suc, _+_, _-_, _*_, _≤_, _<_}
 use native.Mathlib.Omega.{arith}
-use native.Mathlib.Nat.{div-add-mod'}
 use native.Mathlib.Decide.{ℕ-discrete}
 use mathlib.Core.Path.{_≡_, refl, sym, ap, _∙_}
 use mathlib.Core.List.{List}
-use lib.ListN.{length, getD, set, length-set}
-use lib.Seq.{getD-set-same, getD-set-other}
+use lib.ListN.{length, getD}
 use borrow.Author.Tests.{eq-eqb, ne-eqb}
 use Rattle.rules.specs.Base.{if_then_else_}
 use Rattle.space.specs.Space.{Frame, Clear}
-use Rattle.space.proofs.Laws.{getD-before, frame-none, frame-then, frame-set, frame-wider}
+use Rattle.space.proofs.Laws.{getD-before, frame-none, frame-then, frame-wider}
 use Rattle.table.specs.View.{wide}
 use Rattle.table.proofs.ViewLaws.{wide-same}
+use Rattle.table.proofs.PlaceLaws.{put, put-other, put-wide, put-frame}
 use Rattle.pool.specs.Links.{lastNamed, heldFrom, Linked, LinkRoom, LinkedOne}
 
 -- ---- the last place that names an id
@@ -56,27 +55,6 @@ module _ (named : ℕ → ℕ) (r : ℕ) where
       | no d ↦ last-none k j (omega (arith, last-past k e)) (omega arith)
     ]
   ]
-
--- ---- a number in two halves is stored
-
--- the stores of `set_wide`
-abbrev put : List ℕ → ℕ → ℕ → ℕ → List ℕ
-put ws m a v = set (set ws a (v % 65536)) (a + m) (v / 65536)
-
-module _ (ws : List ℕ) (m a v : ℕ) where
-  put-other : (j : ℕ) → (j ≡ a → ⊥) → (j ≡ a + m → ⊥) → getD (put ws m a v) j 0 ≡ getD ws j 0
-  put-other j p q = getD-set-other (set ws a (v % 65536)) (a + m) j (v / 65536) 0 q ∙ getD-set-other ws a j (v % 65536) 0 p
-
-  put-wide : 0 < m → a + m < length ws → wide (put ws m a v) m a ≡ v
-  unfolding wide
-  put-wide z h =
-      let low : getD (put ws m a v) a 0 ≡ v % 65536 =
-      getD-set-other (set ws a (v % 65536)) (a + m) a (v / 65536) 0 (λ e. omega arith) ∙ getD-set-same ws a (v % 65536) 0 (omega arith) in
-      let high : getD (put ws m a v) (a + m) 0 ≡ v / 65536 = getD-set-same (set ws a (v % 65536)) (a + m) (v / 65536) 0 (rw (length-set ws a (v % 65536)) h) in
-      rw (low, high) (omega (arith, div-add-mod' v 65536))
-
-  put-frame : (b e : ℕ) → b ≤ a → a + m < e → Frame b e ws (put ws m a v)
-  put-frame b e h g = frame-then (frame-set b e a (v % 65536) ws h (omega arith)) (frame-set b e (a + m) (v / 65536) (set ws a (v % 65536)) (omega arith) g)
 
 -- ---- one place
 

@@ -36,6 +36,14 @@ has-none : (v : ℕ) → has [] v ≡ true → ⊥
 unfolding any
 has-none v h = false≢true h
 
+pub none-of : (l : List ℕ) → length l ≡ 0 → l ≡ []
+none-of [] e = refl
+none-of (x ∷ l) e = absurd (omega arith)
+
+pub none-new : (old new id : ℕ) → newList old new id [] ≡ []
+unfolding newList renamedList any if_then_else_
+none-new old new id = if-ind (λ (l : List ℕ). l ≡ []) (eqb id 0) (λ _. refl) (λ _. refl)
+
 -- it was there and is not old, or it is new and old was there
 abbrev WasIn : ℕ → ℕ → List ℕ → ℕ → Type 0
 WasIn old new l v = ((has l v ≡ true) × (v ≡ old → ⊥)) ⊎ ((v ≡ new) × (has l old ≡ true))
@@ -170,14 +178,6 @@ module _ (m p n k i j b c links : ℕ) (ws ws′ : List ℕ) (O : Owners m n i w
 
   -- a record that lists something bears its own number, and is not the absorbed one
   module _ (h o : ℕ) (P : Pool m p h o ws) where
-    none-new : (id : ℕ) → newList i n id [] ≡ []
-    unfolding newList renamedList any if_then_else_
-    none-new id = if-ind (λ (l : List ℕ). l ≡ []) (eqb id 0) (λ _. refl) (λ _. refl)
-
-    none-of : (l : List ℕ) → length l ≡ 0 → l ≡ []
-    none-of [] e = refl
-    none-of (x ∷ l) e = absurd (omega arith)
-
     own-now : (x r : ℕ) → x < m → (getD ws x 0 ≡ 0 → ⊥) → has (listAt ws′ m (7 * m) x) r ≡ true → f (getD ws′ x 0) ≡ x
     unfolding lenAt
     own-now x r g l h = ap f (ids x g) ∙ elim (ℕ-discrete x i) [
@@ -187,7 +187,7 @@ module _ (m p n k i j b c links : ℕ) (ws ws′ : List ℕ) (O : Owners m n i w
         | no q ↦
             let own : getD ws x 0 ≡ x = P .owns x g l (λ e.
             let v : listAt ws m (7 * m) x ≡ [] = none-of _ (list-length ws m (7 * m) x (P .held .lists) g ∙ e) in
-            has-none r (sym (ap (λ (y : List ℕ). has y r) (R .others x g d q ∙ ap (newList i n (getD ws x 0)) v ∙ none-new (getD ws x 0))) ∙ h)) in
+            has-none r (sym (ap (λ (y : List ℕ). has y r) (R .others x g d q ∙ ap (newList i n (getD ws x 0)) v ∙ none-new i n (getD ws x 0))) ∙ h)) in
             ap f own ∙ swap-other i n x d
       ]
     ]

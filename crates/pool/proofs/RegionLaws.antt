@@ -31,7 +31,7 @@ use Rattle.pool.specs.Pool.{lenAt, countAt, newList, joinedList, remarke
 use Rattle.pool.proofs.FloorLaws.{swap-has, swap-old, swap-other, has-at}
 use Rattle.pool.proofs.MergeLaws.{has-some, tidy-has, append-has, around-has, renF-id, renF-count, renF-area, renF-visited, renF-overlap, renF-floors, renF-cut, renF-newList, renF-fresh, at-i, at-n, at-else}
 use Rattle.pool.proofs.BearerLaws.{bearers-same}
-use Rattle.pool.proofs.MentionLaws.{mentions-via}
+use Rattle.pool.proofs.MentionLaws.{none-of, none-new, mentions-via}
 use Rattle.pool.proofs.OwnLaws.{halves-same, halves-turn}
 use Rattle.pool.proofs.SumLaws.{sum-split, sum-two}
 use Rattle.pool.proofs.MarkLaws.{remarked-is, marked-lists, marked-floors, marked-pool, marked-laid}
@@ -100,10 +100,6 @@ pub record After (m n i old : ℕ) (ws ws′ : List ℕ) : Type 0 where
   pub none : getD ws′ (m + i) 0 ≡ 0
   pub counts : (x : ℕ) → x < m → (x ≡ i → ⊥) → (x ≡ n → ⊥) → getD ws′ (m + x) 0 ≡ getD ws (m + x) 0
 
-none-of : (l : List ℕ) → length l ≡ 0 → l ≡ []
-none-of [] e = refl
-none-of (x ∷ l) e = absurd (omega arith)
-
 -- each of the pair bears its own number
 module _ (m p h o n k i j : ℕ) (ws : List ℕ) (P : Pool m p h o ws) (L : Listed m n k i j ws) where
   own-first : getD ws n 0 ≡ n
@@ -141,10 +137,6 @@ module _ (m p h o b c n k i j links : ℕ) (ws ws₁ ws₃ : List ℕ) (P : Pool
 
   own-i : old ≡ i
   own-i = own-second m p h o n k i j ws P L
-
-  none-new : (id : ℕ) → [] ≡ newList old n id []
-  unfolding newList renamedList any if_then_else_
-  none-new id = if-ind (λ (l : List ℕ). [] ≡ l) (eqb id 0) (λ _. refl) (λ _. refl)
 
   H : Halves m p b c ws
   H = turned-halves m p h o b c ws P W
@@ -232,7 +224,7 @@ module _ (m p h o b c n k i j links : ℕ) (ws ws₁ ws₃ : List ℕ) (P : Pool
   unfolding lenAt
   len-was x g a d z e =
       let l : listAt ws m (7 * m) x ≡ [] = none-of _ (list-length ws m (7 * m) x (P .held .lists) g ∙ e) in
-      let k : listAt ws₁ m (7 * m) x ≡ [] = R .others x g a d ∙ ap (newList old n (getD ws x 0)) l ∙ sym (none-new (getD ws x 0)) in
+      let k : listAt ws₁ m (7 * m) x ≡ [] = R .others x g a d ∙ ap (newList old n (getD ws x 0)) l ∙ none-new old n (getD ws x 0) in
       z (sym (list-length ws₃ m (7 * m) x parts₃ g) ∙ ap length (lists-at x g ∙ k))
 
   owns₃ : (x : ℕ) → x < m → (getD ws₃ x 0 ≡ 0 → ⊥) → (lenAt ws₃ m x ≡ 0 → ⊥) → getD ws₃ x 0 ≡ x
@@ -331,7 +323,7 @@ module _ (m p h o b c n k i j links : ℕ) (ws ws₁ ws₃ : List ℕ) (P : Pool
     rec-i =
         renamed-rec old n (L .live) _ _ (four i (omega arith) ∙ ids i hi) (four (m + i) (omega arith) ∙ A .none) (kept₄ 2 i (omega arith) (omega arith) hi)
         (ap (λ (y : ℕ). not (eqb y 0)) (kept₄ 4 i (omega arith) (omega arith) hi)) (ap (λ (y : ℕ). not (eqb y 0)) (kept₄ 3 i (omega arith) (omega arith) hi))
-        (lists₄ i hi ∙ lists-at i hi ∙ R .bare ∙ none-new old) (floors₄ i hi ∙ floors-at i hi) (ap (λ (y : ℕ). not (eqb y 0)) (M .bare))
+        (lists₄ i hi ∙ lists-at i hi ∙ R .bare ∙ sym (none-new old n old)) (floors₄ i hi ∙ floors-at i hi) (ap (λ (y : ℕ). not (eqb y 0)) (M .bare))
 
     joined-is : joinedList (listAt ws m (7 * m) n) (listAt ws m (7 * m) i) k j old n
         ≡ newList old n (getD ws n 0) (tidy (around (listAt ws m (7 * m) n) (place (listAt ws m (7 * m) n) old) ++ around (listAt ws m (7 * m) i) (place (listAt ws m (7 * m) i) (getD ws n 0))))

@@ -226,9 +226,6 @@ module _ (m x y : ℕ) (ws : List ℕ) (ids : (r : ℕ) → r < m → getD ws r 
   pub beside-in : x < m
   beside-in = rw d (ids y h)
 
-  pub beside-far : Rows m ws → 11 * m ≤ startOf ws m (7 * m) x
-  beside-far R = R .far x beside-in
-
 -- that record's list is met
 sweep-beside-one : (m s i n old new : ℕ) (ws ws′ : List ℕ) → (old ≡ new → ⊥) → Rows m ws → ((r : ℕ) → r < m → getD ws r 0 < m) → length ws′ ≡ length ws
     → MetBeside m s i n old new ws ws′ → SweptOf m i n old new (λ x. (getD ws s 0 < m) × (x ≡ getD ws (getD ws s 0) 0)) ws ws′

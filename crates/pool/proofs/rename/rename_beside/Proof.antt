@@ -1,5 +1,6 @@
 -- `pool::rename::rename_beside` meets its contract. By cases on whether a record stands at s; every record bears an id below m, so its id is a record's.
-use Rattle.pool.proofs.SweepLaws.{beside-nobody, beside-passed, beside-in, beside-far}
+use Rattle.pool.proofs.SweepLaws.{beside-nobody, beside-passed, beside-in}
+use Rattle.pool.proofs.RenameLaws.{row-far}
 use borrow.Author.Needs.{needs}
 use Rattle.pool.proofs.rename.rename_beside.Statement.{statement}
 use Rattle.pool.proofs.rename.rename_beside.Tie as tie
@@ -17,7 +18,7 @@ at-requires-2 : tie.Need-at-requires-2
 at-requires-2 c κs = search needs
 
 rename-one-requires : tie.Need-rename-one-requires
-rename-one-requires c κs = (search needs, search beside-in, search beside-far)
+rename-one-requires c κs = (search needs, search (needs, beside-in), search (needs, beside-in, row-far))
 
 same-length-2 : tie.Need-same-length-2
 same-length-2 c = search needs

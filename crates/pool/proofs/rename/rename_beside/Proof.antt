@@ -18,7 +18,7 @@ at-requires-2 : tie.Need-at-requires-2
 at-requires-2 c κs = search needs
 
 rename-one-requires : tie.Need-rename-one-requires
-rename-one-requires c κs = (search needs, search (needs, beside-in), search (needs, beside-in, row-far))
+rename-one-requires c κs = (search needs, search (needs, beside-in), row-far _ _ _ (search needs) (search (needs, beside-in)))
 
 same-length-2 : tie.Need-same-length-2
 same-length-2 c = search needs

@@ -1,22 +1,23 @@
--- Laws of the workspace's view. Assumes nothing.
-use Prim.Native.Nat.{ℕ, zero, suc, _+_, _-_, _*_, _≤_, _<_}
+-- Whether one record may take another, read from the workspace. The floors of an id are looked for along the row of the records that bear it (`Looked`):
+-- a walk from the first meets all of them, so the rule's search through all records finds a floor where the walk does. Assumes nothing.
+use Prim.Native.Nat.{ℕ, zero, suc, _+_, _*_, _≤_, _<_}
 use native.Mathlib.Omega.{arith}
-use native.Mathlib.Numerals.{add-one}
+use native.Mathlib.Decide.{ℕ-discrete}
 use mathlib.Core.Path.{_≡_, refl, sym, ap, _∙_}
+use mathlib.Core.Logic.{⊎-elim}
 use mathlib.Core.Bool.{Bool, true, false}
 use mathlib.Core.List.{List, [], _∷_}
-use lib.ListN.{drop-of-length-le, length, getD, take, drop}
-use lib.Seq.{drop-cons}
+use lib.ListN.{drop-of-length-le, length, getD, drop}
 use lib.Dec.{eqb}
 use borrow.Author.Tests.{eq-eqb, ne-eqb, le-leb, lt-leb}
 use Rattle.rules.specs.Base.{_and_, _or_, any, many}
 use Rattle.rules.specs.Records.{Rec, at, fresh}
-use Rattle.rules.specs.Merge.{place}
 use Rattle.laws.proofs.Basics.{tab-at, any-more, any-past}
-use Rattle.space.proofs.Laws.{getD-sec, length-sec}
+use Rattle.space.proofs.Laws.{cases}
 use Rattle.table.proofs.ViewLaws.{map-tab, view-length, view-at, view-drop}
-use Rattle.table.specs.View.{part, listAt, recAt, view, Below, Held}
-use Rattle.table.proofs.SearchLaws.{place-within, place-before, place-holds}
+use Rattle.table.specs.View.{listAt, recAt, view, Below, Held}
+use Rattle.pool.specs.Bearers.{nextOf, Bearers, Borne}
+use Rattle.pool.proofs.BearerLaws.{steps, Walked, walk-start, walk-next, walk-falls, walk-end}
 use Rattle.pool.specs.Fixed.{floorIs, floorIn, idsOf, suitsF}
 
 -- ---- searches
@@ -38,68 +39,87 @@ module _ (ids l : List ℕ) (b i f : ℕ) (e : any (floorIs ids b) l ≡ any (fl
 
 -- ---- a floor through the present ids
 
--- an id looked for among those from i up to m
-module _ (ws : List ℕ) (i m a k : ℕ) (h : i ≤ m) (w : m ≤ length ws) (q : k ≡ place (take (m - i) (drop i ws)) a) where
-  pub next-is : i + k ≡ i + place (part i m ws) a
-  unfolding part
-  next-is = rw q refl
-
-  pub next-upto : i + k ≤ m
-  next-upto = omega (arith, place-within (take (m - i) (drop i ws)) a, length-sec i (m - i) ws (omega arith), q)
-
 -- record i and those after it
-pub record From (ws : List ℕ) (m s t a b i : ℕ) : Type 0 where
+record From (ws : List ℕ) (m s t a b i : ℕ) : Type 0 where
   pub all : floorIn ws (view ws m s t) a b ≡ floorIn ws (drop i (view ws m s t)) a b
 
 module _ (ws : List ℕ) (m s t a b : ℕ) where
-  pub from-first : From ws m s t a b 0
+  from-first : From ws m s t a b 0
   from-first = record { all = refl }
 
   other-record : (i : ℕ) → i < m → (getD ws i 0 ≡ a → ⊥) → From ws m s t a b i → From ws m s t a b (i + 1)
   unfolding floorIn recAt _and_ _or_
   other-record i h n e = record { all = e .all ∙ rw (view-drop ws m s t i h, ne-eqb (getD ws i 0) a n) refl }
 
-  -- records of other ids have nothing to say
-  others : (k i : ℕ) → i + k ≤ m → ((j : ℕ) → j < k → getD ws (i + j) 0 ≡ a → ⊥) → From ws m s t a b i → From ws m s t a b (i + k)
-  others zero i h n e = let z : i + 0 ≡ i = omega arith in rw z e
-  others (suc k) i h n e =
-      let z : i + suc k ≡ (i + 1) + k = omega arith in
-      let y : i + 0 ≡ i = omega arith in
-      let f = other-record i (omega arith) (rw y at (n 0 (omega arith))) e in
-      rw z (others k (i + 1) (omega arith) (λ j g d. n (suc j) (omega arith) (let x : i + suc j ≡ (i + 1) + j = omega arith in rw x d)) f)
+  found-here : (i : ℕ) → i < m → getD ws i 0 ≡ a → From ws m s t a b i → any (floorIs ws b) (listAt ws m t i) ≡ true → true ≡ floorIn ws (view ws m s t) a b
+  unfolding floorIn recAt _and_ _or_
+  found-here i h n e z = sym (e .all ∙ rw (view-drop ws m s t i h, eq-eqb (getD ws i 0) a n, z) refl)
 
-  module _ (i r : ℕ) (h : i ≤ m) (w : m ≤ length ws) (q : r ≡ i + place (part i m ws) a) where
-    -- the entry j of what is searched
-    entry : (j : ℕ) → j < m - i → getD (part i m ws) j 0 ≡ getD ws (i + j) 0
-    unfolding part
-    entry j g = getD-sec i (m - i) j ws g
+  found-next : (i : ℕ) → i < m → getD ws i 0 ≡ a → From ws m s t a b i → any (floorIs ws b) (listAt ws m t i) ≡ false → From ws m s t a b (i + 1)
+  unfolding floorIn recAt _and_ _or_
+  found-next i h n e z = record { all = e .all ∙ rw (view-drop ws m s t i h, eq-eqb (getD ws i 0) a n, z) refl }
 
-    size : length (part i m ws) ≡ m - i
-    unfolding part
-    size = length-sec i (m - i) ws (omega arith)
-
-    pub next-from : From ws m s t a b i → From ws m s t a b r
-    next-from e =
-        let p = place-within (part i m ws) a in
-        rw q (others (place (part i m ws) a) i (omega (arith, size)) (λ j g d. place-before (part i m ws) a j g (entry j (omega (arith, size)) ∙ d)) e)
-
-    pub next-has : r < m → getD ws r 0 ≡ a
-    next-has g = rw q (sym (entry (place (part i m ws) a) (omega arith)) ∙ place-holds (part i m ws) a (omega (arith, size)))
-
-  module _ (i : ℕ) (h : i < m) (n : getD ws i 0 ≡ a) (e : From ws m s t a b i) (l : List ℕ) (d : l ≡ listAt ws m t i) (r : Bool) (q : r ≡ any (floorIs ws b) l) where
-    pub found-here : r ≡ true → true ≡ floorIn ws (view ws m s t) a b
-    unfolding floorIn recAt _and_ _or_
-    found-here z = sym (e .all ∙ rw (view-drop ws m s t i h, eq-eqb (getD ws i 0) a n, ← d, ← q, z) refl)
-
-    pub found-next : r ≡ false → From ws m s t a b (i + 1)
-    unfolding floorIn recAt _and_ _or_
-    found-next z = record { all = e .all ∙ rw (view-drop ws m s t i h, eq-eqb (getD ws i 0) a n, ← d, ← q, z) refl }
-
-  pub found-end : (i : ℕ) → m ≤ i → From ws m s t a b i → false ≡ floorIn ws (view ws m s t) a b
+  found-end : (i : ℕ) → m ≤ i → From ws m s t a b i → false ≡ floorIn ws (view ws m s t) a b
   unfolding floorIn
   found-end i h e =
       let w : length (view ws m s t) ≤ i = rw (view-length ws m s t) h in
       sym (e .all ∙ rw (drop-of-length-le (view ws m s t) w) refl)
+
+  -- one of id a has the floor
+  some-from : (k i y : ℕ) → i + k ≡ y → y < m → getD ws y 0 ≡ a → any (floorIs ws b) (listAt ws m t y) ≡ true → From ws m s t a b i → true ≡ floorIn ws (view ws m s t) a b
+  some-from zero i y e g n h f = let z : i ≡ y = omega arith in found-here i (omega arith) (rw z n) f (rw z h)
+  some-from (suc k) i y e g n h f = elim (ℕ-discrete (getD ws i 0) a) [
+    | yes d ↦ ⊎-elim
+        (λ (q : any (floorIs ws b) (listAt ws m t i) ≡ true). found-here i (omega arith) d f q)
+        (λ (q : any (floorIs ws b) (listAt ws m t i) ≡ false). some-from k (i + 1) y (omega arith) g n h (found-next i (omega arith) d f q))
+        (cases (any (floorIs ws b) (listAt ws m t i)))
+    | no d ↦ some-from k (i + 1) y (omega arith) g n h (other-record i (omega arith) d f)
+  ]
+
+  -- none of id a has it
+  none-from : (k i : ℕ) → i + k ≡ m → ((z : ℕ) → z < m → getD ws z 0 ≡ a → any (floorIs ws b) (listAt ws m t z) ≡ false) → From ws m s t a b i → false ≡ floorIn ws (view ws m s t) a b
+  none-from zero i e h f = found-end i (omega arith) f
+  none-from (suc k) i e h f = none-from k (i + 1) (omega arith) h (elim (ℕ-discrete (getD ws i 0) a) [
+    | yes d ↦ found-next i (omega arith) d f (h i (omega arith) d)
+    | no d ↦ other-record i (omega arith) d f
+  ])
+
+-- record z has no floor of id b
+abbrev Without : List ℕ → ℕ → ℕ → ℕ → Type 0
+Without ws m b z = any (floorIs ws b) (listAt ws m (11 * m) z) ≡ false
+
+-- the walk over the records of id a, at y: those before it have no floor of id b
+pub record Looked (m a b : ℕ) (ws : List ℕ) (y : ℕ) : Type 0 where
+  pub walked : Walked (Without ws m b) m a ws y
+  pub some : a ≡ 0 → ⊥
+
+pub look-start : (ws : List ℕ) (m a b : ℕ) → Bearers m ws → Borne m a ws → Looked m a b ws a
+look-start ws m a b B (g, e, z) = record { walked = walk-start (Without ws m b) m a ws B g e z; some = z }
+
+module _ (ws : List ℕ) (m a b y : ℕ) (W : Looked m a b ws y) where
+  module _ (n : y ≡ 0 → ⊥) where
+    pub look-in : y < m
+    look-in = W .walked .here n .0
+
+    pub look-falls : (y′ : ℕ) → y′ ≡ nextOf ws m y → steps m ws m y′ < steps m ws m y
+    look-falls y′ e = rw e (walk-falls (Without ws m b) (Without ws m b) m a y ws (W .walked) (W .some) n)
+
+    module _ (l : List ℕ) (d : l ≡ listAt ws m (11 * m) y) (r : Bool) (q : r ≡ any (floorIs ws b) l) where
+      pub look-found : r ≡ true → true ≡ floorIn ws (view ws m (7 * m) (11 * m)) a b
+      look-found h = some-from ws m (7 * m) (11 * m) a b y 0 y (omega arith) look-in (W .walked .here n .1) (rw (← d) (sym q ∙ h)) (from-first ws m (7 * m) (11 * m) a b)
+
+      pub look-next : r ≡ false → (y′ : ℕ) → y′ ≡ nextOf ws m y → Looked m a b ws y′
+      look-next h y′ e = record {
+        walked = rw e (walk-next (Without ws m b) (Without ws m b) m a y ws (W .walked) (W .some) n (λ _ _ _ v. v) (rw (← d) (sym q ∙ h)));
+        some = W .some;
+      }
+
+  pub look-none : y ≡ 0 → false ≡ floorIn ws (view ws m (7 * m) (11 * m)) a b
+  look-none e = none-from ws m (7 * m) (11 * m) a b m 0 (omega arith) (walk-end (Without ws m b) m a y ws (W .walked) e) (from-first ws m (7 * m) (11 * m) a b)
+
+-- the id of a live record
+pub live-borne : (ws : List ℕ) (m i : ℕ) → Bearers m ws → i < m → (getD ws i 0 ≡ 0 → ⊥) → Borne m (getD ws i 0) ws
+live-borne ws m i B g l = (B .owner i g l .0, B .owner i g l .1, l)
 
 pub floors-below : (ws : List ℕ) (m s t i : ℕ) (l : List ℕ) → Held m s t ws → i < m → l ≡ listAt ws m t i → Below (length ws) l
 floors-below ws m s t i l h g e =

@@ -4,7 +4,7 @@ use Prim.Native.Nat.{ℕ, zero, suc, _+_, _-_, _*_, _≤_, _<_}
 use native.Mathlib.Omega.{arith}
 use native.Mathlib.Numerals.{add-one}
 use mathlib.Core.Path.{_≡_, refl, sym, ap, _∙_}
-use mathlib.Core.Bool.{Bool, true, false}
+use mathlib.Core.Bool.{Bool}
 use mathlib.Core.List.{List, [], _∷_, _++_}
 use lib.ListN.{length, getD, set, take, drop, length-set}
 use lib.Seq.{length-take-le, take-at, drop-at, take-set-le, getD-take, getD-drop, getD-set-same, getD-set-other}
@@ -19,7 +19,7 @@ use Rattle.table.specs.View.{recsOf}
 use Rattle.table.proofs.ViewLaws.{recs-length, id-at}
 use Rattle.filter.specs.Group.{Calm}
 use Rattle.pool.specs.Alike.{Alike, Joined}
-use Rattle.pool.specs.Fixed.{mergeOneF, mergedF}
+use Rattle.pool.specs.Fixed.{mergeOneF}
 use Rattle.pool.specs.Pool.{Pool}
 use Rattle.pool.specs.Forms.{PoolIn, LaidIn}
 use Rattle.pool.specs.declared.Half.{Half}
@@ -32,8 +32,8 @@ use Rattle.rules.specs.Filter.{filtered}
 use Rattle.rules.specs.Numbering.{Regions, numbered}
 use Rattle.space.specs.Space.{Frame}
 use Rattle.merge.specs.Ready.{Ready}
-use Rattle.merge.proofs.TopLaws.{filter-fresh, ready-fresh, filtered-pool, filtered-joined, numbered-top}
-use Rattle.merge.proofs.TurnLaws.{Rounds, rounds-start, rounds-go, rounds-falls, rounds-done, joined-at, one-grows, laid-start, pool-calm}
+use Rattle.merge.proofs.TopLaws.{filter-fresh, ready-fresh, filtered-pool, filtered-laid, filtered-joined, numbered-top}
+use Rattle.merge.proofs.TurnLaws.{Rounds, rounds-start, rounds-go, rounds-falls, rounds-done, joined-at, one-grows, half-pool, half-laid, pool-rest}
 
 -- ---------------------------------------------------------------- a part, and what is past it
 
@@ -231,12 +231,13 @@ pub record AllNoted (area m end : ℕ) (ws₀ ws : List ℕ) (half : Half) (coun
   pub enough : owners m (recsOf (take end ws) m) ≤ fuel
   pub told : mergingsF area (suc m) (recsOf (take end ws₀) m) [] ≡ mergingsF area (suc fuel) (recsOf (take end ws) m) (mergingsAt ws end count)
 
-pub all-start : (area m n end : ℕ) (ws : List ℕ) → PoolIn m (firstHalf m n) (take end ws) → Joined (recsOf (take end ws) m) → AllNoted area m end ws ws (firstHalf m n) 0
+pub all-start : (area m n end : ℕ) (ws : List ℕ) (half : Half) → half ≡ firstHalf m n → PoolIn m (firstHalf m n) (take end ws) → LaidIn m (firstHalf m n) (take end ws)
+    → Joined (recsOf (take end ws) m) → AllNoted area m end ws ws half 0
 unfolding mergingsAt
-all-start area m n end ws P j = record {
+all-start area m n end ws half e P L j = record {
   size = refl;
-  pool = P;
-  laid = laid-start m (4 * n) (16 * m) (16 * m + 4 * n) (take end ws);
+  pool = half-pool m n half e (take end ws) P;
+  laid = half-laid m n half e (take end ws) L;
   rounds = rounds-start area m (take end ws) j;
   few = omega (arith, owners-most m (recsOf (take end ws) m));
   fuel = m;
@@ -286,7 +287,7 @@ module _ (area m end : ℕ) (ws₀ ws : List ℕ) (half : Half) (count : ℕ) (v
       let w : upto (length (recsOf (take end ws) m)) (mergeOneF area) (mergeAt m end ws 0) .merges ≡ 0 = ap (λ (x : Merge). x .merges) whole ∙ z in
       record {
         same = rounds-done area m (take end ws₀) (take end ws) (take end ws′) (g .round .merges) (k .same) (v .rounds) z;
-        calm = pool-calm m (g .round .half .size) (g .round .half .now) (g .round .half .other) (take end ws′) (k .pool);
+        rest = pool-rest m (g .round .half .size) (g .round .half .now) (g .round .half .other) (take end ws′) (k .pool);
         few = omega (arith, k .few);
         told = sym (tells-whole) ∙ still-tells area (length (recsOf (take end ws) m)) (mergeAt m end ws 0) (mergingsAt ws end count) w
             ∙ sym (v .told ∙ tells-last area (v .fuel) (recsOf (take end ws) m) (mergingsAt ws end count) w);
@@ -345,6 +346,9 @@ module _ (least area m n end r : ℕ) (ws ids : List ℕ) (room : end + 2 * m �
 
   pub told-pool : Pool m (4 * n) (16 * m) (16 * m + 4 * n) (take end ws₁)
   told-pool = filtered-pool m n (take end ws) ids R least (take end ws₁) (F .same) (F .calm) (F .frame) same-part
+
+  pub told-laid : LaidIn m (firstHalf m n) (take end ws₁)
+  told-laid = filtered-laid m n (take end ws) ids R least (take end ws₁) (F .same) (F .calm) (F .frame) same-part
 
   pub told-joined : Joined (recsOf (take end ws₁) m)
   told-joined = filtered-joined m n (take end ws) ids R least (take end ws₁) (F .same) (F .calm) (F .frame) same-part

@@ -6,7 +6,7 @@ use native.Mathlib.Decide.{decLt}
 use mathlib.Core.Path.{_≡_, refl, sym, ap, _∙_}
 use mathlib.Core.Logic.{inl}
 use mathlib.Core.List.{List}
-use lib.ListN.{length, List·getD-eq-default}
+use lib.ListN.{length, getD, List·getD-eq-default}
 use Rattle.rules.specs.Records.{Rec, fresh, at}
 use Rattle.rules.specs.Filter.{seen, removed, filtered}
 use Rattle.rules.specs.Merge.{merged}
@@ -22,7 +22,10 @@ use Rattle.pool.specs.Alike.{Joined}
 use Rattle.pool.specs.Fixed.{mergedF}
 use Rattle.numbering.specs.Number.{Column, Blank}
 use Rattle.pool.specs.Pool.{lenAt, countAt, Pool}
+use Rattle.pool.specs.Forms.{LaidIn}
+use Rattle.pool.proofs.BearerLaws.{bearers-start}
 use Rattle.merge.specs.Ready.{Ready}
+use Rattle.merge.specs.Rounds.{firstHalf, AtRest}
 use Rattle.pool.proofs.MergeLaws.{Fresh, alike-start, merge-is}
 
 count-at : (ws : List ℕ) (m x : ℕ) → x < m → at (recsOf ws m) x .count ≡ countAt ws m x
@@ -61,26 +64,6 @@ filter-fresh least rs f = record { own = filter-each (λ x r. (r .id ≡ 0 → �
 -- ---- before the filter
 
 module _ (m n : ℕ) (ws ids : List ℕ) (R : Ready m n ws ids) where
-  ready-pool : Pool m (4 * n) (16 * m) (16 * m + 4 * n) ws
-  ready-pool = record {
-    held = R .held;
-    halves = record {
-      past = omega arith;
-      past′ = omega arith;
-      apart = inl (omega arith);
-      into = omega (arith, R .room);
-      into′ = omega (arith, R .room);
-      fits = omega (arith, R .records, R .spans);
-      fits′ = omega (arith, R .records, R .spans);
-    };
-    from = R .from;
-    upto = R .upto;
-    floors = λ r g. (omega (arith, R .floors r g), omega (arith, R .floors r g));
-    room = R .lists;
-    spans = omega (arith, R .counts, R .spans);
-    blank = R .blank;
-  }
-
   pub ready-fresh : Fresh (recsOf ws m)
   ready-fresh = record {
     own = λ x z. elim (decLt x m) [
@@ -105,30 +88,55 @@ module _ (m n : ℕ) (ws ids : List ℕ) (R : Ready m n ws ids) where
     counts-less : (x : ℕ) → x < m → countAt ws₁ m x ≤ countAt ws m x
     counts-less x h = omega (arith, count-at ws₁ m x h, count-at ws m x h, ap (λ (rs : List Rec). at rs x .count) e, filter-counts least (recsOf ws m) x)
 
+    fresh-after : Fresh (recsOf ws₁ m)
+    fresh-after = rw e (filter-fresh least (recsOf ws m) ready-fresh)
+
+    own-after : (x : ℕ) → x < m → (getD ws₁ x 0 ≡ 0 → ⊥) → getD ws₁ x 0 ≡ x
+    own-after x g z = let i = id-at ws₁ m x g in sym i ∙ fresh-after .own x (λ w. z (sym i ∙ w))
+
+    none-named : (y : ℕ) → y < m → getD ws₁ (6 * m + y) 0 ≡ 0
+    none-named y g = let k : 6 * m + y ≡ 5 * m + (m + y) = omega arith in rw k (C .blank (m + y) (omega arith))
+
     pub filtered-pool : Pool m (4 * n) (16 * m) (16 * m + 4 * n) ws₁
-    filtered-pool =
-        let P = ready-pool in
-        record {
-          held = C .held;
-          halves = record {
-            past = omega arith;
-            past′ = omega arith;
-            apart = inl (omega arith);
-            into = omega (arith, R .room);
-            into′ = omega (arith, R .room);
-            fits = P .halves .fits;
-            fits′ = P .halves .fits′;
-          };
-          from = λ r g. rw (start-same (7 * m) r (omega arith)) (P .from r g);
-          upto = λ r g. rw (end-same (7 * m) r (omega arith)) (P .upto r g);
-          floors = λ r g. rw (start-same (11 * m) r (omega arith)) (P .floors r g);
-          room = rw (sum-same (lenAt ws₁ m) (lenAt ws m) m len-same) (P .room);
-          spans = omega (arith, P .spans, sum-le (countAt ws m) (countAt ws₁ m) m counts-less);
-          blank = C .blank;
-        }
+    filtered-pool = record {
+      held = C .held;
+      halves = record {
+        past = omega arith;
+        past′ = omega arith;
+        apart = inl (omega arith);
+        into = omega (arith, R .room);
+        into′ = omega (arith, R .room);
+        fits = omega (arith, R .records, R .spans);
+        fits′ = omega (arith, R .records, R .spans);
+      };
+      from = λ r g. rw (start-same (7 * m) r (omega arith)) (R .from r g);
+      upto = λ r g. rw (end-same (7 * m) r (omega arith)) (R .upto r g);
+      floors = λ r g. rw (start-same (11 * m) r (omega arith)) (omega (arith, R .floors r g), omega (arith, R .floors r g));
+      room = rw (sum-same (lenAt ws₁ m) (lenAt ws m) m len-same) (R .lists);
+      spans = omega (arith, R .counts, R .spans, sum-le (countAt ws m) (countAt ws₁ m) m counts-less);
+      bearers = bearers-start m ws₁ own-after none-named;
+      owns = λ x g z _. own-after x g z;
+      blank = λ x g. C .blank x (omega arith);
+    }
+
+    -- the top is at the half's end, so nothing is said of how the lists lie
+    pub filtered-laid : LaidIn m (firstHalf m n) ws₁
+    filtered-laid = record {
+      room = record {
+        past = omega arith;
+        past′ = omega arith;
+        into = omega (arith, R .room);
+        floors = λ r g. rw (end-same (11 * m) r (omega arith)) (R .floored r g);
+      };
+      from = omega arith;
+      upto = omega arith;
+      below = λ w. absurd (omega arith);
+      apart = λ w. absurd (omega arith);
+      mentions = λ w. absurd (omega arith);
+    }
 
     pub filtered-joined : Joined (recsOf ws₁ m)
-    filtered-joined = record { rs = recsOf ws₁ m; alike = alike-start (recsOf ws₁ m) (rw e (filter-fresh least (recsOf ws m) ready-fresh)) }
+    filtered-joined = record { rs = recsOf ws₁ m; alike = alike-start (recsOf ws₁ m) fresh-after }
 
     pub numbered-top : (area : ℕ) (ws₂ ids′ : List ℕ) (k o u : ℕ) → recsOf ws₂ m ≡ mergedF area (suc m) (recsOf ws₁ m)
         → _≡_ {A = Regions} (record { ids = ids′; most = k; over = o; cut = u }) (numbered (recsOf ws₂ m) ids)
@@ -139,9 +147,9 @@ module _ (m n : ℕ) (ws ids : List ℕ) (R : Ready m n ws ids) where
 
 -- ---- before the numbering
 
-module _ (m : ℕ) (ws : List ℕ) (C : Calm m ws) where
-  pub calm-column : Column m (5 * m) ws
-  calm-column = record { room = omega (arith, C .held .lists .room); apart = omega arith; few = omega (arith, C .held .few); ids = C .held .ids }
+module _ (m : ℕ) (ws : List ℕ) (C : AtRest m ws) where
+  pub rest-column : Column m (5 * m) ws
+  rest-column = record { room = omega (arith, C .held .lists .room); apart = omega arith; few = omega (arith, C .held .few); ids = C .held .ids }
 
-  pub calm-blank : Blank m (5 * m) ws
-  calm-blank = record { blank = λ v h. C .blank v (omega arith) }
+  pub rest-blank : Blank m (5 * m) ws
+  rest-blank = record { blank = C .blank }

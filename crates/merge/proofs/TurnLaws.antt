@@ -5,7 +5,7 @@ use native.Mathlib.Omega.{arith}
 use mathlib.Core.Path.{_≡_, refl, sym, ap, _∙_}
 use mathlib.Core.Logic.{⊎-elim, _⊎_, inl, inr}
 use mathlib.Core.Bool.{Bool, true, false, not, true≢false, false≢true}
-use mathlib.Core.List.{List, []}
+use mathlib.Core.List.{List}
 use lib.ListN.{length, getD}
 use lib.Dec.{eqb}
 use borrow.Author.Tests.{eq-eqb, ne-eqb, eqb-false, lt-ltb, le-ltb, not-true}
@@ -16,12 +16,14 @@ use Rattle.laws.proofs.Basics.{neither, if-ind, upto-next, and-both}
 use Rattle.table.specs.View.{listAt, recAt, view, recsOf}
 use Rattle.table.proofs.SearchLaws.{place-within}
 use Rattle.table.proofs.ViewLaws.{view-at, list-length, recs-length, recs-at}
-use Rattle.filter.specs.Group.{Calm}
 use Rattle.pool.specs.Alike.{Rep, Reps, Joined}
 use Rattle.pool.specs.Fixed.{pickedF, mayMerge, tryMerge, mergedPair, mergeOneF, mergedF}
-use Rattle.pool.specs.Pool.{lenAt, Pool, Laid, Listed}
+use Rattle.pool.specs.Pool.{lenAt, Pool, Listed}
+use Rattle.pool.specs.Forms.{PoolIn, LaidIn}
+use Rattle.pool.specs.declared.Half.{Half}
 use Rattle.pool.proofs.PartLaws.{place-all, place-some}
 use Rattle.pool.proofs.MergeLaws.{oneF, pickF, firstPick, pick-rep, round-alike, round-falls, owners, owners-most}
+use Rattle.merge.specs.Rounds.{firstHalf, AtRest}
 
 -- ---- whether it may be merged
 
@@ -191,12 +193,7 @@ module _ (m p h o i area : ℕ) (ws : List ℕ) (P : Pool m p h o ws) (hi : i < 
   unfolding mergeOneF mayMerge
   one-not z = turn-by _ _ _ _ _ _ _ _ _ (sym may-at ∙ z)
 
-  module _ (z : b ≡ true) (size id : ℕ)
-      (q : _≡_ {A = Pick} (record { size = size; id = id }) (pickedF (view ws m (7 * m) (11 * m)) (recAt ws m (7 * m) (11 * m) i) (listAt ws m (7 * m) i) (record { size = 65536; id = getD ws i 0 }))) where
-    picked-is : id ≡ pickedF (recsOf ws m) (at (recsOf ws m) i) (at (recsOf ws m) i .list) (record { size = 65536; id = at (recsOf ws m) i .id }) .id
-    unfolding recsOf recAt
-    picked-is = ap (λ (y : Pick). y .id) q ∙ ap (λ (r : Rec). pickedF (recsOf ws m) r (r .list) (record { size = 65536; id = r .id }) .id) (sym at-i)
-
+  module _ (z : b ≡ true) where
     own-is : at (recsOf ws m) i .id ≡ getD ws i 0
     unfolding recAt
     own-is = ap (λ (r : Rec). r .id) at-i
@@ -204,17 +201,6 @@ module _ (m p h o i area : ℕ) (ws : List ℕ) (P : Pool m p h o ws) (hi : i < 
     count-is : at (recsOf ws m) i .count ≡ getD ws (m + i) 0
     unfolding recAt
     count-is = ap (λ (r : Rec). r .count) at-i
-
-    pub one-own : id ≡ getD ws i 0 → record { recs = recsOf ws m; merges = c } ≡ mergeOneF area i (record { recs = recsOf ws m; merges = c })
-    unfolding mergeOneF
-    one-own e = turn-same _ _ _ _ _ _ _ _ _ (eq-eqb _ _ (sym picked-is ∙ e ∙ sym own-is))
-
-    pub one-tried : (id ≡ getD ws i 0 → ⊥) → (ws′ : List ℕ) (c′ : ℕ) → record { recs = recsOf ws′ m; merges = c′ } ≡ tryMerge i id (record { recs = recsOf ws m; merges = c })
-        → record { recs = recsOf ws′ m; merges = c′ } ≡ mergeOneF area i (record { recs = recsOf ws m; merges = c })
-    unfolding mergeOneF mayMerge tryMerge mergedPair
-    one-tried d ws′ c′ e =
-        turn-go _ _ _ _ _ _ _ _ _ _ (sym may-at ∙ z) (ne-eqb _ _ (λ w. d (picked-is ∙ w ∙ own-is)))
-        (e ∙ ap (λ (y : ℕ). tryMerge i y (record { recs = recsOf ws m; merges = c })) picked-is)
 
     -- it may be merged: it is live and has spans
     live-is : (getD ws i 0 ≡ 0 → ⊥) × (getD ws (m + i) 0 ≡ 0 → ⊥)
@@ -225,25 +211,42 @@ module _ (m p h o i area : ℕ) (ws : List ℕ) (P : Pool m p h o ws) (hi : i < 
         let v = neither _ _ (u .0) in
         ((λ e. eqb-false _ _ (v .0) (own-is ∙ e)), (λ e. eqb-false _ _ (u .1) (count-is ∙ e)))
 
-    module _ (R : Reps (recsOf ws m)) (d : id ≡ getD ws i 0 → ⊥) where
-      rep-i : Rep (recsOf ws m) i
-      rep-i =
-          let e : at (recsOf ws m) i .id ≡ i = R .own i (λ w. live-is .0 (sym own-is ∙ w)) (λ w. live-is .1 (sym count-is ∙ w)) in
-          (e, λ w. live-is .0 (sym own-is ∙ e ∙ w))
+    pub turn-live : getD ws i 0 ≡ 0 → ⊥
+    turn-live = live-is .0
 
-      rep-n : Rep (recsOf ws m) id
-      unfolding pickF firstPick
-      rep-n = rw (picked-is) (pick-rep (recsOf ws m) i R rep-i (λ w. d (picked-is ∙ w ∙ own-is)))
-
-      pub turn-live : getD ws i 0 ≡ 0 → ⊥
-      turn-live = live-is .0
-
-      pub turn-apart : i ≡ id → ⊥
-      turn-apart e = d (sym e ∙ sym (rep-i .0) ∙ own-is)
-
-      pub turn-live-2 : id < m → getD ws id 0 ≡ 0 → ⊥
+    module _ (size id : ℕ)
+        (q : _≡_ {A = Pick} (record { size = size; id = id }) (pickedF (view ws m (7 * m) (11 * m)) (recAt ws m (7 * m) (11 * m) i) (listAt ws m (7 * m) i) (record { size = 65536; id = getD ws i 0 }))) where
+      picked-is : id ≡ pickedF (recsOf ws m) (at (recsOf ws m) i) (at (recsOf ws m) i .list) (record { size = 65536; id = at (recsOf ws m) i .id }) .id
       unfolding recsOf recAt
-      turn-live-2 g e = rep-n .1 (sym (rep-n .0) ∙ ap (λ (r : Rec). r .id) (view-at ws m (7 * m) (11 * m) id g) ∙ e)
+      picked-is = ap (λ (y : Pick). y .id) q ∙ ap (λ (r : Rec). pickedF (recsOf ws m) r (r .list) (record { size = 65536; id = r .id }) .id) (sym at-i)
+
+      pub one-own : id ≡ getD ws i 0 → record { recs = recsOf ws m; merges = c } ≡ mergeOneF area i (record { recs = recsOf ws m; merges = c })
+      unfolding mergeOneF
+      one-own e = turn-same _ _ _ _ _ _ _ _ _ (eq-eqb _ _ (sym picked-is ∙ e ∙ sym own-is))
+
+      pub one-tried : (id ≡ getD ws i 0 → ⊥) → (ws′ : List ℕ) (c′ : ℕ) → record { recs = recsOf ws′ m; merges = c′ } ≡ tryMerge i id (record { recs = recsOf ws m; merges = c })
+          → record { recs = recsOf ws′ m; merges = c′ } ≡ mergeOneF area i (record { recs = recsOf ws m; merges = c })
+      unfolding mergeOneF mayMerge tryMerge mergedPair
+      one-tried d ws′ c′ e =
+          turn-go _ _ _ _ _ _ _ _ _ _ (sym may-at ∙ z) (ne-eqb _ _ (λ w. d (picked-is ∙ w ∙ own-is)))
+          (e ∙ ap (λ (y : ℕ). tryMerge i y (record { recs = recsOf ws m; merges = c })) picked-is)
+
+      module _ (R : Reps (recsOf ws m)) (d : id ≡ getD ws i 0 → ⊥) where
+        rep-i : Rep (recsOf ws m) i
+        rep-i =
+            let e : at (recsOf ws m) i .id ≡ i = R .own i (λ w. live-is .0 (sym own-is ∙ w)) (λ w. live-is .1 (sym count-is ∙ w)) in
+            (e, λ w. live-is .0 (sym own-is ∙ e ∙ w))
+
+        rep-n : Rep (recsOf ws m) id
+        unfolding pickF firstPick
+        rep-n = rw (picked-is) (pick-rep (recsOf ws m) i R rep-i (λ w. d (picked-is ∙ w ∙ own-is)))
+
+        pub turn-apart : i ≡ id → ⊥
+        turn-apart e = d (sym e ∙ sym (rep-i .0) ∙ own-is)
+
+        pub turn-live-2 : id < m → getD ws id 0 ≡ 0 → ⊥
+        unfolding recsOf recAt
+        turn-live-2 g e = rep-n .1 (sym (rep-n .0) ∙ ap (λ (r : Rec). r .id) (view-at ws m (7 * m) (11 * m) id g) ∙ e)
 
 -- ---- a round
 
@@ -344,17 +347,16 @@ module _ (area m : ℕ) (ws₀ ws ws′ : List ℕ) (c : ℕ) (e : record { recs
       ∙ sym (T .same ∙ merged-last area (T .fuel) (recsOf ws m) w)
 
 -- before the first merge
-pub laid-start : (m p h o : ℕ) (ws : List ℕ) → Laid m p h o (h + p) ws
-laid-start m p h o ws = record {
-  from = omega arith;
-  upto = omega arith;
-  below = λ w. absurd (omega arith);
-  apart = λ w. absurd (omega arith);
-  owned = λ w. absurd (omega arith);
-}
+module _ (m n : ℕ) (half : Half) (e : half ≡ firstHalf m n) (ws : List ℕ) where
+  pub half-pool : PoolIn m (firstHalf m n) ws → PoolIn m half ws
+  half-pool P = rw e P
 
-pub pool-calm : (m p h o : ℕ) (ws : List ℕ) → Pool m p h o ws → Calm m ws
-pool-calm m p h o ws P = record { held = P .held; blank = P .blank }
+  pub half-laid : LaidIn m (firstHalf m n) ws → LaidIn m half ws
+  half-laid L = rw e L
+
+-- after the last
+pub pool-rest : (m p h o : ℕ) (ws : List ℕ) → Pool m p h o ws → AtRest m ws
+pool-rest m p h o ws P = record { held = P .held; blank = P .blank }
 
 pub rounds-joined : (area m : ℕ) (ws₀ ws : List ℕ) → Rounds area m ws₀ ws → Joined (recsOf ws m)
 rounds-joined area m ws₀ ws T = T .joined

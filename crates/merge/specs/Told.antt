@@ -17,7 +17,7 @@ use Rattle.filter.specs.Group.{Calm}
 use Rattle.pool.specs.Fixed.{mergeOneF, mergedF}
 use Rattle.pool.specs.Forms.{PoolIn, LaidIn}
 use Rattle.pool.proofs.MergeLaws.{owners}
-use Rattle.merge.specs.Rounds.{roundAt}
+use Rattle.merge.specs.Rounds.{roundAt, AtRest}
 use Rattle.merge.specs.declared.merge.Round.{Round}
 use Rattle.merge.specs.declared.told.Noted.{Noted}
 
@@ -80,7 +80,7 @@ pub record NotedRound (area i m size end : ℕ) (ws : List ℕ) (count : ℕ) (w
 -- what all rounds leave
 pub record NotedAll (area m end : ℕ) (ws ws′ : List ℕ) (count : ℕ) : Type 0 where
   pub same : recsOf (take end ws′) m ≡ mergedF area (suc m) (recsOf (take end ws) m)
-  pub calm : Calm m (take end ws′)
+  pub rest : AtRest m (take end ws′)
   pub few : count ≤ m
   pub told : mergingsAt ws′ end count ≡ mergingsF area (suc m) (recsOf (take end ws) m) []
 

@@ -10,6 +10,7 @@ use table::map::HALF;
 use table::map::LISTS;
 use table::map::OVERLAPS;
 use table::map::POOL;
+use table::map::RECORD_ROOM;
 use table::place;
 ghost use mathlib.Core.Path.{_≡_};
 ghost use Prim.Native.Nat.{suc, _+_, _≤_, _<_};
@@ -17,12 +18,12 @@ ghost use lib.ListN.{getD};
 ghost use lib.Dec.{eqb};
 ghost use Rattle.rules.specs.Base.{any, upto};
 ghost use Rattle.rules.specs.Merge.{place};
+ghost use Rattle.table.specs.Map.{wideEnd, floorsFrom};
 ghost use Rattle.table.specs.View.{recsOf, listIn, recordAt, RecordsIn};
-ghost use Rattle.filter.specs.Group.{Calm};
 ghost use Rattle.pool.specs.Alike.{Reps, Joined};
 ghost use Rattle.pool.specs.Fixed.{mayMerge, tryMerge, mergeOneF, mergedF};
 ghost use Rattle.pool.specs.Forms.{PoolIn, LaidIn};
-ghost use Rattle.merge.specs.Rounds.{roundAt, firstHalf};
+ghost use Rattle.merge.specs.Rounds.{roundAt, firstHalf, AtRest};
 
 // Where the lists are, and how many merges there were in the round.
 pub struct Round {
@@ -133,21 +134,29 @@ fn merge_round(ws: &mut [u16], m: usize, area: u16, half: Half) -> Round
     round
 }
 
-// Rounds until one merges nothing. Nothing is known of how the lists lie in the first half, so all of it counts as used.
-pub(crate) fn merge_all(ws: &mut [u16], m: usize, n: usize, area: u16)
-    requires { ⌜ PoolIn m (firstHalf m n) (now ws) × Joined (recsOf (now ws) m) ⌝ }
-    ensures { λ _. ⌜ recsOf (now (ws .exit)) m ≡ mergedF area (suc m) (recsOf (now (ws .entry)) m) ⌝ }
-    ensures { λ _. ⌜ Calm m (now (ws .exit)) ⌝ }
+// Before the first merge: the lists are in the first half, and all of it counts as used, since nothing is known of how they lie there.
+pub(crate) fn first_half(m: usize, n: usize) -> Half
+    requires { ⌜ floorsFrom m n < wideEnd ⌝ }
+    ensures { λ r. ⌜ r ≡ firstHalf m n ⌝ }
 {
     let first = POOL * m;
     let size = HALF * n;
-    let second = first + size;
-    let mut half = Half {
+    Half {
         now: first,
-        other: second,
+        other: first + size,
         size,
-        top: second,
-    };
+        top: first + size,
+        links: first + RECORD_ROOM * n,
+    }
+}
+
+// Rounds until one merges nothing.
+pub(crate) fn merge_all(ws: &mut [u16], m: usize, n: usize, area: u16)
+    requires { ⌜ PoolIn m (firstHalf m n) (now ws) × LaidIn m (firstHalf m n) (now ws) × Joined (recsOf (now ws) m) ⌝ }
+    ensures { λ _. ⌜ recsOf (now (ws .exit)) m ≡ mergedF area (suc m) (recsOf (now (ws .entry)) m) ⌝ }
+    ensures { λ _. ⌜ AtRest m (now (ws .exit)) ⌝ }
+{
+    let mut half = first_half(m, n);
     loop {
         let round = merge_round(ws, m, area, half);
         if round.merges == 0 {

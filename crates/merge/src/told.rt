@@ -1,10 +1,9 @@
 // Merges noted in their order: "the trail of merges from the flood's id to the last". The records lie before `end` in the workspace, what is noted
 // from there on, two numbers a merge: the id that was absorbed, and the one that absorbed it.
 use crate::merge::Round;
+use crate::merge::first_half;
 use crate::merge::merge_one;
 use pool::Half;
-use table::map::HALF;
-use table::map::POOL;
 ghost use mathlib.Core.Path.{_≡_};
 ghost use Prim.Native.Nat.{_+_, _*_, _≤_, _<_};
 ghost use lib.ListN.{length, take, set};
@@ -91,18 +90,11 @@ fn merge_round_noted(
 
 // Rounds until one merges nothing. Gives how many merges are noted.
 pub(crate) fn merge_all_noted(ws: &mut [u16], end: usize, m: usize, n: usize, area: u16) -> usize
-    requires { ⌜ (end + 2 * m ≤ length (now ws)) × PoolIn m (firstHalf m n) (take end (now ws)) × Joined (recsOf (take end (now ws)) m) ⌝ }
+    requires { ⌜ (end + 2 * m ≤ length (now ws)) × PoolIn m (firstHalf m n) (take end (now ws))
+        × LaidIn m (firstHalf m n) (take end (now ws)) × Joined (recsOf (take end (now ws)) m) ⌝ }
     ensures { λ r. ⌜ NotedAll area m end (now (ws .entry)) (now (ws .exit)) r ⌝ }
 {
-    let first = POOL * m;
-    let size = HALF * n;
-    let second = first + size;
-    let mut half = Half {
-        now: first,
-        other: second,
-        size,
-        top: second,
-    };
+    let mut half = first_half(m, n);
     let mut count = 0;
     loop {
         let noted = merge_round_noted(ws, end, m, area, half, count);

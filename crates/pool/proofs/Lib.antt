@@ -4,8 +4,13 @@ pub mod PartLaws
 pub mod CarryLaws
 pub mod SumLaws
 pub mod AbsorbLaws
+pub mod BearerLaws
 pub mod RenameLaws
 pub mod OwnLaws
+pub mod LinkLaws
+pub mod SweepLaws
+pub mod SeekLaws
+pub mod MentionLaws
 pub mod RelistLaws
 pub mod MarkLaws
 pub mod RegionLaws

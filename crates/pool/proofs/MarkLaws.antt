@@ -1,6 +1,6 @@
 -- The marks after a merge: the absorber bears what either bore, the absorbed record none. They lie between the tables and the pool's halves,
 -- so the lists, the floors and the order of the pool stay as they were.
-use Prim.Native.Nat.{ℕ, _+_, _-_, _*_, _≤_, _<_}
+use Prim.Native.Nat.{ℕ, _+_, _*_, _≤_, _<_}
 use native.Mathlib.Omega.{arith}
 use mathlib.Core.Path.{_≡_, refl, sym, ap, _∙_}
 use mathlib.Core.Logic.{⊎-elim, _⊎_, inl, inr}
@@ -16,6 +16,8 @@ use Rattle.laws.proofs.Sums.{sum-same}
 use Rattle.table.specs.View.{startOf, endOf, listAt, Parts}
 use Rattle.table.proofs.ViewLaws.{list-same, wide-same}
 use Rattle.pool.specs.Pool.{lenAt, countAt, remarked, Pool, Laid, Remarked}
+use Rattle.pool.proofs.BearerLaws.{bearers-same}
+use Rattle.pool.proofs.MentionLaws.{mentions-via}
 use Rattle.pool.proofs.OwnLaws.{halves-same}
 
 module _ (m n i : ℕ) (ws : List ℕ) (hn : n < m) (hi : i < m) (ne : i ≡ n → ⊥) (room : 16 * m ≤ length ws) where
@@ -108,22 +110,27 @@ module _ (m n i : ℕ) (ws ws′ : List ℕ) (M : Remarked m n i ws ws′) where
       floors = λ x g. rw (starts (11 * m) x (omega arith) g) (P .floors x g);
       room = rw (sum-same (lenAt ws′ m) (lenAt ws m) m len-kept) (P .room);
       spans = rw (sum-same (countAt ws′ m) (countAt ws m) m count-kept) (P .spans);
+      bearers = bearers-same m ws ws′ (λ y g. M .kept y (inl (omega arith))) (λ y g. M .kept (6 * m + y) (inl (omega arith))) (P .bearers);
+      owns = λ x g l z. M .kept x (inl (omega arith)) ∙ P .owns x g (λ w. l (M .kept x (inl (omega arith)) ∙ w)) (λ w. z (len-kept x g ∙ w));
       blank = λ x g. M .kept (5 * m + x) (inl (omega arith)) ∙ P .blank x g;
     }
 
-    pub marked-laid : (top : ℕ) → Laid m p h o top ws → Laid m p h o top ws′
-    marked-laid top D = record {
+    pub marked-laid : (top links : ℕ) → Laid m p h o top links (λ y. y) ws → Laid m p h o top links (λ y. y) ws′
+    marked-laid top links D = record {
+      room = record {
+        past = D .room .past;
+        past′ = D .room .past′;
+        into = rw (M .size) (D .room .into);
+        floors = λ r g. rw (stops (11 * m) r (omega arith) g) (D .room .floors r g);
+      };
       from = D .from;
       upto = D .upto;
       below = λ w x g. rw (stops (7 * m) x (omega arith) g) (D .below w x g);
       apart = λ w. record {
         apart = λ x y g q d. rw (starts (7 * m) x (omega arith) g, stops (7 * m) x (omega arith) g, starts (7 * m) y (omega arith) q, stops (7 * m) y (omega arith) q) (D .apart w .apart x y g q d);
       };
-      owned = λ w. record {
-        own = λ x q g u v k.
-            M .kept (o + (q - h)) (inr (omega (arith, P .halves .past′)))
-            ∙ D .owned w .own x q g (rw (starts (7 * m) x (omega arith) g) at u) (rw (stops (7 * m) x (omega arith) g) at v) k;
-      };
+      mentions = λ w. mentions-via m p o links (λ y. y) (λ y. y) ws ws′ (λ y g. M .kept y (inl (omega arith))) (λ y g l e. l (M .kept y (inl (omega arith)) ∙ e)) marked-lists
+          (λ q g. M .kept (o + q) (inr (omega (arith, P .halves .past′)))) (λ y g. M .kept y (inr (omega (arith, P .halves .past, D .room .past)))) (D .mentions w);
     }
 
 -- ---------------------------------------------------------------- as the code has it

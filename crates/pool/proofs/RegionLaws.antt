@@ -1,6 +1,6 @@
 -- One merge is the rule's: the lists as `relist` leaves them, the counts added, the ids renamed, the marks carried; nothing else of the records changes.
 -- What is listed stays below m: an entry of a new list is one of the old ones, or the absorber.
-use Prim.Native.Nat.{ℕ, suc, _+_, _-_, _*_, _≤_, _<_}
+use Prim.Native.Nat.{ℕ, suc, _+_, _*_, _≤_, _<_}
 use native.Mathlib.Omega.{arith}
 use native.Mathlib.Decide.{ℕ-discrete}
 use native.Mathlib.Nat.{mul-le-mul-right}
@@ -8,27 +8,30 @@ use mathlib.Core.Path.{_≡_, refl, sym, ap, _∙_}
 use mathlib.Core.Logic.{⊎-elim, _⊎_, inl, inr}
 use mathlib.Core.Bool.{true, not, false≢true}
 use mathlib.Core.List.{List, [], _∷_, _++_, map}
-use lib.ListN.{length, getD, set, length-set, length-map, List·getD-map}
+use lib.ListN.{length, getD, set, length-set, length-map}
 use lib.Seq.{getD-set-same, getD-set-other}
 use lib.Dec.{eqb}
 use borrow.Author.Tests.{ne-eqb}
-use borrow.Rule.Slice.PartMut.{putMid, midOf, same-len-mid}
 use Rattle.rules.specs.Base.{_or_, if_then_else_, any}
 use Rattle.rules.specs.Records.{Rec, at, has}
 use Rattle.rules.specs.Merge.{place, around, tidy, emptied}
 use Rattle.laws.proofs.Basics.{if-ind}
 use Rattle.laws.proofs.Sums.{sum-same}
 use Rattle.laws.proofs.MergeEnds.{at-map}
-use Rattle.space.specs.Space.{Frame, sec}
-use Rattle.space.proofs.Laws.{getD-before, getD-after, frame-then, frame-set, frame-wider, frame-put, sec-put, getD-sec, length-sec}
+use Rattle.space.specs.Space.{Frame}
+use Rattle.space.proofs.Laws.{getD-before, getD-after, frame-then, frame-set, frame-wider}
 use Rattle.table.specs.View.{startOf, endOf, listAt, recAt, view, recsOf, Parts, Under, Held}
-use Rattle.table.proofs.ViewLaws.{view-length, view-at, view-by, rec-eq, list-same, wide-same, list-past, parts-past}
+use Rattle.table.proofs.ViewLaws.{view-length, view-at, view-by, rec-eq, list-same, list-length, wide-same, list-past, parts-past}
 use Rattle.pool.specs.Lists.{swapOne}
 use Rattle.pool.specs.Part.{renamedList}
 use Rattle.pool.specs.Fixed.{renamedF, absorbedF, mergedPair}
+use Rattle.pool.specs.Bearers.{Bearers, Joining, Owners}
+use Rattle.pool.specs.Links.{LinksPast}
 use Rattle.pool.specs.Pool.{lenAt, countAt, newList, joinedList, remarked, Halves, Pool, Laid, Listed, Outside, Sides, Relisted, Remarked}
 use Rattle.pool.proofs.FloorLaws.{swap-has, swap-old, swap-other, has-at}
 use Rattle.pool.proofs.MergeLaws.{has-some, tidy-has, append-has, around-has, renF-id, renF-count, renF-area, renF-visited, renF-overlap, renF-floors, renF-cut, renF-newList, renF-fresh, at-i, at-n, at-else}
+use Rattle.pool.proofs.BearerLaws.{bearers-same}
+use Rattle.pool.proofs.MentionLaws.{none-of, none-new, mentions-via}
 use Rattle.pool.proofs.OwnLaws.{halves-same, halves-turn}
 use Rattle.pool.proofs.SumLaws.{sum-split, sum-two}
 use Rattle.pool.proofs.MarkLaws.{remarked-is, marked-lists, marked-floors, marked-pool, marked-laid}
@@ -89,11 +92,21 @@ renamed-rec o n z a r p₁ p₂ p₃ p₄ p₅ p₆ p₇ p₈ =
 -- ---- the workspace after the counts and the ids are written too
 
 pub record After (m n i old : ℕ) (ws ws′ : List ℕ) : Type 0 where
-  pub frame : Frame 0 (2 * m) ws ws′
+  pub frame : Frame 0 (7 * m) ws ws′
+  pub columns : (y : ℕ) → 2 * m ≤ y → y < 6 * m → getD ws′ y 0 ≡ getD ws y 0
+  pub bearers : Bearers m ws′
   pub ids : (x : ℕ) → x < m → getD ws′ x 0 ≡ swapOne old n (getD ws x 0)
   pub sum : getD ws′ (m + n) 0 ≡ getD ws (m + n) 0 + getD ws (m + i) 0
   pub none : getD ws′ (m + i) 0 ≡ 0
   pub counts : (x : ℕ) → x < m → (x ≡ i → ⊥) → (x ≡ n → ⊥) → getD ws′ (m + x) 0 ≡ getD ws (m + x) 0
+
+-- each of the pair bears its own number
+module _ (m p h o n k i j : ℕ) (ws : List ℕ) (P : Pool m p h o ws) (L : Listed m n k i j ws) where
+  own-first : getD ws n 0 ≡ n
+  own-first = P .owns n (L .pair .first) (L .live′) (λ w. omega (arith, L .pair .lists))
+
+  own-second : getD ws i 0 ≡ i
+  own-second = P .owns i (L .pair .second) (L .live) (λ w. omega (arith, L .pair .lists′))
 
 -- the halves, in either order
 module _ (m p h o b c : ℕ) (ws : List ℕ) (P : Pool m p h o ws) (W : Sides h o b c) where
@@ -105,8 +118,8 @@ module _ (m p h o b c : ℕ) (ws : List ℕ) (P : Pool m p h o ws) (W : Sides h 
   turned-floors r g =
       ⊎-elim (λ (w : (b ≡ h) × (c ≡ o)). rw (w .0, w .1) (P .floors r g)) (λ (w : (b ≡ o) × (c ≡ h)). rw (w .0, w .1) (P .floors r g .1, P .floors r g .0)) W
 
-module _ (m p h o b c n k i j : ℕ) (ws ws₁ ws₃ : List ℕ) (P : Pool m p h o ws) (W : Sides h o b c) (L : Listed m n k i j ws) (R : Relisted m p n k i j (getD ws i 0) n b c ws ws₁)
-    (A : After m n i (getD ws i 0) ws₁ ws₃) (l₁ : length ws₁ ≡ length ws) (l₃ : length ws₃ ≡ length ws₁) where
+module _ (m p h o b c n k i j links : ℕ) (ws ws₁ ws₃ : List ℕ) (P : Pool m p h o ws) (Y : LinksPast m p h o links ws) (W : Sides h o b c) (L : Listed m n k i j ws)
+    (R : Relisted m p n k i j (getD ws i 0) n b c links ws ws₁) (A : After m n i (getD ws i 0) ws₁ ws₃) (l₁ : length ws₁ ≡ length ws) (l₃ : length ws₃ ≡ length ws₁) where
   abbrev old : ℕ
   old = getD ws i 0
 
@@ -119,20 +132,29 @@ module _ (m p h o b c n k i j : ℕ) (ws ws₁ ws₃ : List ℕ) (P : Pool m p h
   ne : i ≡ n → ⊥
   ne = L .pair .apart
 
+  own-n : getD ws n 0 ≡ n
+  own-n = own-first m p h o n k i j ws P L
+
+  own-i : old ≡ i
+  own-i = own-second m p h o n k i j ws P L
+
   H : Halves m p b c ws
   H = turned-halves m p h o b c ws P W
 
   floor-past : (x : ℕ) → x < m → (b + p ≤ startOf ws m (11 * m) x) × (c + p ≤ startOf ws m (11 * m) x)
   floor-past x g = turned-floors m p h o b c ws P W x g
 
-  kept : (y : ℕ) → 2 * m ≤ y → Outside m b (b + p) y → (y < c) ⊎ (c + p ≤ y) → getD ws₃ y 0 ≡ getD ws y 0
-  kept y g w v = getD-after y (A .frame) g ∙ R .kept y w v
+  before-links : 16 * m ≤ links
+  before-links = omega (arith, P .halves .past, Y .past)
+
+  kept : (y : ℕ) → 7 * m ≤ y → Outside m b (b + p) y → (y < c) ⊎ (c + p ≤ y) → y < links → getD ws₃ y 0 ≡ getD ws y 0
+  kept y g w v u = getD-after y (A .frame) g ∙ R .kept y w v u
 
   low : (y : ℕ) → y < 7 * m → getD ws₁ y 0 ≡ getD ws y 0
-  low y g = R .kept y (inl g, inl (omega (arith, H .past))) (inl (omega (arith, H .past′)))
+  low y g = R .kept y (inl g, inl (omega (arith, H .past))) (inl (omega (arith, H .past′))) (omega (arith, before-links))
 
-  mid : (y : ℕ) → 2 * m ≤ y → y < 7 * m → getD ws₃ y 0 ≡ getD ws y 0
-  mid y a b = getD-after y (A .frame) a ∙ low y b
+  mid : (y : ℕ) → 2 * m ≤ y → y < 6 * m → getD ws₃ y 0 ≡ getD ws y 0
+  mid y a b = A .columns y a b ∙ low y (omega arith)
 
   ids : (x : ℕ) → x < m → getD ws₃ x 0 ≡ swapOne old n (getD ws x 0)
   ids x g = A .ids x g ∙ ap (swapOne old n) (low x (omega arith))
@@ -141,7 +163,7 @@ module _ (m p h o b c n k i j : ℕ) (ws ws₁ ws₃ : List ℕ) (P : Pool m p h
   lists-at x g = list-past m (7 * m) (R .parts) (A .frame) (omega arith) l₃ x g
 
   high : (y : ℕ) → 11 * m ≤ y → y < 16 * m → getD ws₃ y 0 ≡ getD ws y 0
-  high y a b = kept y (omega arith) (inr a, inl (omega (arith, H .past))) (inl (omega (arith, H .past′)))
+  high y a b = kept y (omega arith) (inr a, inl (omega (arith, H .past))) (inl (omega (arith, H .past′))) (omega (arith, before-links))
 
   start-f : (x : ℕ) → x < m → startOf ws₃ m (11 * m) x ≡ startOf ws m (11 * m) x
   start-f x g = wide-same ws ws₃ m (11 * m + x) (high (11 * m + x) (omega arith) (omega arith)) (high (11 * m + x + m) (omega arith) (omega arith))
@@ -152,7 +174,7 @@ module _ (m p h o b c n k i j : ℕ) (ws ws₁ ws₃ : List ℕ) (P : Pool m p h
   floors-at : (x : ℕ) → x < m → listAt ws₃ m (11 * m) x ≡ listAt ws m (11 * m) x
   floors-at x g =
       list-same ws ws₃ m (11 * m) x (start-f x g) (stop-f x g) (P .held .floors .order x g) (P .held .floors .within x g) (l₃ ∙ l₁) (λ y a b.
-      kept y (omega (arith, floor-past x g .0, H .past)) (inr (omega (arith, floor-past x g .0, H .past)), inr (omega (arith, floor-past x g .0))) (inr (omega (arith, floor-past x g .1))))
+      kept y (omega (arith, floor-past x g .0, H .past)) (inr (omega (arith, floor-past x g .0, H .past)), inr (omega (arith, floor-past x g .0))) (inr (omega (arith, floor-past x g .1))) (omega (arith, Y .floors x g)))
 
   -- ---- the pool is in order
 
@@ -197,6 +219,26 @@ module _ (m p h o b c n k i j : ℕ) (ws ws₁ ws₃ : List ℕ) (P : Pool m p h
     floored = λ x g. rw (floors-at x g) (P .held .floored x g);
   }
 
+  -- a list that has something had something
+  len-was : (x : ℕ) → x < m → (x ≡ i → ⊥) → (x ≡ n → ⊥) → (lenAt ws₃ m x ≡ 0 → ⊥) → lenAt ws m x ≡ 0 → ⊥
+  unfolding lenAt
+  len-was x g a d z e =
+      let l : listAt ws m (7 * m) x ≡ [] = none-of _ (list-length ws m (7 * m) x (P .held .lists) g ∙ e) in
+      let k : listAt ws₁ m (7 * m) x ≡ [] = R .others x g a d ∙ ap (newList old n (getD ws x 0)) l ∙ none-new old n (getD ws x 0) in
+      z (sym (list-length ws₃ m (7 * m) x parts₃ g) ∙ ap length (lists-at x g ∙ k))
+
+  owns₃ : (x : ℕ) → x < m → (getD ws₃ x 0 ≡ 0 → ⊥) → (lenAt ws₃ m x ≡ 0 → ⊥) → getD ws₃ x 0 ≡ x
+  unfolding lenAt
+  owns₃ x g l z = elim (ℕ-discrete x i) [
+    | yes e ↦ let b : listAt ws₁ m (7 * m) x ≡ [] = rw e (R .bare) in absurd (z (sym (list-length ws₃ m (7 * m) x parts₃ g) ∙ ap length (lists-at x g ∙ b)))
+    | no e ↦ elim (ℕ-discrete x n) [
+      | yes d ↦ rw d (ids n hn ∙ ap (swapOne old n) own-n ∙ swap-other old n n (λ w. L .other (sym w)))
+      | no d ↦
+          let o : getD ws x 0 ≡ x = P .owns x g (λ w. l (ids x g ∙ ap (swapOne old n) w ∙ swap-other old n 0 (λ v. L .live (sym v)))) (len-was x g e d z) in
+          ids x g ∙ ap (swapOne old n) o ∙ swap-other old n x (λ w. e (w ∙ own-i))
+    ]
+  ]
+
   pub merged-pool : Pool m p b c ws₃
   unfolding countAt
   merged-pool = record {
@@ -213,18 +255,26 @@ module _ (m p h o b c n k i j : ℕ) (ws ws₁ ws₃ : List ℕ) (P : Pool m p h
           (λ x g a b. rw (A .counts x g a b, low (m + x) (omega arith)) (omega arith))
           (omega (arith, A .sum, A .none, low (m + n) (omega arith), low (m + i) (omega arith))),
     );
+    bearers = A .bearers;
+    owns = owns₃;
     blank = λ x g. mid (5 * m + x) (omega arith) (omega arith) ∙ P .blank x g;
   }
 
-  merged-laid : (top : ℕ) → Laid m p b c top ws₁ → Laid m p b c top ws₃
+  merged-laid : (top : ℕ) → Laid m p b c top links (swapOne old n) ws₁ → Laid m p b c top links (λ y. y) ws₃
   merged-laid top D = record {
+    room = record {
+      past = D .room .past;
+      past′ = D .room .past′;
+      into = rw l₃ (D .room .into);
+      floors = λ r g. rw (stop-f r g) (Y .floors r g);
+    };
     from = D .from;
     upto = D .upto;
     below = λ w x g. rw (stop-3 x g) (D .below w x g);
     apart = λ w. record { apart = λ x y g q d. rw (start-3 x g, stop-3 x g, start-3 y q, stop-3 y q) (D .apart w .apart x y g q d) };
-    owned = λ w. record {
-      own = λ x q g u v k. getD-after (c + (q - b)) (A .frame) (omega (arith, H .past′)) ∙ D .owned w .own x q g (rw (start-3 x g) at u) (rw (stop-3 x g) at v) k;
-    };
+    mentions = λ w. mentions-via m p c links (swapOne old n) (λ y. y) ws₁ ws₃ (λ y g. A .ids y g)
+        (λ y g l e. l (A .ids y g ∙ ap (swapOne old n) e ∙ swap-other old n 0 (λ v. L .live (sym v)))) lists-at
+        (λ q g. getD-after (c + q) (A .frame) (omega (arith, H .past′))) (λ y g. getD-after y (A .frame) (omega (arith, before-links))) (D .mentions w);
   }
 
   -- ---- the records, with the marks carried too
@@ -268,16 +318,12 @@ module _ (m p h o b c n k i j : ℕ) (ws ws₁ ws₃ : List ℕ) (P : Pool m p h
         (ap (λ (y : ℕ). not (eqb y 0)) (kept₄ 4 x (omega arith) (omega arith) g)) (ap (λ (y : ℕ). not (eqb y 0)) (kept₄ 3 x (omega arith) (omega arith) g))
         (lists₄ x g ∙ lists-at x g ∙ R .others x g a b) (floors₄ x g ∙ floors-at x g) (ap (λ (y : ℕ). not (eqb y 0)) (M .others x g a b ∙ mark x g))
 
-    none-new : (id : ℕ) → [] ≡ newList old n id []
-    unfolding newList renamedList any if_then_else_
-    none-new id = if-ind (λ (l : List ℕ). [] ≡ l) (eqb id 0) (λ _. refl) (λ _. refl)
-
     rec-i : recAt ws₄ m (7 * m) (11 * m) i ≡ renamedF old n (emptied (recAt ws m (7 * m) (11 * m) i))
     unfolding recAt emptied
     rec-i =
         renamed-rec old n (L .live) _ _ (four i (omega arith) ∙ ids i hi) (four (m + i) (omega arith) ∙ A .none) (kept₄ 2 i (omega arith) (omega arith) hi)
         (ap (λ (y : ℕ). not (eqb y 0)) (kept₄ 4 i (omega arith) (omega arith) hi)) (ap (λ (y : ℕ). not (eqb y 0)) (kept₄ 3 i (omega arith) (omega arith) hi))
-        (lists₄ i hi ∙ lists-at i hi ∙ R .bare ∙ none-new old) (floors₄ i hi ∙ floors-at i hi) (ap (λ (y : ℕ). not (eqb y 0)) (M .bare))
+        (lists₄ i hi ∙ lists-at i hi ∙ R .bare ∙ sym (none-new old n old)) (floors₄ i hi ∙ floors-at i hi) (ap (λ (y : ℕ). not (eqb y 0)) (M .bare))
 
     joined-is : joinedList (listAt ws m (7 * m) n) (listAt ws m (7 * m) i) k j old n
         ≡ newList old n (getD ws n 0) (tidy (around (listAt ws m (7 * m) n) (place (listAt ws m (7 * m) n) old) ++ around (listAt ws m (7 * m) i) (place (listAt ws m (7 * m) i) (getD ws n 0))))
@@ -318,87 +364,117 @@ module _ (m p h o b c n k i j : ℕ) (ws ws₁ ws₃ : List ℕ) (P : Pool m p h
 
 -- ---- the counts and the ids, as the code writes them
 
-module _ (m n i old : ℕ) (ws₁ ws₂ ys : List ℕ) (hn : n < m) (hi : i < m) (ne : i ≡ n → ⊥) (z : old ≡ 0 → ⊥) (room : 2 * m ≤ length ws₁)
-    (e : ws₂ ≡ set (set ws₁ (m + n) (getD ws₁ (m + n) 0 + getD ws₁ (m + i) 0)) (m + i) 0) (y : ys ≡ map (swapOne old n) (midOf 0 (m - 0) ws₂)) where
+module _ (m n i old : ℕ) (ws₁ ws₂ ws₃ : List ℕ) (hn : n < m) (hi : i < m) (ne : i ≡ n → ⊥) (room : 2 * m ≤ length ws₁) (o : old ≡ i)
+    (e : ws₂ ≡ set (set ws₁ (m + n) (getD ws₁ (m + n) 0 + getD ws₁ (m + i) 0)) (m + i) 0) (J : Joining m n i ws₂ ws₃) where
   abbrev both : ℕ
   both = getD ws₁ (m + n) 0 + getD ws₁ (m + i) 0
-
-  length₂ : length ws₂ ≡ length ws₁
-  length₂ = rw e (length-set (set ws₁ (m + n) both) (m + i) 0 ∙ length-set ws₁ (m + n) both)
 
   frame₂ : Frame m (2 * m) ws₁ ws₂
   frame₂ = rw e (frame-then (frame-set m (2 * m) (m + n) both ws₁ (omega arith) (omega arith)) (frame-set m (2 * m) (m + i) 0 (set ws₁ (m + n) both) (omega arith) (omega arith)))
 
-  y-length : length ys ≡ m - 0
-  y-length = ap length y ∙ length-map (midOf 0 (m - 0) ws₂) (swapOne old n) ∙ length-sec 0 (m - 0) ws₂ (omega (arith, length₂))
+  frame₃ : Frame 0 (7 * m) ws₂ ws₃
+  frame₃ = let z : 6 * m + m ≡ 7 * m = omega arith in rw z at (J .frame)
 
-  frame₃ : Frame 0 m ws₂ (putMid 0 (m - 0) ws₂ ys)
-  frame₃ = frame-put 0 m ws₂ ys (omega arith) (omega (arith, length₂)) y-length
-
-  swap-zero : swapOne old n 0 ≡ 0
-  swap-zero = swap-other old n 0 (λ q. z (sym q))
-
-  id-at : (x : ℕ) → x < m → getD (putMid 0 (m - 0) ws₂ ys) x 0 ≡ swapOne old n (getD ws₂ x 0)
-  id-at x g =
-      let q : sec (0 + 0) m (putMid 0 (m - 0) ws₂ ys) ≡ sec 0 m ys = sec-put 0 (m - 0) 0 m ws₂ ys (omega arith) (omega (arith, y-length)) in
-      let w : 0 + x ≡ x = omega arith in
-      let a : getD (putMid 0 (m - 0) ws₂ ys) x 0 ≡ getD ys x 0 =
-      rw w at (sym (getD-sec 0 m x (putMid 0 (m - 0) ws₂ ys) g) ∙ ap (λ (l : List ℕ). getD l x 0) q ∙ getD-sec 0 m x ys g) in
-      let b : getD (map (swapOne old n) (midOf 0 (m - 0) ws₂)) x 0 ≡ swapOne old n (getD (midOf 0 (m - 0) ws₂) x 0) =
-      ap (getD (map (swapOne old n) (midOf 0 (m - 0) ws₂)) x) (sym swap-zero) ∙ List·getD-map (swapOne old n) (midOf 0 (m - 0) ws₂) x 0 in
-      a ∙ ap (λ (l : List ℕ). getD l x 0) y ∙ b ∙ ap (swapOne old n) (getD-sec 0 (m - 0) x ws₂ (omega arith) ∙ ap (λ (k : ℕ). getD ws₂ k 0) w)
-
-  pub after-is : After m n i old ws₁ (putMid 0 (m - 0) ws₂ ys)
+  pub after-is : After m n i old ws₁ ws₃
   after-is = record {
-    frame = frame-then (frame-wider 0 (2 * m) frame₂ (omega arith) (omega arith)) (frame-wider 0 (2 * m) frame₃ (omega arith) (omega arith));
-    ids = λ x g. id-at x g ∙ ap (swapOne old n) (getD-before x frame₂ g);
-    sum = getD-after (m + n) frame₃ (omega arith) ∙ rw e (getD-set-other (set ws₁ (m + n) both) (m + i) (m + n) 0 0 (λ q. ne (omega arith)) ∙ getD-set-same ws₁ (m + n) both 0 (omega arith));
-    none = getD-after (m + i) frame₃ (omega arith) ∙ rw e (getD-set-same (set ws₁ (m + n) both) (m + i) 0 0 (rw (length-set ws₁ (m + n) both) (omega arith)));
-    counts = λ x g a b. getD-after (m + x) frame₃ (omega arith)
+    frame = frame-then (frame-wider 0 (7 * m) frame₂ (omega arith) (omega arith)) frame₃;
+    columns = λ y a b. J .columns y (omega arith) b ∙ getD-after y frame₂ a;
+    bearers = J .bearers;
+    ids = λ x g. rw o (J .ids x g ∙ ap (swapOne i n) (getD-before x frame₂ g));
+    sum = J .columns (m + n) (omega arith) (omega arith)
+        ∙ rw e (getD-set-other (set ws₁ (m + n) both) (m + i) (m + n) 0 0 (λ q. ne (omega arith)) ∙ getD-set-same ws₁ (m + n) both 0 (omega arith));
+    none = J .columns (m + i) (omega arith) (omega arith) ∙ rw e (getD-set-same (set ws₁ (m + n) both) (m + i) 0 0 (rw (length-set ws₁ (m + n) both) (omega arith)));
+    counts = λ x g a b. J .columns (m + x) (omega arith) (omega arith)
         ∙ rw e (getD-set-other (set ws₁ (m + n) both) (m + i) (m + x) 0 0 (λ q. a (omega arith)) ∙ getD-set-other ws₁ (m + n) (m + x) both 0 (λ q. b (omega arith)));
   }
 
 -- two counts are no more than all
 module _ (m p h o n k i j : ℕ) (ws ws₁ : List ℕ) (P : Pool m p h o ws) (L : Listed m n k i j ws) where
-  pub spans-fit : (b c old new : ℕ) → Sides h o b c → Relisted m p n k i j old new b c ws ws₁ → getD ws₁ (m + n) 0 + getD ws₁ (m + i) 0 < 65536
+  pub spans-fit : (b c links old new : ℕ) → LinksPast m p h o links ws → Sides h o b c → Relisted m p n k i j old new b c links ws ws₁ → getD ws₁ (m + n) 0 + getD ws₁ (m + i) 0 < 65536
   unfolding countAt
-  spans-fit b c old new W R =
+  spans-fit b c links old new Y W R =
       let H = turned-halves m p h o b c ws P W in
-      let a : getD ws₁ (m + n) 0 ≡ getD ws (m + n) 0 = R .kept (m + n) (inl (omega (arith, L .pair .first)), inl (omega (arith, L .pair .first, H .past))) (inl (omega (arith, L .pair .first, H .past′))) in
-      let d : getD ws₁ (m + i) 0 ≡ getD ws (m + i) 0 = R .kept (m + i) (inl (omega (arith, L .pair .second)), inl (omega (arith, L .pair .second, H .past))) (inl (omega (arith, L .pair .second, H .past′))) in
+      let a : getD ws₁ (m + n) 0 ≡ getD ws (m + n) 0 = R .kept (m + n) (inl (omega (arith, L .pair .first)), inl (omega (arith, L .pair .first, H .past))) (inl (omega (arith, L .pair .first, H .past′))) (omega (arith, L .pair .first, P .halves .past, Y .past)) in
+      let d : getD ws₁ (m + i) 0 ≡ getD ws (m + i) 0 = R .kept (m + i) (inl (omega (arith, L .pair .second)), inl (omega (arith, L .pair .second, H .past))) (inl (omega (arith, L .pair .second, H .past′))) (omega (arith, L .pair .second, P .halves .past, Y .past)) in
       omega (arith, P .spans, sum-split (countAt ws m) i n m (L .pair .second) (L .pair .first) (L .pair .apart))
 
   pub columns-in : length ws₁ ≡ length ws → 2 * m ≤ length ws₁
   columns-in l = omega (arith, P .held .lists .room)
 
+  -- after the lists and the counts, the pair can hand over
+  module _ (b c links old new : ℕ) (Y : LinksPast m p h o links ws) (W : Sides h o b c) (R : Relisted m p n k i j old new b c links ws ws₁) (l : length ws₁ ≡ length ws) (ws₂ : List ℕ)
+      (e : ws₂ ≡ set (set ws₁ (m + n) (getD ws₁ (m + n) 0 + getD ws₁ (m + i) 0)) (m + i) 0) (l₂ : length ws₂ ≡ length ws₁) where
+    still : (y : ℕ) → (y < m) ⊎ (2 * m ≤ y) → y < 7 * m → getD ws₂ y 0 ≡ getD ws y 0
+    still y v g =
+        let H = turned-halves m p h o b c ws P W in
+        let both = getD ws₁ (m + n) 0 + getD ws₁ (m + i) 0 in
+        let f : Frame m (2 * m) ws₁ ws₂ = rw e (frame-then (frame-set m (2 * m) (m + n) both ws₁ (omega arith) (omega (arith, L .pair .first)))
+        (frame-set m (2 * m) (m + i) 0 (set ws₁ (m + n) both) (omega arith) (omega (arith, L .pair .second)))) in
+        ⊎-elim (λ (w : y < m). getD-before y f w) (λ (w : 2 * m ≤ y). getD-after y f w) v
+        ∙ R .kept y (inl g, inl (omega (arith, H .past))) (inl (omega (arith, H .past′))) (omega (arith, P .halves .past, Y .past))
+
+    pub owners-still : Owners m n i ws₂
+    owners-still =
+        let hn = L .pair .first in
+        let hi = L .pair .second in
+        record {
+          bearers = bearers-same m ws ws₂ (λ y g. still y (inl g) (omega arith))
+              (λ y g. still (6 * m + y) (inr (omega arith)) (omega arith)) (P .bearers);
+          room = omega (arith, P .held .lists .room);
+          few = P .held .few;
+          first = hn;
+          second = hi;
+          apart = L .pair .apart;
+          own = still n (inl hn) (omega arith) ∙ own-first m p h o n k i j ws P L;
+          own′ = still i (inl hi) (omega arith) ∙ own-second m p h o n k i j ws P L;
+          some = λ z. L .live′ (own-first m p h o n k i j ws P L ∙ z);
+          some′ = λ z. L .live (own-second m p h o n k i j ws P L ∙ z);
+        }
+
 -- as the code has it
-module _ (m p h o b c n k i j : ℕ) (ws ws₁ ws₂ ys : List ℕ) (P : Pool m p h o ws) (L : Listed m n k i j ws) (W : Sides h o b c) (R : Relisted m p n k i j (getD ws i 0) n b c ws ws₁)
+module _ (m p h o b c n k i j links : ℕ) (ws ws₁ ws₂ ws₃ : List ℕ) (P : Pool m p h o ws) (Y : LinksPast m p h o links ws) (L : Listed m n k i j ws) (W : Sides h o b c)
+    (R : Relisted m p n k i j (getD ws i 0) n b c links ws ws₁)
     (l₁ : length ws₁ ≡ length ws)
-    (e : ws₂ ≡ set (set ws₁ (m + n) (getD ws₁ (m + n) 0 + getD ws₁ (m + i) 0)) (m + i) 0) (l₂ : length ws₂ ≡ length ws₁) (y : ys ≡ map (swapOne (getD ws i 0) n) (midOf 0 (m - 0) ws₂))
-    (ly : length ys ≡ length (midOf 0 (m - 0) ws₂)) (ws₄ : List ℕ) (e₄ : ws₄ ≡ remarked m n i (putMid 0 (m - 0) ws₂ ys)) where
-  after : After m n i (getD ws i 0) ws₁ (putMid 0 (m - 0) ws₂ ys)
+    (e : ws₂ ≡ set (set ws₁ (m + n) (getD ws₁ (m + n) 0 + getD ws₁ (m + i) 0)) (m + i) 0) (l₂ : length ws₂ ≡ length ws₁) (J : Joining m n i ws₂ ws₃)
+    (l₃ : length ws₃ ≡ length ws₂) (ws₄ : List ℕ) (e₄ : ws₄ ≡ remarked m n i ws₃) where
+  after : After m n i (getD ws i 0) ws₁ ws₃
   after =
-      after-is m n i (getD ws i 0) ws₁ ws₂ ys (L .pair .first) (L .pair .second) (L .pair .apart) (L .live) (columns-in m p h o n k i j ws ws₁ P L l₁) e y
+      after-is m n i (getD ws i 0) ws₁ ws₂ ws₃ (L .pair .first) (L .pair .second) (L .pair .apart) (omega (arith, P .held .lists .room)) (own-second m p h o n k i j ws P L) e J
 
-  l₃ : length (putMid 0 (m - 0) ws₂ ys) ≡ length ws₁
-  l₃ = same-len-mid 0 (m - 0) ws₂ ys ly ∙ l₂
+  pool₃ : Pool m p b c ws₃
+  pool₃ = merged-pool m p h o b c n k i j links ws ws₁ ws₃ P Y W L R after l₁ (l₃ ∙ l₂)
 
-  pool₃ : Pool m p b c (putMid 0 (m - 0) ws₂ ys)
-  pool₃ = merged-pool m p h o b c n k i j ws ws₁ (putMid 0 (m - 0) ws₂ ys) P W L R after l₁ l₃
-
-  marked : Remarked m n i (putMid 0 (m - 0) ws₂ ys) ws₄
-  marked = rw e₄ (remarked-is m n i (putMid 0 (m - 0) ws₂ ys) (L .pair .first) (L .pair .second) (L .pair .apart) (omega (arith, pool₃ .halves .into, pool₃ .halves .past)))
+  marked : Remarked m n i ws₃ ws₄
+  marked = rw e₄ (remarked-is m n i ws₃ (L .pair .first) (L .pair .second) (L .pair .apart) (omega (arith, pool₃ .halves .into, pool₃ .halves .past)))
 
   pub region-recs : recsOf ws₄ m ≡ mergedPair (recsOf ws m) i (getD ws i 0) n
-  region-recs = merged-recs m p h o b c n k i j ws ws₁ (putMid 0 (m - 0) ws₂ ys) P W L R after l₁ l₃ ws₄ marked
+  region-recs = merged-recs m p h o b c n k i j links ws ws₁ ws₃ P Y W L R after l₁ (l₃ ∙ l₂) ws₄ marked
 
   pub region-pool : Pool m p b c ws₄
-  region-pool = marked-pool m n i (putMid 0 (m - 0) ws₂ ys) ws₄ marked p b c pool₃
+  region-pool = marked-pool m n i ws₃ ws₄ marked p b c pool₃
 
-  pub region-laid : (top : ℕ) → Laid m p b c top ws₁ → Laid m p b c top ws₄
+  pub region-laid : (top : ℕ) → Laid m p b c top links (swapOne (getD ws i 0) n) ws₁ → Laid m p b c top links (λ y. y) ws₄
   region-laid top D =
-      marked-laid m n i (putMid 0 (m - 0) ws₂ ys) ws₄ marked p b c pool₃ top
-      (merged-laid m p h o b c n k i j ws ws₁ (putMid 0 (m - 0) ws₂ ys) P W L R after l₁ l₃ top D)
+      marked-laid m n i ws₃ ws₄ marked p b c pool₃ top links (merged-laid m p h o b c n k i j links ws ws₁ ws₃ P Y W L R after l₁ (l₃ ∙ l₂) top D)
+
+-- before it: each of the pair bears its own number, and the one's becomes the other's
+module _ (m p h o n k i j : ℕ) (ws : List ℕ) (P : Pool m p h o ws) (L : Listed m n k i j ws) where
+  pub pair-owners : Owners m n i ws
+  pair-owners = record {
+    bearers = P .bearers;
+    room = omega (arith, P .held .lists .room);
+    few = P .held .few;
+    first = L .pair .first;
+    second = L .pair .second;
+    apart = L .pair .apart;
+    own = own-first m p h o n k i j ws P L;
+    own′ = own-second m p h o n k i j ws P L;
+    some = λ z. L .live′ (own-first m p h o n k i j ws P L ∙ z);
+    some′ = λ z. L .live (own-second m p h o n k i j ws P L ∙ z);
+  }
+
+  pub pair-old : getD ws i 0 ≡ i
+  pair-old = own-second m p h o n k i j ws P L
 
 -- the marks lie in the workspace
 pub marks-in : (m p h o : ℕ) (ws ws′ : List ℕ) → Pool m p h o ws → length ws′ ≡ length ws → 16 * m ≤ length ws′
@@ -412,5 +488,5 @@ recount-in ws m n i v h g = rw (length-set ws (m + n) v) (omega arith)
 pub pool-sized : (m p q h o : ℕ) (ws : List ℕ) → q ≡ p → Pool m p h o ws → Pool m q h o ws
 pool-sized m p q h o ws e P = rw e P
 
-pub laid-sized : (m p q h o top : ℕ) (ws ws′ : List ℕ) → q ≡ p → (Laid m p h o top ws → Laid m p h o top ws′) → Laid m q h o top ws → Laid m q h o top ws′
-laid-sized m p q h o top ws ws′ e f = rw e f
+pub laid-sized : (m p q h o top l l′ : ℕ) (f g : ℕ → ℕ) (ws ws′ : List ℕ) → q ≡ p → l′ ≡ l → (Laid m p h o top l f ws → Laid m p h o top l g ws′) → Laid m q h o top l′ f ws → Laid m q h o top l′ g ws′
+laid-sized m p q h o top l l′ f g ws ws′ e d t = rw (e, d) t

@@ -10,12 +10,20 @@ use lib.ListN.{length, getD}
 use Rattle.laws.specs.Sums.{sumTo}
 use Rattle.laws.proofs.Sums.{sum-same}
 use Rattle.table.specs.View.{part, startOf, endOf, listAt, Parts}
-use Rattle.table.proofs.ViewLaws.{list-same, part-none}
+use Rattle.table.proofs.ViewLaws.{list-same, wide-same, part-none}
 use Rattle.space.specs.Space.{Frame}
-use Rattle.space.proofs.Laws.{sec-same, getD-before, getD-after, frame-wider}
-use Rattle.pool.specs.Pool.{without, lenAt, restTo, newList, joinedList, Halves, Pool, Beside, Apart, Owned, Laid, Outside, EachLists, Sources, There, Carried, Rows, Searched, Swept, OwnedPart, Standing, Target, Absorbed, Relisted}
+use Rattle.space.proofs.Laws.{sec-same, getD-before, getD-after}
+use Rattle.rules.specs.Records.{has}
+use mathlib.Core.Bool.{true}
+use Rattle.pool.specs.Pool.{without, lenAt, restTo, newList, joinedList, Halves, Pool, Beside, Apart, Owned, Laid, Outside, EachLists, Sources, There, Carried, Rows, Free, Swept, Standing, Target, Absorbed, Relisted}
+use Rattle.pool.specs.Lists.{swapOne}
+use Rattle.pool.specs.Bearers.{Owners}
+use Rattle.pool.specs.Links.{heldFrom, Linked, LinkRoom, LinksPast, Mentions}
+use Rattle.pool.specs.Sweep.{Reached, Searched}
+use Rattle.pool.proofs.BearerLaws.{bearers-same}
+use Rattle.pool.proofs.MentionLaws.{linked-same, mentions-here, mentions-there}
 use Rattle.pool.proofs.AbsorbLaws.{by-three, absorbed-in, absorbed-lists, absorbed-len, absorbed-id}
-use Rattle.pool.proofs.RenameLaws.{beside-free, swept-less, swept-apart}
+use Rattle.pool.proofs.RenameLaws.{swept-less, swept-apart}
 use Rattle.pool.proofs.OwnLaws.{past-start, past-end, halves-same, halves-turn}
 use Rattle.pool.proofs.SumLaws.{sum-split, sum-two, without-two}
 
@@ -83,8 +91,8 @@ module _ (m p b n k i j to : ℕ) (ws : List ℕ) (T : Target m n i to (b + p) w
     unfolding lenAt
     len-i₂ = rw (S .bare, S .bare′) (omega arith)
 
-    settled-relisted : (c : ℕ) → Relisted m p n k i j old new b c ws ws₂
-    settled-relisted c = record {
+    settled-relisted : (c links : ℕ) → Relisted m p n k i j old new b c links ws ws₂
+    settled-relisted c links = record {
       joined = joined-at;
       bare = bare-at;
       others = others-at;
@@ -103,55 +111,63 @@ module _ (m p b n k i j to : ℕ) (ws : List ℕ) (T : Target m n i to (b + p) w
         sum-two (lenAt ws m) i n m (Q .second) (Q .first) (Q .apart) (lenAt ws₂ m)
             (λ x g c d. omega (arith, S .there x g c d .short, absorbed-len m n k i j to (b + p) ws T Q ws₁ old new e l A x g c d)) (omega (arith, len-n₂, len-i₂, A .short)),
       );
-      kept = λ y g _. kept y g ∙ A .kept y (g .0, ⊎-elim (λ (w : y < b). inl (omega arith)) (λ (w : b + p ≤ y). inr w) (g .1));
+      kept = λ y g _ _. kept y g ∙ A .kept y (g .0, ⊎-elim (λ (w : y < b). inl (omega arith)) (λ (w : b + p ≤ y). inr w) (g .1));
     }
 
--- what is then written in the half at c leaves the lists as they are
-module _ (m p n k i j old new b c : ℕ) (ws ws₂ ws₃ : List ℕ) (H : Halves m p b c ws) (l₂ : length ws₂ ≡ length ws) (l₃ : length ws₃ ≡ length ws₂) (R : Relisted m p n k i j old new b c ws ws₂)
-    (F : Frame c (c + p) ws₂ ws₃) where
-  past : 11 * m ≤ c
-  past = omega (arith, H .past′)
+-- what is then written in the half at c, and from the links on, leaves the lists as they are
+module _ (m p n k i j old new b c links : ℕ) (ws ws₂ ws₄ : List ℕ) (H : Halves m p b c ws) (Y : LinksPast m p b c links ws) (l₂ : length ws₂ ≡ length ws) (l₄ : length ws₄ ≡ length ws₂)
+    (R : Relisted m p n k i j old new b c links ws ws₂) (E : (y : ℕ) → (y < c) ⊎ (c + p ≤ y) → y < links → getD ws₄ y 0 ≡ getD ws₂ y 0) where
+  low-₄ : (y : ℕ) → y < 16 * m → getD ws₄ y 0 ≡ getD ws₂ y 0
+  low-₄ y g = E y (inl (omega (arith, H .past′))) (omega (arith, H .past, Y .past))
 
-  start-₃ : (x : ℕ) → x < m → startOf ws₃ m (7 * m) x ≡ startOf ws₂ m (7 * m) x
-  start-₃ = past-start m c (c + p) ws₂ ws₃ F past
+  start-₄ : (x : ℕ) → x < m → startOf ws₄ m (7 * m) x ≡ startOf ws₂ m (7 * m) x
+  start-₄ x g = wide-same ws₂ ws₄ m (7 * m + x) (low-₄ (7 * m + x) (omega arith)) (low-₄ (7 * m + x + m) (omega arith))
 
-  end-₃ : (x : ℕ) → x < m → endOf ws₃ m (7 * m) x ≡ endOf ws₂ m (7 * m) x
-  end-₃ = past-end m c (c + p) ws₂ ws₃ F past
+  end-₄ : (x : ℕ) → x < m → endOf ws₄ m (7 * m) x ≡ endOf ws₂ m (7 * m) x
+  end-₄ x g = wide-same ws₂ ws₄ m (7 * m + 2 * m + x) (low-₄ (7 * m + 2 * m + x) (omega arith)) (low-₄ (7 * m + 2 * m + x + m) (omega arith))
 
-  list-₃ : (x : ℕ) → x < m → listAt ws₃ m (7 * m) x ≡ listAt ws₂ m (7 * m) x
-  list-₃ x g = list-same ws₂ ws₃ m (7 * m) x (start-₃ x g) (end-₃ x g) (R .parts .order x g) (R .parts .within x g) l₃ (λ y u v.
-      ⊎-elim (λ (w : b + p ≤ c). getD-before y F (omega (arith, R .upto x g))) (λ (w : c + p ≤ b). getD-after y F (omega (arith, R .from x g))) (H .apart))
+  list-₄ : (x : ℕ) → x < m → listAt ws₄ m (7 * m) x ≡ listAt ws₂ m (7 * m) x
+  list-₄ x g = list-same ws₂ ws₄ m (7 * m) x (start-₄ x g) (end-₄ x g) (R .parts .order x g) (R .parts .within x g) l₄ (λ y u v.
+      E y (⊎-elim (λ (w : b + p ≤ c). inl (omega (arith, R .upto x g))) (λ (w : c + p ≤ b). inr (omega (arith, R .from x g))) (H .apart)) (omega (arith, R .upto x g, Y .past)))
 
-  len-₃ : (x : ℕ) → x < m → lenAt ws₃ m x ≡ lenAt ws₂ m x
+  len-₄ : (x : ℕ) → x < m → lenAt ws₄ m x ≡ lenAt ws₂ m x
   unfolding lenAt
-  len-₃ x g = rw (start-₃ x g, end-₃ x g)
+  len-₄ x g = rw (start-₄ x g, end-₄ x g)
 
-  relisted-still : n < m → i < m → Relisted m p n k i j old new b c ws ws₃
+  relisted-still : n < m → i < m → Relisted m p n k i j old new b c links ws ws₄
   relisted-still hn hi = record {
-    joined = list-₃ n hn ∙ R .joined;
-    bare = list-₃ i hi ∙ R .bare;
-    others = λ x g u v. list-₃ x g ∙ R .others x g u v;
+    joined = list-₄ n hn ∙ R .joined;
+    bare = list-₄ i hi ∙ R .bare;
+    others = λ x g u v. list-₄ x g ∙ R .others x g u v;
     parts = record {
-      room = rw l₃ (R .parts .room);
+      room = rw l₄ (R .parts .room);
       past = R .parts .past;
-      order = λ x g. rw (start-₃ x g, end-₃ x g) (R .parts .order x g);
-      within = λ x g. rw (end-₃ x g, l₃) (R .parts .within x g);
-      far = λ x g. rw (start-₃ x g) (R .parts .far x g);
+      order = λ x g. rw (start-₄ x g, end-₄ x g) (R .parts .order x g);
+      within = λ x g. rw (end-₄ x g, l₄) (R .parts .within x g);
+      far = λ x g. rw (start-₄ x g) (R .parts .far x g);
     };
-    from = λ x g. rw (start-₃ x g) (R .from x g);
-    upto = λ x g. rw (end-₃ x g) (R .upto x g);
-    room = rw (sum-same (lenAt ws₃ m) (lenAt ws₂ m) m len-₃) (R .room);
-    kept = λ y g w. ⊎-elim (λ (v : y < c). getD-before y F v) (λ (v : c + p ≤ y). getD-after y F v) w ∙ R .kept y g w;
+    from = λ x g. rw (start-₄ x g) (R .from x g);
+    upto = λ x g. rw (end-₄ x g) (R .upto x g);
+    room = rw (sum-same (lenAt ws₄ m) (lenAt ws₂ m) m len-₄) (R .room);
+    kept = λ y g w v. E y w v ∙ R .kept y g w v;
   }
 
-  laid-still : (top : ℕ) → b ≤ top → top ≤ b + p → ((x : ℕ) → x < m → endOf ws₂ m (7 * m) x ≤ top) → Apart m ws₂ → Owned m b c top ws₃ → Laid m p b c top ws₃
-  laid-still top u v below A O = record {
-    from = u;
-    upto = v;
-    below = λ _ x g. rw (end-₃ x g) (below x g);
-    apart = λ _. record { apart = λ x y g q d. rw (start-₃ x g, end-₃ x g, start-₃ y q, end-₃ y q) (A .apart x y g q d) };
-    owned = λ _. O;
+-- the links lie past all floors as they did
+module _ (m p n k i j old new b c links : ℕ) (ws ws′ : List ℕ) (H : Halves m p b c ws) (Y : LinksPast m p b c links ws) (l : length ws′ ≡ length ws)
+    (R : Relisted m p n k i j old new b c links ws ws′) where
+  relisted-low : (y : ℕ) → (y < 7 * m) ⊎ (11 * m ≤ y) → y < 16 * m → getD ws′ y 0 ≡ getD ws y 0
+  relisted-low y w g = R .kept y (w, inl (omega (arith, H .past))) (inl (omega (arith, H .past′))) (omega (arith, H .past, Y .past))
+
+  links-still : LinksPast m p b c links ws′
+  links-still = record {
+    past = Y .past;
+    past′ = Y .past′;
+    into = rw l (Y .into);
+    floors = λ r g. rw (wide-same ws ws′ m (11 * m + 2 * m + r) (relisted-low (11 * m + 2 * m + r) (inr (omega arith)) (omega arith)) (relisted-low (11 * m + 2 * m + r + m) (inr (omega arith)) (omega arith))) (Y .floors r g);
   }
+
+links-turn : (m p h o links : ℕ) (ws : List ℕ) → LinksPast m p h o links ws → LinksPast m p o h links ws
+links-turn m p h o links ws Y = record { past = Y .past′; past′ = Y .past; into = Y .into; floors = Y .floors }
 
 -- two records, and all others apart from both
 apart-by : (m i n : ℕ) (ws : List ℕ) → Beside ws m n i → ((x : ℕ) → x < m → (x ≡ i → ⊥) → (x ≡ n → ⊥) → Beside ws m x i × Beside ws m x n)
@@ -180,7 +196,7 @@ apart-by m i n ws two one rest = record {
 
 -- ---- into the other half
 
-module _ (m p h o n k i j : ℕ) (ws : List ℕ) (P : Pool m p h o ws) (Q : EachLists m n k i j ws) where
+module _ (m p h o n k i j : ℕ) (ws : List ℕ) (P : Pool m p h o ws) (Q : EachLists m n k i j ws) (links : ℕ) (Y : LinksPast m p h o links ws) where
   pair-room : lenAt ws m i + lenAt ws m n + restTo ws m i n m ≤ p
   unfolding restTo
   pair-room = omega (arith, P .room, sum-split (lenAt ws m) i n m (Q .second) (Q .first) (Q .apart))
@@ -232,10 +248,10 @@ module _ (m p h o n k i j : ℕ) (ws : List ℕ) (P : Pool m p h o ws) (Q : Each
             C .kept y (inr (omega (arith, P .halves .past′)), inl (omega arith)));
       }
 
-      relisted-carried : Relisted m p n k i j old new o h ws ws₂
+      relisted-carried : Relisted m p n k i j old new o h links ws ws₂
       relisted-carried =
           settled-relisted m p o n k i j o ws target-there Q (omega (arith, P .halves .past′)) (omega arith) (P .room) (λ x g _ _. (omega (arith, P .from x g, P .halves .past), across x g)) ws₁ old new e l A
-          ws₂ e r l₂ settled-there (A .order) (omega (arith, C .room)) (λ y g. C .kept y (g .0, ⊎-elim (λ (w : y < o). inl (omega (arith, A .order))) (λ (w : o + p ≤ y). inr w) (g .1))) h
+          ws₂ e r l₂ settled-there (A .order) (omega (arith, C .room)) (λ y g. C .kept y (g .0, ⊎-elim (λ (w : y < o). inl (omega (arith, A .order))) (λ (w : o + p ≤ y). inr w) (g .1))) h links
 
       below-there : (x : ℕ) → x < m → endOf ws₂ m (7 * m) x ≤ r
       below-there x g = elim (ℕ-discrete x i) [
@@ -268,17 +284,61 @@ module _ (m p h o n k i j : ℕ) (ws : List ℕ) (P : Pool m p h o ws) (Q : Each
       }
 
       module _ (ws₃ : List ℕ) (l₃ : length ws₃ ≡ length ws₂) (F : Frame h (h + p) ws₂ ws₃) where
-        pub relisted-there : Relisted m p n k i j old new o h ws ws₃
-        relisted-there = relisted-still m p n k i j old new o h ws ws₂ ws₃ halves-there (l₂ ∙ l) l₃ relisted-carried F (Q .first) (Q .second)
+        pub link-room : LinkRoom m p o r links ws₃
+        link-room = record {
+          order = omega (arith, A .order, C .order);
+          upto = omega (arith, C .room);
+          past = Y .past′;
+          into = omega (arith, Y .into);
+          fits = omega (arith, P .halves .fits, P .halves .past, Q .first);
+        }
 
-        pub laid-there : Owned m o h (o + p) ws₃ → Laid m p o h r ws₃
-        laid-there O =
-            laid-still m p n k i j old new o h ws ws₂ ws₃ halves-there (l₂ ∙ l) l₃ relisted-carried F r (omega (arith, A .order, C .order)) (omega (arith, C .room)) below-there apart-there
-            (record { own = λ x q g u v w. O .own x q g u v (omega (arith, C .room)) })
+        module _ (ws₄ : List ℕ) (l₄ : length ws₄ ≡ length ws₃) (K : Linked m p links (r - o) (heldFrom ws₃ o) ws₄) (G : Frame links (links + 2 * p + 2 * m) ws₃ ws₄) where
+          else-still : (y : ℕ) → (y < h) ⊎ (h + p ≤ y) → y < links → getD ws₄ y 0 ≡ getD ws₂ y 0
+          else-still y w g = getD-before y G g ∙ ⊎-elim (λ (v : y < h). getD-before y F v) (λ (v : h + p ≤ y). getD-after y F v) w
+
+          Y′ : LinksPast m p o h links ws
+          Y′ = links-turn m p h o links ws Y
+
+          pub relisted-there : Relisted m p n k i j old new o h links ws ws₄
+          relisted-there = relisted-still m p n k i j old new o h links ws ws₂ ws₄ halves-there Y′ (l₂ ∙ l) (l₄ ∙ l₃) relisted-carried else-still (Q .first) (Q .second)
+
+          starts-₄ : (x : ℕ) → x < m → startOf ws₄ m (7 * m) x ≡ startOf ws₂ m (7 * m) x
+          starts-₄ = start-₄ m p n k i j old new o h links ws ws₂ ws₄ halves-there Y′ (l₂ ∙ l) (l₄ ∙ l₃) relisted-carried else-still
+
+          ends-₄ : (x : ℕ) → x < m → endOf ws₄ m (7 * m) x ≡ endOf ws₂ m (7 * m) x
+          ends-₄ = end-₄ m p n k i j old new o h links ws ws₂ ws₄ halves-there Y′ (l₂ ∙ l) (l₄ ∙ l₃) relisted-carried else-still
+
+          ids-₄ : (y : ℕ) → y < m → getD ws₄ y 0 ≡ getD ws y 0
+          ids-₄ y g = relisted-low m p n k i j old new o h links ws ws₄ halves-there Y′ (l₄ ∙ l₃ ∙ l₂ ∙ l) relisted-there y (inl (omega arith)) (omega arith)
+
+          module _ (W : Owners m n i ws) (eo : old ≡ i) (en : new ≡ n) (O : Owned m o h (o + p) ws₃) where
+            starts-₃ : (x : ℕ) → x < m → startOf ws₃ m (7 * m) x ≡ startOf ws₂ m (7 * m) x
+            starts-₃ = past-start m h (h + p) ws₂ ws₃ F (omega (arith, P .halves .past))
+
+            ends-₃ : (x : ℕ) → x < m → endOf ws₃ m (7 * m) x ≡ endOf ws₂ m (7 * m) x
+            ends-₃ = past-end m h (h + p) ws₂ ws₃ F (omega (arith, P .halves .past))
+
+            mentions-₄ : Mentions m p h links (swapOne old new) ws₄
+            mentions-₄ = rw (eo, en) (
+                mentions-there m p n k i j o h links ws ws₄ W (rw (eo, en) at relisted-there) ids-₄ h o P r (omega (arith, C .room)) (relisted-there .from) (λ x g. rw (ends-₄ x g) (below-there x g))
+                (heldFrom ws₃ o) (λ q g. sym (getD-before (o + q) G (omega (arith, C .room, Y .past′)))) K
+                (λ x q g u v. getD-before (h + (q - o)) G (omega (arith, Y .past, rw (ends-₄ x g) at v, below-there x g, C .room, relisted-there .from x g))
+                ∙ O .own x q g (rw (starts-₃ x g, ← starts-₄ x g) u) (rw (ends-₃ x g, ← ends-₄ x g) v) (omega (arith, rw (ends-₄ x g) at v, below-there x g, C .room))))
+
+            pub laid-there : Laid m p o h r links (swapOne old new) ws₄
+            laid-there = record {
+              room = links-still m p n k i j old new o h links ws ws₄ halves-there Y′ (l₄ ∙ l₃ ∙ l₂ ∙ l) relisted-there;
+              from = omega (arith, A .order, C .order);
+              upto = omega (arith, C .room);
+              below = λ _ x g. rw (ends-₄ x g) (below-there x g);
+              apart = λ _. record { apart = λ x y g q d. rw (starts-₄ x g, ends-₄ x g, starts-₄ y q, ends-₄ y q) (apart-there .apart x y g q d) };
+              mentions = λ _. mentions-₄;
+            }
 
 -- ---- in place
 
-module _ (m p h o top n k i j : ℕ) (ws : List ℕ) (P : Pool m p h o ws) (D : Laid m p h o top ws) (Q : EachLists m n k i j ws) (room : lenAt ws m n + lenAt ws m i ≤ h + p - top) where
+module _ (m p h o top n k i j links : ℕ) (ws : List ℕ) (P : Pool m p h o ws) (D : Laid m p h o top links (λ y. y) ws) (Q : EachLists m n k i j ws) (room : lenAt ws m n + lenAt ws m i ≤ h + p - top) where
   free : top < h + p
   free = omega (arith, D .upto, Q .lists)
 
@@ -297,6 +357,9 @@ module _ (m p h o top n k i j : ℕ) (ws : List ℕ) (P : Pool m p h o ws) (D : 
     e-fits : e ≤ h + p
     e-fits = absorbed-in m n k i j top (h + p) ws target-here Q ws₁ old new e l A
 
+    others-wait : (x : ℕ) → x < m → (x ≡ i → ⊥) → (x ≡ n → ⊥) → (11 * m ≤ startOf ws m (7 * m) x) × ((endOf ws m (7 * m) x ≤ top) ⊎ (h + p ≤ startOf ws m (7 * m) x))
+    others-wait x g _ _ = (omega (arith, P .from x g, P .halves .past), inl (D .below free x g))
+
     others-below : (x : ℕ) → x < m → (x ≡ i → ⊥) → (x ≡ n → ⊥) → endOf ws₁ m (7 * m) x ≤ top
     others-below x g a b = rw (A .stops x g a b) (D .below free x g)
 
@@ -310,33 +373,55 @@ module _ (m p h o top n k i j : ℕ) (ws : List ℕ) (P : Pool m p h o ws) (D : 
           (λ x y g k d a b a′ b′. rw (A .starts x g a b, A .stops x g a b, A .starts y k a′ b′, A .stops y k a′ b′) (D .apart free .apart x y g k d));
     }
 
-    -- a place of the other half is as it was
-    other-half : (q : ℕ) → h ≤ q → q < top → getD ws₁ (o + (q - h)) 0 ≡ getD ws (o + (q - h)) 0
-    other-half q u v = A .kept (o + (q - h)) (
+    -- a place of the other half is as it was, and so is what lies past the halves
+    other-half : (q : ℕ) → q < p → getD ws₁ (o + q) 0 ≡ getD ws (o + q) 0
+    other-half q u = A .kept (o + q) (
       inr (omega (arith, P .halves .past′)),
-      ⊎-elim (λ (w : h + p ≤ o). inr (omega arith)) (λ (w : o + p ≤ h). inl (omega (arith, D .from, D .upto))) (P .halves .apart),
+      ⊎-elim (λ (w : h + p ≤ o). inr (omega arith)) (λ (w : o + p ≤ h). inl (omega (arith, D .from))) (P .halves .apart),
     )
 
-    pub searched-here : Searched m i n h o top ws₁
-    searched-here = record {
+    links-kept : (y : ℕ) → links ≤ y → getD ws₁ y 0 ≡ getD ws y 0
+    links-kept y g = A .kept y (inr (omega (arith, P .halves .past, D .room .past)), inr (omega (arith, D .room .past)))
+
+    ids-kept : (y : ℕ) → y < 7 * m → getD ws₁ y 0 ≡ getD ws y 0
+    ids-kept y g = A .kept y (inl g, inl (omega (arith, target-here .past)))
+
+    M : Mentions m p o links (λ y. y) ws
+    M = D .mentions free
+
+    pub reached-here : Reached m i n p o links ws₁
+    reached-here = record {
       rows = rows-here;
-      p = p;
-      halves = halves-same m p h o ws ws₁ l (P .halves);
-      order = D .from;
-      half = D .upto;
-      from = λ x g a b. rw (A .starts x g a b) (P .from x g);
-      upto = others-below;
-      owned = record {
-        own = λ x q g u v w. elim (ℕ-discrete x i) [
-          | yes a ↦ absurd (omega (arith, rw (a, A .bare) at u, A .order))
-          | no a ↦ elim (ℕ-discrete x n) [
-            | yes b ↦ absurd (omega (arith, rw (b, A .first) at u))
-            | no b ↦
-                let u′ : startOf ws m (7 * m) x ≤ q = rw (A .starts x g a b) at u in
-                other-half q (omega (arith, P .from x g)) w ∙ D .owned free .own x q g u′ (rw (A .stops x g a b) at v) w
-          ]
-        ];
-      };
+      ids = λ r g. rw (ids-kept r (omega arith)) (P .held .ids r g);
+      places = M .places;
+      few = M .few;
+      named = M .named;
+      linked = linked-same m p links (M .places) (M .named) ws ws₁ links-kept (M .linked);
+      into = rw l (D .room .into);
+      past = omega (arith, P .halves .past′);
+      before = D .room .past′;
+      apart = λ x g a b. ⊎-elim (λ (w : h + p ≤ o). inl (omega (arith, others-below x g a b, D .upto))) (λ (w : o + p ≤ h). inr (rw (A .starts x g a b) (omega (arith, P .from x g)))) (P .halves .apart);
+      upto = λ x g a b. omega (arith, others-below x g a b, D .upto, D .room .past);
+    }
+
+    pub searched-here : Owners m n i ws → old ≡ i → Searched m i n old p o links ws₁
+    unfolding reached-here
+    searched-here O d = record {
+      reached = reached-here;
+      bearers = bearers-same m ws ws₁ (λ y g. ids-kept y (omega arith)) (λ y g. ids-kept (6 * m + y) (omega arith)) (P .bearers);
+      borne = rw d (O .second, ids-kept i (omega (arith, O .second)) ∙ O .own′, O .some′);
+      tells = λ x g a b z t.
+          let u : has (listAt ws m (7 * m) x) i ≡ true = rw (← d) (ap (λ (y : List ℕ). has y old) (sym (list-kept m p h n k i j top ws target-here Q (omega (arith, P .halves .past)) (D .from) (P .room) others-wait ws₁ old new e l A x g a b)) ∙ t) in
+          let v = M .listed x i g (O .second) (λ w. z (ids-kept x (omega arith) ∙ w)) (O .some′) (O .own′) u in
+          let s = other-half (v .place) (omega (arith, v .inside, M .few)) in
+          record {
+            place = v .place;
+            inside = v .inside;
+            names = v .names;
+            is = ids-kept (M .named (v .place)) (omega (arith, v .names)) ∙ v .is ∙ sym d;
+            beside = rw s (v .beside);
+            bears = rw s (ids-kept (getD ws (o + v .place) 0) (omega (arith, v .beside)) ∙ v .bears);
+          };
     }
 
     module _ (ws₂ : List ℕ) (l₂ : length ws₂ ≡ length ws₁) (W : Swept m i n old new ws₁ ws₂) where
@@ -364,14 +449,14 @@ module _ (m p h o top n k i j : ℕ) (ws : List ℕ) (P : Pool m p h o ws) (D : 
             W .kept y (record { table = inr (omega (arith, target-here .past)); lists = λ x g a b. inr (omega (arith, others-below x g a b)) }));
       }
 
-      relisted-renamed : Relisted m p n k i j old new h o ws ws₂
-      relisted-renamed =
+      pub relisted-here : Relisted m p n k i j old new h o links ws ws₂
+      relisted-here =
           settled-relisted m p h n k i j top ws target-here Q (omega (arith, P .halves .past)) (D .from) (P .room)
-          (λ x g _ _. (omega (arith, P .from x g, P .halves .past), inl (D .below free x g))) ws₁ old new e l A ws₂ h top l₂ settled-here (omega arith) (D .upto) (λ y g.
+          others-wait ws₁ old new e l A ws₂ h top l₂ settled-here (omega arith) (D .upto) (λ y g.
           W .kept y (record {
             table = g .0;
             lists = λ x q a b. ⊎-elim (λ (w : y < h). inl (rw (A .starts x q a b) (omega (arith, P .from x q)))) (λ (w : h + p ≤ y). inr (omega (arith, others-below x q a b, D .upto))) (g .1);
-          })) o
+          })) o links
 
       below-here : (x : ℕ) → x < m → endOf ws₂ m (7 * m) x ≤ e
       below-here x g = omega (
@@ -380,35 +465,29 @@ module _ (m p h o top n k i j : ℕ) (ws : List ℕ) (P : Pool m p h o ws) (D : 
         by-three m n k i j top (h + p) ws target-here Q ws₁ old new e l A (λ a b. b ≤ e) x g (λ _ _. omega (arith, D .below free x g, A .order)) (omega arith) (omega arith),
       )
 
-      pub own-here : o + (e - h) ≤ length ws₂
-      own-here = omega (arith, e-fits, P .halves .into′)
+      -- nothing past the halves is in a list
+      free-past : (y : ℕ) → h + p ≤ y → Free m i n y ws₁
+      free-past y g = record { table = inr (omega (arith, P .halves .past)); lists = λ x q a b. inr (omega (arith, others-below x q a b, D .upto)) }
 
-      module _ (ws₃ : List ℕ) (l₃ : length ws₃ ≡ length ws₂) (M : OwnedPart h o top e n ws₂ ws₃) where
-        frame-here : Frame o (o + p) ws₂ ws₃
-        frame-here = frame-wider o (o + p) (M .kept) (omega arith) (omega (arith, e-fits))
+      free-beside : (q : ℕ) → q < p → Free m i n (o + q) ws₁
+      free-beside q u = record {
+        table = inr (omega (arith, P .halves .past′));
+        lists = λ x g a b. ⊎-elim (λ (w : h + p ≤ o). inr (omega (arith, others-below x g a b, D .upto))) (λ (w : o + p ≤ h). inl (rw (A .starts x g a b) (omega (arith, P .from x g)))) (P .halves .apart);
+      }
 
-        pub relisted-here : Relisted m p n k i j old new h o ws ws₃
-        relisted-here = relisted-still m p n k i j old new h o ws ws₂ ws₃ (P .halves) (l₂ ∙ l) l₃ relisted-renamed frame-here (Q .first) (Q .second)
+      module _ (O : Owners m n i ws) (eo : old ≡ i) (en : new ≡ n) where
+        mentions-₂ : Mentions m p o links (swapOne old new) ws₂
+        mentions-₂ = rw (eo, en) (
+            mentions-here m p n k i j h o links ws ws₂ O (rw (eo, en) at relisted-here)
+            (λ y g. relisted-low m p n k i j old new h o links ws ws₂ (P .halves) (D .room) (l₂ ∙ l) relisted-here y (inl (omega arith)) (omega arith))
+            (λ q g. W .kept (o + q) (free-beside q g) ∙ other-half q g) (λ y g. W .kept y (free-past y (omega (arith, D .room .past))) ∙ links-kept y g) M)
 
-        -- before top as it was, and n from there on
-        owned-here : Owned m h o e ws₃
-        owned-here = record {
-          own = λ x q g u v _.
-              let u₂ : startOf ws₁ m (7 * m) x ≤ q = rw (past-start m o (o + p) ws₂ ws₃ frame-here (omega (arith, P .halves .past′)) x g, W .starts x g) at u in
-              let v₂ : q < endOf ws₂ m (7 * m) x = rw (past-end m o (o + p) ws₂ ws₃ frame-here (omega (arith, P .halves .past′)) x g) at v in
-              elim (ℕ-discrete x i) [
-                | yes a ↦ absurd (omega (arith, rw (a, A .bare) at u₂, below-here x g))
-                | no a ↦ elim (ℕ-discrete x n) [
-                  | yes b ↦ rw b (M .each q (rw (b, A .first) at u₂) (omega (arith, below-here x g)))
-                  | no b ↦
-                      let w : q < top = omega (arith, W .done x g a b .upto, others-below x g a b) in
-                      let f : h ≤ q = omega (arith, A .starts x g a b, P .from x g) in
-                      getD-before (o + (q - h)) (M .kept) (omega arith) ∙ W .kept (o + (q - h)) (beside-free m i n h o top ws₁ searched-here q f w) ∙ searched-here .owned .own x q g u₂ (omega (arith, W .done x g a b .upto)) w
-                ]
-              ];
+        pub laid-here : Laid m p h o e links (swapOne old new) ws₂
+        laid-here = record {
+          room = links-still m p n k i j old new h o links ws ws₂ (P .halves) (D .room) (l₂ ∙ l) relisted-here;
+          from = omega (arith, D .from, A .order);
+          upto = e-fits;
+          below = λ _. below-here;
+          apart = λ _. swept-apart m i n old new ws₁ ws₂ rows-here W;
+          mentions = λ _. mentions-₂;
         }
-
-        pub laid-here : Laid m p h o e ws₃
-        laid-here =
-            laid-still m p n k i j old new h o ws ws₂ ws₃ (P .halves) (l₂ ∙ l) l₃ relisted-renamed frame-here e (omega (arith, D .from, A .order)) e-fits below-here
-            (swept-apart m i n old new ws₁ ws₂ rows-here W) owned-here

@@ -2,5 +2,8 @@ pub mod Lists
 pub mod Part
 pub mod Fixed
 pub mod Alike
+pub mod Bearers
+pub mod Links
 pub mod Pool
+pub mod Sweep
 pub mod Forms

@@ -1,8 +1,9 @@
 -- The pool of neighbour lists: two halves of p numbers, at h and at o, with the lists in the half at h. A merge writes the joined list past all lists and
 -- renames the others where they are; where the half has no room for that, it writes all lists anew into the half at o, one after the other.
--- So the half at o is free between merges: beside each place of a list, as far from o as the place is from h, stands the record whose list it is.
+-- So the half at o is free between merges: beside each place of a list that was carried, as far from o as the place was from h, stands the record whose list it
+-- was, and the places are linked (Links.antt): a merge renames in the lists that name the absorbed record, and looks at no other.
 -- All lists together fit a half, since a merge never lengthens their sum.
-use Prim.Native.Nat.{ℕ, _+_, _-_, _*_, _≤_, _<_}
+use Prim.Native.Nat.{ℕ, _+_, _-_, _≤_, _<_}
 use mathlib.Core.Path.{_≡_}
 use mathlib.Core.Logic.{_⊎_}
 use mathlib.Core.Bool.{not}
@@ -16,6 +17,8 @@ use Rattle.space.specs.Space.{Frame}
 use Rattle.table.specs.Map.{border, wideEnd, spareAt, listsAt, floorPartsAt, cutsAt, poolAt}
 use Rattle.table.specs.View.{part, Parts, listStart, listEnd, listIn, floorsStart, RecordsIn}
 use Rattle.pool.specs.Part.{CopyRoom, renamedList}
+use Rattle.pool.specs.Bearers.{Bearers}
+use Rattle.pool.specs.Links.{LinksPast, Mentions}
 
 -- f with 0 at i
 unfoldable pub without : (ℕ → ℕ) → ℕ → ℕ → ℕ
@@ -54,7 +57,11 @@ pub record Pool (m p h o : ℕ) (ws : List ℕ) : Type 0 where
   pub floors : (r : ℕ) → r < m → (h + p ≤ floorsStart ws m r) × (o + p ≤ floorsStart ws m r)
   pub room : sumTo (lenAt ws m) m ≤ p
   pub spans : sumTo (countAt ws m) m < 65536
-  pub blank : (x : ℕ) → x < 2 * m → getD ws (spareAt m + x) 0 ≡ 0
+  -- the records that bear one id, and a record that lists something bears its own number
+  pub bearers : Bearers m ws
+  pub owns : (x : ℕ) → x < m → (getD ws x 0 ≡ 0 → ⊥) → (lenAt ws m x ≡ 0 → ⊥) → getD ws x 0 ≡ x
+  -- the other column to spare
+  pub blank : (x : ℕ) → x < m → getD ws (spareAt m + x) 0 ≡ 0
 
 -- one of the lists of x and y ends before the other starts
 abbrev pub Beside : List ℕ → ℕ → ℕ → ℕ → Type 0
@@ -68,13 +75,15 @@ pub record Apart (m : ℕ) (ws : List ℕ) : Type 0 where
 pub record Owned (m h o top : ℕ) (ws : List ℕ) : Type 0 where
   pub own : (x q : ℕ) → x < m → listStart ws m x ≤ q → q < listEnd ws m x → q < top → getD ws (o + (q - h)) 0 ≡ x
 
--- no list in the half at h goes past top, the lists lie apart, and their records stand beside them; with top at the half's end nothing is known of them
-pub record Laid (m p h o top : ℕ) (ws : List ℕ) : Type 0 where
+-- no list in the half at h goes past top, the lists lie apart, and linked places mention what they list; with top at the half's end nothing is known of them.
+-- f says what an id is by now: after the lists are renamed, the ids still are to be
+pub record Laid (m p h o top links : ℕ) (f : ℕ → ℕ) (ws : List ℕ) : Type 0 where
+  pub room : LinksPast m p h o links ws
   pub from : h ≤ top
   pub upto : top ≤ h + p
   pub below : top < h + p → (x : ℕ) → x < m → listEnd ws m x ≤ top
   pub apart : top < h + p → Apart m ws
-  pub owned : top < h + p → Owned m h o top ws
+  pub mentions : top < h + p → Mentions m p o links f ws
 
 -- neither in the table of lists nor from a up to limit
 abbrev pub Outside : ℕ → ℕ → ℕ → ℕ → Type 0
@@ -151,27 +160,11 @@ pub record Passed (m x i n old new : ℕ) (ws ws′ : List ℕ) : Type 0 where
   pub skipped : (x ≡ i) ⊎ (x ≡ n) → ws′ ≡ ws
   pub renamed : (x ≡ i → ⊥) → (x ≡ n → ⊥) → Renamed m x old new ws ws′
 
--- the record at s, if it is one
-pub record Met (m s i n old new : ℕ) (ws ws′ : List ℕ) : Type 0 where
-  pub nobody : m ≤ getD ws s 0 → ws′ ≡ ws
-  pub passed : getD ws s 0 < m → Passed m (getD ws s 0) i n old new ws ws′
-
 -- lists that can be renamed where they are
 pub record Rows (m : ℕ) (ws : List ℕ) : Type 0 where
   pub lists : Parts m (listsAt m) ws
   pub far : (r : ℕ) → r < m → floorPartsAt m ≤ listStart ws m r
   pub apart : Apart m ws
-
--- what a search through h .. top needs: the lists of all records but i and n are there, with their records beside them
-pub record Searched (m i n h o top : ℕ) (ws : List ℕ) : Type 0 where
-  pub rows : Rows m ws
-  pub p : ℕ
-  pub halves : Halves m p h o ws
-  pub order : h ≤ top
-  pub half : top ≤ h + p
-  pub from : (x : ℕ) → x < m → (x ≡ i → ⊥) → (x ≡ n → ⊥) → h ≤ listStart ws m x
-  pub upto : (x : ℕ) → x < m → (x ≡ i → ⊥) → (x ≡ n → ⊥) → listEnd ws m x ≤ top
-  pub owned : Owned m h o top ws
 
 -- neither in the table of lists nor in the list of a record other than i and n
 pub record Free (m i n j : ℕ) (ws : List ℕ) : Type 0 where
@@ -238,7 +231,7 @@ abbrev pub Sides : ℕ → ℕ → ℕ → ℕ → Type 0
 Sides h o b c = ((b ≡ h) × (c ≡ o)) ⊎ ((b ≡ o) × (c ≡ h))
 
 -- all lists stand in the half at b; the one at c is free
-pub record Relisted (m p n k i j old new b c : ℕ) (ws ws′ : List ℕ) : Type 0 where
+pub record Relisted (m p n k i j old new b c links : ℕ) (ws ws′ : List ℕ) : Type 0 where
   pub joined : listIn ws′ m n ≡ joinedList (listIn ws m n) (listIn ws m i) k j old new
   pub bare : listIn ws′ m i ≡ []
   pub others : (x : ℕ) → x < m → (x ≡ i → ⊥) → (x ≡ n → ⊥) → listIn ws′ m x ≡ newList old new (getD ws x 0) (listIn ws m x)
@@ -246,7 +239,7 @@ pub record Relisted (m p n k i j old new b c : ℕ) (ws ws′ : List ℕ) : Type
   pub from : (x : ℕ) → x < m → b ≤ listStart ws′ m x
   pub upto : (x : ℕ) → x < m → listEnd ws′ m x ≤ b + p
   pub room : sumTo (lenAt ws′ m) m ≤ p
-  pub kept : (y : ℕ) → Outside m b (b + p) y → (y < c) ⊎ (c + p ≤ y) → getD ws′ y 0 ≡ getD ws y 0
+  pub kept : (y : ℕ) → Outside m b (b + p) y → (y < c) ⊎ (c + p ≤ y) → y < links → getD ws′ y 0 ≡ getD ws y 0
 
 -- record i is live and lists the live record n first at j, and n lists i first at k; i's id is not n
 pub record Listed (m n k i j : ℕ) (ws : List ℕ) : Type 0 where

@@ -2,7 +2,7 @@
 use crate::Half;
 use crate::Pair;
 use crate::Renaming;
-use crate::lists::swap;
+use crate::bearers::hand_over;
 use crate::relist::relist;
 use table::map::CUTS;
 ghost use mathlib.Core.Path.{_≡_};
@@ -51,7 +51,7 @@ pub fn merge_regions(ws: &mut [u16], m: usize, pair: Pair, half: Half) -> Half
     let new = n as u16;
     let there = relist(ws, m, pair, Renaming { old, new }, half);
     recount(ws, m, n, i);
-    swap(&mut ws[0..m], old, new);
+    hand_over(ws, m, n, i);
     carry_mark(ws, m, n, i);
     there
 }

@@ -42,7 +42,7 @@ use Rattle.records.specs.declared.grow.Plan.{Plan}
 use Rattle.records.proofs.CellLaws.{any-twins}
 use Rattle.records.proofs.JoinLaws.{others-from}
 use Rattle.records.proofs.CountLaws.{many-passes, many-none, mine-not}
-use Rattle.records.proofs.RowLaws.{pool-fits, list-parts, floor-parts, step-then}
+use Rattle.records.proofs.RowLaws.{pool-fits, floors-inside, list-parts, floor-parts, step-then}
 use Rattle.records.proofs.KnownLaws.{known-run, known-made, known-few, known-alike}
 use Rattle.records.proofs.NameLaws.{own-name, lists-under, floors-below}
 
@@ -445,6 +445,7 @@ module _ (F : Field) (ids : List ℕ) (table next : ℕ) (ws₀ p ws : List ℕ)
         from = λ r l. K .rows r l .from;
         till = λ r l. omega (arith, K .rows r l .till, pool-fits ids (next + 1) top k ws K);
         floors = λ r l. K .rows r l .floors;
+        floored = λ r l. omega (arith, K .rows r l .till′, floors-inside ids (next + 1) top k ws K r l);
         blank = λ j l d. K .blank j (omega (arith, pool-fits ids (next + 1) top k ws K)) d;
         spare = K .spare;
         size = R .size ∙ N .size;

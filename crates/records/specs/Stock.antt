@@ -13,7 +13,7 @@ use Rattle.field.specs.Lent.{Sound}
 use Rattle.net.specs.Table.{netAt, lastPlace}
 use Rattle.contour.specs.Ways.{Ways}
 use Rattle.table.specs.Map.{border, spareAt, poolAt, halfOf, floorsFrom, recordsEnd}
-use Rattle.table.specs.View.{recsOf, listStart, listEnd, floorsStart, RecordsIn}
+use Rattle.table.specs.View.{recsOf, listStart, listEnd, floorsStart, floorsEnd, RecordsIn}
 use Rattle.records.specs.Rows.{floorsAt}
 use Rattle.records.specs.declared.grow.Plan.{Plan}
 
@@ -47,6 +47,7 @@ pub record Built (F : Field) (ids : List ℕ) (next : ℕ) (ws₀ ws : List ℕ)
   pub from : (r : ℕ) → r < next + 1 → poolAt (next + 1) ≤ listStart ws (next + 1) r
   pub till : (r : ℕ) → r < next + 1 → listEnd ws (next + 1) r ≤ poolAt (next + 1) + halfOf (length ids)
   pub floors : (r : ℕ) → r < next + 1 → floorsStart ws (next + 1) r ≡ floorsAt ids (next + 1) r
+  pub floored : (r : ℕ) → r < next + 1 → floorsEnd ws (next + 1) r ≤ recordsEnd (next + 1) (length ids)
   pub blank : (j : ℕ) → poolAt (next + 1) + halfOf (length ids) ≤ j → j < floorsFrom (next + 1) (length ids) → getD ws j 0 ≡ 0
   pub spare : (x : ℕ) → x < 2 * (next + 1) → getD ws (spareAt (next + 1) + x) 0 ≡ 0
   pub size : length ws ≡ length ws₀

@@ -11,6 +11,7 @@ use crate::walk::walk_cells;
 use checker::Refusal;
 use checker::Verdict;
 use checker::check;
+use region::RegionId;
 ghost use mathlib.Core.Path.{_≡_};
 ghost use Prim.Native.Nat.{_≤_};
 ghost use lib.ListN.{length};
@@ -31,9 +32,6 @@ pub enum RoomAnswer {
 // The most sixty-fourths of a metre that a cell's side has.
 const GREATEST_SCALE: u16 = 256;
 
-// The bit of a painted border's ids.
-const FLAG: u16 = 0x8000;
-
 // Refusal 9.
 fn wrong_scale(k: u16) -> bool
     ensures { λ r. ⌜ r ≡ wrongScale k ⌝ }
@@ -48,7 +46,7 @@ fn wrong_scale(k: u16) -> bool
 fn too_great(max_region: u16, r: u16) -> bool
     ensures { λ b. ⌜ b ≡ tooGreat «max_region» r ⌝ }
 {
-    if FLAG <= r {
+    if RegionId::BORDER_REGION.0 <= r {
         return false;
     }
     max_region < r
@@ -94,7 +92,7 @@ fn is_shown(max_region: u16, id: u16) -> bool
     if max_region < id {
         return false;
     }
-    if FLAG <= id {
+    if RegionId::BORDER_REGION.0 <= id {
         return false;
     }
     true

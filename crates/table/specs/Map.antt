@@ -27,6 +27,10 @@ visitsAt m = 4 * m
 abbrev pub spareAt : ℕ → ℕ
 spareAt m = 5 * m
 
+-- the second of them, while records merge: the next record that bears the same id
+abbrev pub nextsAt : ℕ → ℕ
+nextsAt m = 6 * m
+
 -- the table of the lists' parts
 abbrev pub listsAt : ℕ → ℕ
 listsAt m = 7 * m
@@ -57,3 +61,7 @@ floorRoom = 62
 
 abbrev pub recordsEnd : ℕ → ℕ → ℕ
 recordsEnd m n = poolAt m + 70 * n
+
+-- past the records, the links of the lists' places: where they end
+abbrev pub linksPast : ℕ → ℕ → ℕ
+linksPast m n = recordsEnd m n + 2 * halfOf n + 2 * m

@@ -20,7 +20,7 @@ pub fn at(l: &[u16], i: usize) -> usize
 }
 
 // A number in two halves, low at a, high m further on.
-fn wide(ws: &[u16], m: usize, a: usize) -> usize
+pub fn wide(ws: &[u16], m: usize, a: usize) -> usize
     requires { ⌜ a + m < length (now ws) ⌝ }
     ensures { λ r. ⌜ (r ≡ wide (now (ws .entry)) m a) × (r < wideEnd) ⌝ }
 {
@@ -54,7 +54,7 @@ pub fn list_of(ws: &[u16], m: usize, s: usize, r: usize) -> &[u16]
 }
 
 // A number in two halves is stored.
-fn set_wide(ws: &mut [u16], m: usize, a: usize, v: usize)
+pub fn set_wide(ws: &mut [u16], m: usize, a: usize, v: usize)
     requires { ⌜ (a + m < length (now ws)) × (v < wideEnd) ⌝ }
     ensures { λ _. ⌜ now (ws .exit) ≡ set (set (now (ws .entry)) a (v % 65536)) (a + m) (v / 65536) ⌝ }
 {

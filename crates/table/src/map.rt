@@ -8,6 +8,9 @@ pub const VISITED: usize = 4;
 // Two columns to spare, zeros between the stages that use them.
 pub const SPARE: usize = 5;
 
+// The second of them, while records merge: the next record that bears the same id.
+pub const NEXTS: usize = 6;
+
 // The tables of the lists' parts, and of the floors' parts.
 pub const LISTS: usize = 7;
 
@@ -24,3 +27,6 @@ pub const HALF: usize = 4;
 
 // What the floors take, which lie after its two halves: numbers a span.
 pub const FLOOR_ROOM: usize = 62;
+
+// What pool and floors take: numbers a span.
+pub const RECORD_ROOM: usize = 2 * HALF + FLOOR_ROOM;

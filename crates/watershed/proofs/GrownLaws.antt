@@ -1,5 +1,5 @@
 -- From growth to the reason: the records are built in the part before `end`, and the merges noted past it; what filter, merge and numbering tell is the rule's.
--- The part holds the records and the table, whatever the next id is. Assumes nothing.
+-- The part holds the records, the links and the table, whatever the next id is. Assumes nothing.
 use Prim.Native.Nat.{ℕ, zero, suc, _+_, _-_, _*_, _≤_, _<_}
 use native.Mathlib.Omega.{arith}
 use mathlib.Core.Path.{_≡_, refl, sym, ap, _∙_}
@@ -25,7 +25,7 @@ use Rattle.space.specs.Space.{Clear}
 use Rattle.space.proofs.Laws.{sec-take}
 use Rattle.net.specs.Table.{netAt}
 use Rattle.growth.specs.Grow.{growthRoom}
-use Rattle.table.specs.Map.{recordsEnd, floorsFrom}
+use Rattle.table.specs.Map.{recordsEnd, linksPast, floorsFrom}
 use Rattle.records.specs.Stock.{Given, Blank, Built}
 use Rattle.merge.specs.Ready.{Ready}
 use Rattle.merge.specs.Told.{mergingsAt, ToldRegions}
@@ -106,13 +106,17 @@ module _ (w h : ℕ) (is ks ar cs dist : List ℕ) (most border table s next : �
   can-ready-part = can-ready w h is ks ar cs dist ws ids admits table (G .placed) bytes most border next 0 ids ws rises refl refl
 
   -- made ready
-  module _ (end : ℕ) (e : end ≡ table + 4 * length ar) (ws₁ : List ℕ) (n₁ : length ws₁ ≡ length ws) (r₁ : Readied (next + 1) (length ar) ws ws₁) where
+  module _ (end : ℕ) (e : end ≡ linksPast (length ar + 6) (length ar)) (ws₁ : List ℕ) (n₁ : length ws₁ ≡ length ws) (r₁ : Readied (next + 1) (length ar) ws ws₁) where
     -- the merges are noted past the part
     pub past-room : end + 2 * (next + 1) ≤ length ws₁
     past-room = omega (arith, few-records, sized, n₁, admits .room, G .placed, short)
 
     part : length (take end ws₁) ≡ end
     part = part-length end ws₁ (omega (arith, past-room))
+
+    -- the table is in the part
+    table-inside : table + 4 * length ar ≤ end
+    table-inside = omega (arith, e, G .placed)
 
     pub part-given : Given F ids table (take end ws₁)
     unfolding netAt
@@ -121,8 +125,8 @@ module _ (w h : ℕ) (is ks ar cs dist : List ℕ) (most border table s next : �
         record {
           sound = g .sound;
           idents = g .idents;
-          net = ap (λ (l : List ℕ). record { neighbours = l; areas = ar }) (sec-take table (4 * length ar) end ws₁ (omega arith)) ∙ g .net;
-          room = omega (arith, part);
+          net = ap (λ (l : List ℕ). record { neighbours = l; areas = ar }) (sec-take table (4 * length ar) end ws₁ table-inside) ∙ g .net;
+          room = omega (arith, part, table-inside);
           place = g .place;
         }
 
@@ -132,9 +136,9 @@ module _ (w h : ℕ) (is ks ar cs dist : List ℕ) (most border table s next : �
         record {
           few = b .few;
           spans = b .spans;
-          room = omega (arith, part, part-fits);
+          room = omega (arith, part, part-fits, table-inside);
           below = b .below;
-          zeros = λ j l. getD-take end ws₁ j 0 (omega (arith, part-fits)) ∙ b .zeros j l;
+          zeros = λ j l. getD-take end ws₁ j 0 (omega (arith, part-fits, table-inside)) ∙ b .zeros j l;
         }
 
     -- after the records
@@ -143,7 +147,7 @@ module _ (w h : ℕ) (is ks ar cs dist : List ℕ) (most border table s next : �
       part-ready =
           rw (← sized)
           (handed F ids table next (take end ws₁) (take end ws₃) part-given B few-records (omega (arith, sized, short))
-          (omega (arith, part-fits, part-length end ws₃ (omega (arith, n₃, past-room))))
+          (omega (arith, few-records, sized, part-length end ws₃ (omega (arith, n₃, past-room))))
           (named w h is ks ar cs dist ws ids admits table (G .placed) bytes most border next 0 ids ws rises refl refl))
 
       -- after filter, merge and numbering

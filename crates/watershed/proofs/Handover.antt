@@ -13,6 +13,7 @@ use Rattle.rules.specs.Refusals.{mostSpans}
 use Rattle.laws.specs.Sums.{sumTo}
 use Rattle.laws.proofs.Sums.{sum-same}
 use Rattle.rooms.proofs.Joins.{plain-true}
+use Rattle.table.specs.Map.{linksPast}
 use Rattle.table.specs.View.{recAt}
 use Rattle.table.proofs.ViewLaws.{list-length, recs-at}
 use Rattle.records.specs.Rows.{floorsAt}
@@ -52,7 +53,7 @@ module _ (F : Field) (ids : List ℕ) (table next : ℕ) (ws₀ ws : List ℕ) (
       omega (arith, lists-fit F (g .sound) ids size next)
 
   -- the records' stage hands over to the merge
-  pub handed : next + 1 ≤ length ids + 6 → length ids ≤ mostSpans → 16 * (next + 1) + 70 * length ids ≤ length ws → Spans (next + 1) ids → Ready (next + 1) (length ids) ws ids
+  pub handed : next + 1 ≤ length ids + 6 → length ids ≤ mostSpans → linksPast (next + 1) (length ids) ≤ length ws → Spans (next + 1) ids → Ready (next + 1) (length ids) ws ids
   unfolding floorsAt
   handed few short room S =
       let below : (x : ℕ) → plain (getD ids x 0) ≡ true → getD ids x 0 < next + 1 = λ x e. S .below x (plain-true _ e .1) in
@@ -64,6 +65,7 @@ module _ (F : Field) (ids : List ℕ) (table next : ℕ) (ws₀ ws : List ℕ) (
         from = B .from;
         upto = B .till;
         floors = λ r h. omega (arith, B .floors r h);
+        floored = B .floored;
         lists = lists;
         counts = counts;
         blank = B .spare;

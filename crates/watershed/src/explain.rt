@@ -13,6 +13,7 @@ use flood::story::Story;
 use growth::turns::GOES_ON;
 use merge::merge_and_filter_told;
 use records::build::build_records;
+use records::map::links_past;
 use records::map::records_end;
 use region::RegionId;
 use space::clear;
@@ -234,7 +235,8 @@ fn explain_region(
         ≡ explains (length (now (area .entry))) (reasonOf F (now (dist .entry)) «max_distance» z span) (storyOf story) 0) ⌝ }
 {
     let n = area.len();
-    let end = table + 4 * n;
+    // The part before `end` is all that the records and their links can take. The table of neighbours lies in it too: the links come when it has been read.
+    let end = links_past(n + MORE_RECORDS, n);
     let r = ids[span];
     ready_records(ws, next + 1, n);
     build_in(w, h, index, count, area, con, ids, ws, end, table, next);

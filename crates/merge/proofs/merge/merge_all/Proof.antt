@@ -5,28 +5,22 @@ use lib.ListN.{length}
 use Rattle.table.specs.View.{recsOf}
 use Rattle.pool.specs.Forms.{PoolIn, LaidIn}
 use Rattle.pool.proofs.MergeLaws.{owners}
-use Rattle.merge.proofs.TurnLaws.{Rounds, laid-start, rounds-start, rounds-go, rounds-falls, rounds-done, rounds-joined, pool-calm}
+use Rattle.merge.proofs.TurnLaws.{Rounds, half-pool, half-laid, rounds-start, rounds-go, rounds-falls, rounds-done, rounds-joined, pool-rest}
 use borrow.Author.Needs.{needs}
 use Rattle.merge.proofs.merge.merge_all.Statement.{statement}
 use Rattle.merge.proofs.merge.merge_all.Tie as tie
 
 abbrev Inv-loop : tie.InvT-loop
-Inv-loop ws₀ m n area first size second half₀ ws half = (length ws ≡ length ws₀) × PoolIn m half ws × Rounds area m ws₀ ws × LaidIn m half ws
+Inv-loop ws₀ m n area half₀ ws half = (length ws ≡ length ws₀) × PoolIn m half ws × Rounds area m ws₀ ws × LaidIn m half ws
 
 abbrev μ-loop : tie.MeasureT-loop
-μ-loop ws₀ m n area first size second half₀ ws half = owners m (recsOf ws m)
+μ-loop ws₀ m n area half₀ ws half = owners m (recsOf ws m)
 
-mul-first : tie.Need-mul-first Inv-loop μ-loop
-mul-first c = search needs
-
-mul-size : tie.Need-mul-size Inv-loop μ-loop
-mul-size c = search needs
-
-add-second : tie.Need-add-second Inv-loop μ-loop
-add-second c = search needs
+first-half-requires : tie.Need-first-half-requires Inv-loop μ-loop
+first-half-requires c κs = search needs
 
 loop-holds : tie.Need-loop-holds Inv-loop μ-loop
-loop-holds c = (search needs, search needs, search rounds-start, search laid-start)
+loop-holds c = (search needs, search half-pool, search rounds-start, search half-laid)
 
 merge-round-requires : tie.Need-merge-round-requires Inv-loop μ-loop
 merge-round-requires c κs = (search needs, search needs, search rounds-joined)
@@ -35,7 +29,7 @@ same-length : tie.Need-same-length Inv-loop μ-loop
 same-length c = search needs
 
 returns : tie.Need-returns Inv-loop μ-loop
-returns c = (search rounds-done, search pool-calm)
+returns c = (search rounds-done, search pool-rest)
 
 loop-less : tie.Need-loop-less Inv-loop μ-loop
 loop-less c = search rounds-falls
@@ -49,9 +43,7 @@ merge-all-spec =
     (tie.spec
     Inv-loop
     μ-loop
-    mul-first
-    mul-size
-    add-second
+    first-half-requires
     loop-holds
     merge-round-requires
     same-length

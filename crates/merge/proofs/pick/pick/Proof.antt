@@ -37,7 +37,7 @@ shared-slice-read-pick-one : tie.Need-shared-slice-read-pick-one Inv-loop μ-loo
 shared-slice-read-pick-one c = search needs
 
 pick-one-requires : tie.Need-pick-one-requires Inv-loop μ-loop
-pick-one-requires c κs = ((search needs, search needs), (search pick-listed, search needs))
+pick-one-requires c κs = (search needs, (search pick-listed, search needs))
 
 add-k : tie.Need-add-k Inv-loop μ-loop
 add-k c = search needs

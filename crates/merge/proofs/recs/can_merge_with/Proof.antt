@@ -1,5 +1,5 @@
 -- `merge::recs::can_merge_with` meets its contract. Straight line: the rule's three tests, in its order.
-use Rattle.merge.proofs.SuitLaws.{suits-area, suits-many, suits-floor, suits-yes}
+use Rattle.merge.proofs.SuitLaws.{live-borne, suits-area, suits-many, suits-floor, suits-yes}
 use borrow.Author.Needs.{needs}
 use Rattle.merge.proofs.recs.can_merge_with.Statement.{statement}
 use Rattle.merge.proofs.recs.can_merge_with.Tie as tie
@@ -62,7 +62,7 @@ shared-slice-read-floor-in-2 : tie.Need-shared-slice-read-floor-in-2
 shared-slice-read-floor-in-2 c = search needs
 
 floor-in-requires : tie.Need-floor-in-requires
-floor-in-requires c κs = search needs
+floor-in-requires c κs = (search needs, search needs, search live-borne)
 
 returns-3 : tie.Need-returns-3
 returns-3 c = search suits-floor

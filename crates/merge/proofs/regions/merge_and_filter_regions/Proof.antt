@@ -1,6 +1,6 @@
--- `merge::regions::merge_and_filter_regions` meets its contract. Three stages in a row. The filter leaves the pool in order (`filtered-pool`), the merge the spare columns (`Calm`),
+-- `merge::regions::merge_and_filter_regions` meets its contract. Three stages in a row. The filter leaves the pool in order (`filtered-pool`), the merge the numbering's column (`AtRest`),
 -- and the merge with floors that stay gives the rule's numbers (`numbered-top`).
-use Rattle.merge.proofs.TopLaws.{filtered-pool, filtered-joined, numbered-top, calm-column, calm-blank}
+use Rattle.merge.proofs.TopLaws.{filtered-pool, filtered-laid, filtered-joined, numbered-top, rest-column, rest-blank}
 use borrow.Author.Needs.{needs}
 use native.Mathlib.Omega.{arith}
 use Rattle.merge.proofs.regions.merge_and_filter_regions.Statement.{statement}
@@ -12,6 +12,7 @@ filter-requires c κs = search needs
 merge-all-requires : tie.Need-merge-all-requires
 merge-all-requires c κs = let f = c .before .before .before .filter in (
   filtered-pool _ _ _ _ (c .before .before .before .before .before .before .before .pre) _ _ (f .ensures .0) (f .ensures .1 .0) (f .ensures .1 .1) (f .kept .0),
+  filtered-laid _ _ _ _ (c .before .before .before .before .before .before .before .pre) _ _ (f .ensures .0) (f .ensures .1 .0) (f .ensures .1 .1) (f .kept .0),
   filtered-joined _ _ _ _ (c .before .before .before .before .before .before .before .pre) _ _ (f .ensures .0) (f .ensures .1 .0) (f .ensures .1 .1) (f .kept .0),
 )
 
@@ -19,7 +20,7 @@ number-requires : tie.Need-number-requires
 number-requires c κs = let g = c .before .before .before .before in
     let f = g .before .before .before .before in
     let p = f .before .before .before .before .pre in
-    (search calm-column, search calm-blank, p .named, omega (arith, p .room, f .filter .kept .0, g .merge-all .kept .0))
+    (search rest-column, search rest-blank, p .named, omega (arith, p .room, f .filter .kept .0, g .merge-all .kept .0))
 
 same-length : tie.Need-same-length
 same-length c = search needs

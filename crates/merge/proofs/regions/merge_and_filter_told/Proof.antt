@@ -1,10 +1,10 @@
--- Three stages in a row, over the records before `end`: the filter leaves the pool in order, the merge the spare columns, and what was noted stays (ToldLaws).
+-- Three stages in a row, over the records before `end`: the filter leaves the pool in order, the merge the numbering's column, and what was noted stays (ToldLaws).
 -- Assumes nothing.
 use native.Mathlib.Omega.{arith}
 use borrow.Author.Needs.{needs}
 use mathlib.Core.Path.{refl}
-use Rattle.merge.proofs.TopLaws.{calm-column, calm-blank}
-use Rattle.merge.proofs.ToldLaws.{told-pool, told-joined, told-mid, told-regions}
+use Rattle.merge.proofs.TopLaws.{rest-column, rest-blank}
+use Rattle.merge.proofs.ToldLaws.{told-pool, told-laid, told-joined, told-mid, told-regions}
 use Rattle.merge.proofs.regions.merge_and_filter_told.Statement.{statement}
 use Rattle.merge.proofs.regions.merge_and_filter_told.Tie as tie
 
@@ -31,6 +31,7 @@ merge-all-noted-requires c κs =
     let k = f .filter-in .kept .0 in (
       omega (arith, k, s .pre .0),
       told-pool _ (s .args .merge-region-size) _ _ _ _ _ _ (s .pre .0) (s .pre .1) (s .pre .2) _ _ (f .filter-in .ensures) k,
+      told-laid _ (s .args .merge-region-size) _ _ _ _ _ _ (s .pre .0) (s .pre .1) (s .pre .2) _ _ (f .filter-in .ensures) k,
       told-joined _ (s .args .merge-region-size) _ _ _ _ _ _ (s .pre .0) (s .pre .1) (s .pre .2) _ _ (f .filter-in .ensures) k,
     )
 
@@ -40,10 +41,10 @@ number-in-requires c κs =
     let f = F (a .before) in
     let s = S f in
     let k = f .filter-in .kept .0 in
-    let n = a .merge-all-noted .ensures .calm in (
+    let n = a .merge-all-noted .ensures .rest in (
       omega (arith, k, a .merge-all-noted .kept .0, s .pre .0),
-      calm-column _ _ n,
-      calm-blank _ _ n,
+      rest-column _ _ n,
+      rest-blank _ _ n,
       s .pre .1 .named,
       told-mid _ (s .args .merge-region-size) _ _ _ _ _ _ (s .pre .0) (s .pre .1) (s .pre .2) _ _ (f .filter-in .ensures) k,
     )

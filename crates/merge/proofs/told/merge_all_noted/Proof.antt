@@ -11,10 +11,10 @@ use Rattle.merge.proofs.told.merge_all_noted.Statement.{statement}
 use Rattle.merge.proofs.told.merge_all_noted.Tie as tie
 
 abbrev Inv-loop : tie.InvT-loop
-Inv-loop ws₀ end m n area first size second half₀ count₀ ws half count = AllNoted area m end ws₀ ws half count
+Inv-loop ws₀ end m n area half₀ count₀ ws half count = AllNoted area m end ws₀ ws half count
 
 abbrev μ-loop : tie.MeasureT-loop
-μ-loop ws₀ end m n area first size second half₀ count₀ ws half count = owners m (recsOf (take end ws) m)
+μ-loop ws₀ end m n area half₀ count₀ ws half count = owners m (recsOf (take end ws) m)
 
 -- the round, and the head of the loop
 abbrev R : tie.After-struct-known Inv-loop μ-loop → tie.After-merge-round-noted Inv-loop μ-loop
@@ -23,23 +23,17 @@ R c = c .before .before .before .before
 abbrev L : tie.After-merge-round-noted Inv-loop μ-loop → tie.At-loop Inv-loop μ-loop
 L c = c .before .before
 
-mul-first : tie.Need-mul-first Inv-loop μ-loop
-mul-first c = search needs
-
-mul-size : tie.Need-mul-size Inv-loop μ-loop
-mul-size c = search needs
-
-add-second : tie.Need-add-second Inv-loop μ-loop
-add-second c = search needs
+first-half-requires : tie.Need-first-half-requires Inv-loop μ-loop
+first-half-requires c κs = search needs
 
 loop-holds : tie.Need-loop-holds Inv-loop μ-loop
-loop-holds c = let s = c .before in all-start _ _ _ _ _ (s .pre .1) (s .pre .2)
+loop-holds c = let s = c .before .before in all-start _ _ _ _ _ _ (c .first-half .ensures) (s .pre .1) (s .pre .2) (s .pre .3)
 
 merge-round-noted-requires : tie.Need-merge-round-noted-requires Inv-loop μ-loop
 merge-round-noted-requires c κs =
     let l = c .before in
     let v = l .loop .inv in
-    ((omega (arith, v .size, l .before .before .pre .0), v .pool, v .laid), (v .rounds .joined, v .few))
+    ((omega (arith, v .size, l .before .before .before .pre .0), v .pool, v .laid), (v .rounds .joined, v .few))
 
 same-length : tie.Need-same-length Inv-loop μ-loop
 same-length c = let r = R (c .before) in r .merge-round-noted .kept .0 ∙ L r .loop .inv .size
@@ -59,9 +53,7 @@ merge-all-noted-spec =
     (tie.spec
     Inv-loop
     μ-loop
-    mul-first
-    mul-size
-    add-second
+    first-half-requires
     loop-holds
     merge-round-noted-requires
     same-length

@@ -1,6 +1,6 @@
 -- `pool::regions::merge_regions` meets its contract. Lists, counts, ids, marks, in this order: `region-recs` is the rule's outcome; counts and ids lie below
 -- the table, the marks between table and pool, so `region-pool` and `region-laid` follow from how `relist` leaves the lists.
-use Rattle.pool.proofs.RegionLaws.{spans-fit, columns-in, marks-in, region-recs, region-pool, region-laid, pool-sized, laid-sized}
+use Rattle.pool.proofs.RegionLaws.{spans-fit, columns-in, owners-still, pair-owners, pair-old, marks-in, region-recs, region-pool, region-laid, pool-sized, laid-sized}
 use borrow.Author.Needs.{needs}
 use Rattle.pool.proofs.regions.merge_regions.Statement.{statement}
 use Rattle.pool.proofs.regions.merge_regions.Tie as tie
@@ -15,22 +15,18 @@ cast-new : tie.Need-cast-new
 cast-new c = search needs
 
 relist-requires : tie.Need-relist-requires
-relist-requires c κs = (search needs, search needs, search needs, search needs)
+relist-requires c κs = (search needs, search needs, search needs, search pair-owners, (search pair-old, search needs))
 
 recount-requires : tie.Need-recount-requires
 recount-requires c κs = ((search columns-in, search needs, search needs), search spans-fit)
 
-sub-swap : tie.Need-sub-swap
-sub-swap c = search needs
-
-part-swap-start : tie.Need-part-swap-start
-part-swap-start c = search needs
-
-part-swap-end : tie.Need-part-swap-end
-part-swap-end c = search needs
-
-swap-requires : tie.Need-swap-requires
-swap-requires c κs = search needs
+hand-over-requires : tie.Need-hand-over-requires
+hand-over-requires c κs =
+    let n = c .before .before .before in
+    let r = n .before .before .before .before in
+    let p = r .before .before .before .before .pre in
+    let q = r .relist .ensures in
+    owners-still _ _ _ _ _ _ _ _ _ _ (p .0) (p .2) _ _ _ _ _ (p .1 .room) (q .0 .2) (q .1 .0) (r .relist .kept .0) _ (n .recount .ensures) (n .recount .kept .0)
 
 carry-mark-requires : tie.Need-carry-mark-requires
 carry-mark-requires c κs = (search (needs, marks-in), search needs, search needs)
@@ -45,10 +41,10 @@ returns c = let k = c .before .before in
     let r = n .before .before .before .before in
     let p = r .before .before .before .before .pre in
     let q = r .relist .ensures in (
-      region-recs _ _ _ _ _ _ _ _ _ _ _ _ _ _ (p .0) (p .2) (q .0 .1) (q .1 .0) (r .relist .kept .0) (n .recount .ensures) (n .recount .kept .0) (s .swap .ensures) (s .swap .kept .0) _ (k .carry-mark .ensures),
+      region-recs _ _ _ _ _ _ _ _ _ _ _ _ _ _ _ (p .0) (p .1 .room) (p .2) (q .0 .2) (q .1 .0) (r .relist .kept .0) (n .recount .ensures) (n .recount .kept .0) (s .hand-over .ensures) (s .hand-over .kept .0) _ (k .carry-mark .ensures),
       (
-        pool-sized _ _ _ _ _ _ (q .0 .0) (region-pool _ _ _ _ _ _ _ _ _ _ _ _ _ _ (p .0) (p .2) (q .0 .1) (q .1 .0) (r .relist .kept .0) (n .recount .ensures) (n .recount .kept .0) (s .swap .ensures) (s .swap .kept .0) _ (k .carry-mark .ensures)),
-        laid-sized _ _ _ _ _ _ _ _ (q .0 .0) (region-laid _ _ _ _ _ _ _ _ _ _ _ _ _ _ (p .0) (p .2) (q .0 .1) (q .1 .0) (r .relist .kept .0) (n .recount .ensures) (n .recount .kept .0) (s .swap .ensures) (s .swap .kept .0) _ (k .carry-mark .ensures) _) (q .1 .1),
+        pool-sized _ _ _ _ _ _ (q .0 .0) (region-pool _ _ _ _ _ _ _ _ _ _ _ _ _ _ _ (p .0) (p .1 .room) (p .2) (q .0 .2) (q .1 .0) (r .relist .kept .0) (n .recount .ensures) (n .recount .kept .0) (s .hand-over .ensures) (s .hand-over .kept .0) _ (k .carry-mark .ensures)),
+        laid-sized _ _ _ _ _ _ _ _ _ _ _ _ (q .0 .0) (q .0 .1) (region-laid _ _ _ _ _ _ _ _ _ _ _ _ _ _ _ (p .0) (p .1 .room) (p .2) (q .0 .2) (q .1 .0) (r .relist .kept .0) (n .recount .ensures) (n .recount .kept .0) (s .hand-over .ensures) (s .hand-over .kept .0) _ (k .carry-mark .ensures) _) (q .1 .1),
         q .0 .0,
       ),
     )
@@ -62,10 +58,7 @@ merge-regions-spec =
     cast-new
     relist-requires
     recount-requires
-    sub-swap
-    part-swap-start
-    part-swap-end
-    swap-requires
+    hand-over-requires
     carry-mark-requires
     same-length
     returns)

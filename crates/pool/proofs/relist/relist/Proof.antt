@@ -21,13 +21,13 @@ sub-if1 : tie.Need-sub-if1
 sub-if1 c = search needs
 
 relist-here-requires : tie.Need-relist-here-requires
-relist-here-requires c κs = ((search needs, search needs, search needs, search needs), both-fit _ _ _ _ _ _ _ (c .before .before .before .before .before .before .len-of .ensures .0) (c .before .before .before .before .len-of2 .ensures .0) (c .before .if1 .taken))
+relist-here-requires c κs = ((search needs, search needs, search needs, search needs, (search needs, search needs)), both-fit _ _ _ _ _ _ _ (c .before .before .before .before .before .before .len-of .ensures .0) (c .before .before .before .before .len-of2 .ensures .0) (c .before .if1 .taken))
 
 same-length : tie.Need-same-length
 same-length c = search needs
 
 returns : tie.Need-returns
-returns c = let r = c .before .before .relist-here .ensures in ((r .0 .0, inl (r .0 .1, r .0 .2)), r .1)
+returns c = let r = c .before .before .relist-here .ensures in ((r .0 .0, r .0 .1, inl (r .0 .2, r .0 .3)), r .1)
 
 relist-there-requires : tie.Need-relist-there-requires
 relist-there-requires c κs = search needs
@@ -36,7 +36,7 @@ same-length-2 : tie.Need-same-length-2
 same-length-2 c = search needs
 
 returns-2 : tie.Need-returns-2
-returns-2 c = let r = c .before .before .relist-there .ensures in ((r .0 .0, inr (r .0 .1, r .0 .2)), r .1)
+returns-2 c = let r = c .before .before .relist-there .ensures in ((r .0 .0, r .0 .1, inr (r .0 .2, r .0 .3)), r .1)
 
 pub relist-spec : {M : Type 1} → statement M
 relist-spec =

@@ -1,97 +1,45 @@
--- `pool::rename::rename_all` meets its contract. The loop's invariant is `Sought`: renaming the lists as they are gives what it gave at first, and no place of
--- a list before q holds old. At a place that holds old the list's record stands beside it, and that list is renamed.
-use Prim.Native.Nat.{_-_, _≤_}
+-- `pool::rename::rename_all` meets its contract. The loop's invariant is `Searching`: the places of the records before y in old's row have been met. The row ends,
+-- and at 0 every list that named old was met, since linked places mention it.
 use mathlib.Core.Path.{_≡_}
 use lib.ListN.{length}
-use Rattle.pool.proofs.RenameLaws.{Sought, sought-none, sought-rows, sought-done, turn-ends, turn-below, turn-in, turn-go}
-use native.Mathlib.Omega.{arith}
+use Rattle.pool.proofs.BearerLaws.{steps}
+use Rattle.pool.proofs.SeekLaws.{Searching, search-start, search-reached, search-in, search-room, search-falls, search-next, search-done}
 use borrow.Author.Needs.{needs}
 use Rattle.pool.proofs.rename.rename_all.Statement.{statement}
 use Rattle.pool.proofs.rename.rename_all.Tie as tie
 
 abbrev Inv-loop : tie.InvT-loop
-Inv-loop ws₀ m pair half names top q₀ ws q = (half .now ≤ q) × (q ≤ half .top) × (length ws ≡ length ws₀)
-    × Sought m (pair .absorbed) (pair .absorber) q (names .old) (names .new) ws₀ ws
+Inv-loop ws₀ m pair half names y₀ ws y = (length ws ≡ length ws₀)
+    × Searching m (pair .absorbed) (pair .absorber) (names .old) (names .new) (half .size) (half .other) (half .links) ws₀ ws y
 
 abbrev μ-loop : tie.MeasureT-loop
-μ-loop ws₀ m pair half names top q₀ ws q = half .top - q
+μ-loop ws₀ m pair half names y₀ ws y = steps m ws₀ m y
+
+cast-y : tie.Need-cast-y Inv-loop μ-loop
+cast-y c = search needs
 
 loop-holds : tie.Need-loop-holds Inv-loop μ-loop
-loop-holds c = (search needs, search needs, search needs, search sought-none)
+loop-holds c = (search needs, search search-start)
 
-mul-place : tie.Need-mul-place Inv-loop μ-loop
-mul-place c = search needs
+rename-named-requires : tie.Need-rename-named-requires Inv-loop μ-loop
+rename-named-requires c κs = (search search-reached, search search-in, search needs)
 
-sub-place : tie.Need-sub-place Inv-loop μ-loop
-sub-place c = search needs
+next-of-requires : tie.Need-next-of-requires Inv-loop μ-loop
+next-of-requires c κs = (search search-room, search search-in)
 
-part-place-start : tie.Need-part-place-start Inv-loop μ-loop
-part-place-start c = search needs
+loop-less : tie.Need-loop-less Inv-loop μ-loop
+loop-less c = search search-falls
 
-part-place-end : tie.Need-part-place-end Inv-loop μ-loop
-part-place-end c = search needs
-
-place-requires : tie.Need-place-requires Inv-loop μ-loop
-place-requires c κs = search needs
-
-add-q : tie.Need-add-q Inv-loop μ-loop
-add-q c = search needs
+loop-again : tie.Need-loop-again Inv-loop μ-loop
+loop-again c = (search needs, search search-next)
 
 same-length : tie.Need-same-length Inv-loop μ-loop
 same-length c = search needs
 
 returns : tie.Need-returns Inv-loop μ-loop
-returns c = turn-ends _ _ _ _ _ _ _ _ _ _ _ _ (c .before .before .before .before .before .before .before .pre .0) (c .before .before .before .before .before .loop .inv .3) (c .before .before .before .before .before .loop .inv .2) (c .before .before .before .before .before .loop .inv .0) (c .before .before .before .before .loop-test .taken) (c .before .place .ensures .0) (c .before .place .ensures .1) (c .if1 .taken)
-
-sub-rename-at : tie.Need-sub-rename-at Inv-loop μ-loop
-sub-rename-at c = search needs
-
-add-rename-at : tie.Need-add-rename-at Inv-loop μ-loop
-add-rename-at c = search needs
-
-rename-at-requires : tie.Need-rename-at-requires Inv-loop μ-loop
-rename-at-requires c κs = (search sought-rows, search turn-in)
-
-add-q-2 : tie.Need-add-q-2 Inv-loop μ-loop
-add-q-2 c = search needs
-
-loop-less : tie.Need-loop-less Inv-loop μ-loop
-loop-less c = let t = turn-below _ _ _ _ _ _ _ _ _ _ _ _ (c .before .before .before .before .before .before .before .before .before .before .before .before .before .pre .0) (c .before .before .before .before .before .before .before .before .before .before .before .loop .inv .3) (c .before .before .before .before .before .before .before .before .before .before .before .loop .inv .2) (c .before .before .before .before .before .before .before .before .before .before .before .loop .inv .0) (c .before .before .before .before .before .before .before .before .before .before .loop-test .taken) (c .before .before .before .before .before .before .before .place .ensures .0) (c .before .before .before .before .before .before .before .place .ensures .1) (c .before .before .before .before .before .before .if1 .left) in omega (arith, t)
-
-loop-again : tie.Need-loop-again Inv-loop μ-loop
-loop-again c = (
-  search needs,
-  omega (arith, turn-below _ _ _ _ _ _ _ _ _ _ _ _ (c .before .before .before .before .before .before .before .before .before .before .before .before .before .pre .0) (c .before .before .before .before .before .before .before .before .before .before .before .loop .inv .3) (c .before .before .before .before .before .before .before .before .before .before .before .loop .inv .2) (c .before .before .before .before .before .before .before .before .before .before .before .loop .inv .0) (c .before .before .before .before .before .before .before .before .before .before .loop-test .taken) (c .before .before .before .before .before .before .before .place .ensures .0) (c .before .before .before .before .before .before .before .place .ensures .1) (c .before .before .before .before .before .before .if1 .left)),
-  search needs,
-  turn-go _ _ _ _ _ _ _ _ _ _ _ _ (c .before .before .before .before .before .before .before .before .before .before .before .before .before .pre .0) (c .before .before .before .before .before .before .before .before .before .before .before .loop .inv .3) (c .before .before .before .before .before .before .before .before .before .before .before .loop .inv .2) (c .before .before .before .before .before .before .before .before .before .before .before .loop .inv .0) (c .before .before .before .before .before .before .before .before .before .before .loop-test .taken) (c .before .before .before .before .before .before .before .place .ensures .0) (c .before .before .before .before .before .before .before .place .ensures .1) (c .before .before .before .before .before .before .if1 .left) (c .before .before .before .before .before .before .before .before .before .before .before .before .before .pre .1) _ (c .before .before .rename-at .kept .0) (c .before .before .rename-at .ensures),
-)
-
-same-length-2 : tie.Need-same-length-2 Inv-loop μ-loop
-same-length-2 c = search needs
-
-returns-2 : tie.Need-returns-2 Inv-loop μ-loop
-returns-2 c = search sought-done
+returns c = search search-done
 
 pub rename-all-spec : {M : Type 1} → statement M
 rename-all-spec =
     tie.close
-    (tie.spec
-    Inv-loop
-    μ-loop
-    loop-holds
-    mul-place
-    sub-place
-    part-place-start
-    part-place-end
-    place-requires
-    add-q
-    same-length
-    returns
-    sub-rename-at
-    add-rename-at
-    rename-at-requires
-    add-q-2
-    loop-less
-    loop-again
-    same-length-2
-    returns-2)
+    (tie.spec Inv-loop μ-loop cast-y loop-holds rename-named-requires next-of-requires loop-less loop-again same-length returns)

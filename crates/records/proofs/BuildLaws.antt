@@ -204,6 +204,10 @@ module _ (plan : Plan) (ar cs ids : List ℕ) (cell : Spans) (top : ℕ) (ws₀ 
       after = λ i g. A .after i g ∙ D .after i g;
     }
 
+    -- of any cell what is known stays known
+    pub entered-knowing : (prior : Spans) → Knowing ids (plan .records) prior ws₀ → Knowing ids (plan .records) prior ws
+    entered-knowing prior k = record { known = rw (D .same) (known-run _ ids cell prior j (recsOf ws₀ (plan .records)) (k .known)); lies = k .lies }
+
     pub entered-room : cell .from + j < mostSpans
     entered-room = omega (arith, stand-there .reach .span, stand-there .keeping .spans)
 

@@ -31,16 +31,18 @@ fn count_span(
     ws: &mut [u16],
     plan: Plan,
     cell: Spans,
+    prior: Spans,
     known: bool,
     span: SpanIx,
     top: usize,
 ) -> usize
     requires { ⌜ Standing plan (now area) (now con) (now ids) cell (span .0) top (now ws) × (plain (getD (now ids) (span .0) 0) ≡ true) ⌝ }
     requires { ⌜ (known ≡ true → Known (now ids) cell (recsOf (now ws) (plan .records))) ⌝ }
+    requires { ⌜ Knowing (now ids) (plan .records) prior (now ws) ⌝ }
     ensures { λ t. ⌜ Added plan (now (area .entry)) (now (ids .entry)) cell (span .0) (now (ws .entry)) t (now (ws .exit)) ⌝ }
 {
     let r = at(ids, span.0);
-    add_cell(ids, ws, plan.records, top, span, r, cell, known);
+    add_cell(ids, ws, plan.records, top, span, r, cell, prior, known);
     add_contour(area, con, ids, ws, plan, span, r, top)
 }
 
@@ -52,12 +54,14 @@ fn add_span(
     ws: &mut [u16],
     plan: Plan,
     cell: Spans,
+    prior: Spans,
     known: bool,
     span: SpanIx,
     top: usize,
 ) -> usize
     requires { ⌜ Standing plan (now area) (now con) (now ids) cell (span .0) top (now ws) ⌝ }
     requires { ⌜ (known ≡ true → Known (now ids) cell (recsOf (now ws) (plan .records))) ⌝ }
+    requires { ⌜ Knowing (now ids) (plan .records) prior (now ws) ⌝ }
     ensures { λ t. ⌜ Added plan (now (area .entry)) (now (ids .entry)) cell (span .0) (now (ws .entry)) t (now (ws .exit)) ⌝ }
 {
     let s = span.0;
@@ -68,10 +72,11 @@ fn add_span(
     if RegionId(r).is_border() {
         return top;
     }
-    count_span(area, con, ids, ws, plan, cell, known, span, top)
+    count_span(area, con, ids, ws, plan, cell, prior, known, span, top)
 }
 
-// All spans of a cell, layer by layer. Where it is known that their records have what they take from the cell, it is not looked for again.
+// All spans of a cell, layer by layer. Where it is known that their records have what they take from the cell, it is not looked for again;
+// nor is what they have from the prior cell.
 fn add_spans(
     area: &[u8],
     con: &[u8],
@@ -79,11 +84,13 @@ fn add_spans(
     ws: &mut [u16],
     plan: Plan,
     cell: Spans,
+    prior: Spans,
     known: bool,
     top: usize,
 ) -> usize
     requires { ⌜ Entering plan (now area) (now con) (now ids) cell top (now ws) ⌝ }
     requires { ⌜ (known ≡ true → Known (now ids) cell (recsOf (now ws) (plan .records))) ⌝ }
+    requires { ⌜ Knowing (now ids) (plan .records) prior (now ws) ⌝ }
     ensures { λ t. ⌜ Entered plan (now (area .entry)) (now (ids .entry)) cell (cell .size) top (now (ws .entry)) t (now (ws .exit)) ⌝ }
 {
     let mut end = top;
@@ -95,6 +102,7 @@ fn add_spans(
             ws,
             plan,
             cell,
+            prior,
             known,
             cell.at(Layer(j as u8)),
             end,
@@ -148,7 +156,7 @@ fn add_cell_at(
     let back = look_back(ids, last, cell);
     let next = back.last;
     SoFar {
-        top: add_spans(area, con, ids, ws, plan, cell, back.known, t.top),
+        top: add_spans(area, con, ids, ws, plan, cell, last, back.known, t.top),
         last: next,
     }
 }

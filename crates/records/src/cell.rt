@@ -11,7 +11,7 @@ ghost use lib.Dec.{ltb};
 ghost use Rattle.rules.specs.Base.{_or_, if_then_else_};
 ghost use Rattle.rules.specs.Records.{once, onceAll};
 ghost use Rattle.rules.specs.Refusals.{mostSpans};
-ghost use Rattle.records.specs.Cell.{twin, twins, othersFrom, joinOne, Lies, Alike, Found, JoinedOne, JoinedAll, Roomy};
+ghost use Rattle.records.specs.Cell.{twin, twins, othersFrom, joinOne, Lies, Alike, Found, JoinedOne, JoinedAll, Within, Roomy, Near, Unchanged, Prior};
 
 // The spans of a cell: size of them, from `from` on. Two numbers of one size: bytes that no field has would be copied with each cell (docs/PERFORMANCE.md).
 pub struct Spans {
@@ -167,15 +167,67 @@ fn join_one(ids: &[u16], part: &mut [u16], span: SpanIx, other: SpanIx, l: Liste
     add_unique_floor_region(part, l, r)
 }
 
+// Has the prior cell as many spans, and in the span's layer its id? A no decides only how fast.
+fn is_near(ids: &[u16], span: SpanIx, cell: Spans, prior: Spans) -> bool
+    requires { ⌜ (length (now ids) ≤ mostSpans) × Within (now ids) (span .0) cell × Lies (now ids) prior ⌝ }
+    ensures { λ r. ⌜ (r ≡ true → Near (now (ids .entry)) (span .0) cell prior) ⌝ }
+{
+    if prior.size != cell.size {
+        return false;
+    }
+    let s = span.0;
+    let t = prior.from + (s - cell.from);
+    ids[t] == ids[s]
+}
+
+// As join_one; but of a span near the prior cell's, a layer that has the id that it had there is passed over: the list has that id already, or it is none
+// that joins.
+fn join_changed(
+    ids: &[u16],
+    part: &mut [u16],
+    span: SpanIx,
+    other: SpanIx,
+    prior: Spans,
+    layer: Layer,
+    near: bool,
+    l: Listed,
+) -> Listed
+    requires { ⌜ other .0 < length (now ids) ⌝ }
+    requires { ⌜ l .len ≤ length (now part) ⌝ }
+    requires { ⌜ ((other .0 ≡ span .0 → ⊥) → l .len < length (now part)) ⌝ }
+    requires { ⌜ (near ≡ true → Unchanged (now ids) (take (l .len) (now part)) (span .0) (other .0) (prior .from + layer .0)) ⌝ }
+    ensures { λ k. ⌜ (let joined = joinOne (now (ids .entry)) (span .0) (other .0) (take (l .len) (now (part .entry))) in
+        JoinedOne joined (l .len) (now (part .exit)) (k .len)) ⌝ }
+    ensures { λ k. ⌜ (other .0 ≡ span .0 → k .len ≡ l .len) ⌝ }
+{
+    if near {
+        let t = other.0;
+        let before = prior.at(layer).0;
+        if ids[t] == ids[before] {
+            return l;
+        }
+    }
+    join_one(ids, part, span, other, l)
+}
+
 // What a span takes from its cell: the length of its record's floor list, and whether another span has its id.
 pub struct Taken {
     pub len: usize,
     pub twin: bool,
 }
 
-// The ids of the cell's other spans join the list of the first len; on the same walk the span's own id is looked for.
-pub(crate) fn join(ids: &[u16], part: &mut [u16], span: SpanIx, cell: Spans, len: usize) -> Taken
+// The ids of the cell's other spans join the list of the first len; on the same walk the span's own id is looked for. What the list has from the prior
+// cell is not looked for again.
+pub(crate) fn join(
+    ids: &[u16],
+    part: &mut [u16],
+    span: SpanIx,
+    cell: Spans,
+    prior: Spans,
+    len: usize,
+) -> Taken
     requires { ⌜ Roomy (now ids) (now part) (span .0) (cell .from) (cell .size) len ⌝ }
+    requires { ⌜ Lies (now ids) prior × Prior (now ids) (take len (now part)) (span .0) cell prior ⌝ }
     ensures { λ k. ⌜ (let others = othersFrom (now (ids .entry)) (span .0) (cell .size) (cell .from) in
         JoinedAll (onceAll (take len (now (part .entry))) others) len (now (part .exit)) (k .len)) ⌝ }
     ensures { λ k. ⌜ (let own = getD (now (ids .entry)) (span .0) 0 in
@@ -183,12 +235,14 @@ pub(crate) fn join(ids: &[u16], part: &mut [u16], span: SpanIx, cell: Spans, len
 {
     let s = span.0;
     let own = ids[s];
+    let near = is_near(ids, span, cell, prior);
     let mut l = Listed { len, next: 0 };
     let mut twin = false;
     for j in 0..cell.size {
-        let other = cell.at(Layer(j as u8));
+        let layer = Layer(j as u8);
+        let other = cell.at(layer);
         twin = met(ids, other, span, own, twin);
-        l = join_one(ids, part, span, other, l);
+        l = join_changed(ids, part, span, other, prior, layer, near, l);
     }
     Taken { len: l.len, twin }
 }

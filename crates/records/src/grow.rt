@@ -29,11 +29,12 @@ ghost use Rattle.rules.specs.Records.{at};
 ghost use Rattle.net.specs.Table.{netAt};
 ghost use Rattle.contour.specs.Pool.{Start};
 ghost use Rattle.table.specs.Map.{spareAt, poolAt};
-ghost use Rattle.table.specs.View.{listStart, listEnd, recsOf};
+ghost use Rattle.table.specs.View.{listStart, listEnd, floorsIn, recsOf};
 ghost use Rattle.records.specs.Map.{poolIn};
-ghost use Rattle.records.specs.Cell.{twins, othersFrom, Within};
+ghost use Rattle.records.specs.Cell.{twins, othersFrom, Within, Lies, Prior};
 ghost use Rattle.records.specs.Rows.{Keeping, Took, Step, Slack, Traced, traced, tracedCut, marked, cutMarked, floored, withContour, contoured, celled};
 ghost use Rattle.records.specs.Stock.{Reach};
+ghost use Rattle.records.specs.Build.{Knowing};
 
 // Overlap is set where another span of a cell has the id r too.
 fn add_overlap(ws: &mut [u16], m: usize, r: usize, twin: bool)
@@ -55,8 +56,10 @@ fn add_floors(
     span: SpanIx,
     r: usize,
     cell: Spans,
+    prior: Spans,
 ) -> bool
     requires { ⌜ Keeping (now ids) m top (span .0 + 1) (now ws) × (r < m) × Slack m r (now ws) × Within (now ids) (span .0) cell ⌝ }
+    requires { ⌜ Lies (now ids) prior × Prior (now ids) (floorsIn (now ws) m r) (span .0) cell prior ⌝ }
     ensures { λ b. ⌜ (let others = othersFrom (now (ids .entry)) (span .0) (cell .size) (cell .from) in
         Step (floored others) (now (ids .entry)) m r top (span .0 + 1) (now (ws .entry)) (now (ws .exit))) ⌝ }
     ensures { λ b. ⌜ (let own = getD (now (ids .entry)) (span .0) 0 in
@@ -66,7 +69,7 @@ fn add_floors(
     let end = end_of(ws, m, FLOORS * m, r);
     let limit = start + FLOOR_ROOM * at(ws, m + r);
     let len = end - start;
-    let taken = join(ids, &mut ws[start..limit], span, cell, len);
+    let taken = join(ids, &mut ws[start..limit], span, cell, prior, len);
     let listed = taken.len;
     if listed == len {
         return taken.twin;
@@ -166,8 +169,8 @@ pub(crate) fn add_contour(
     add_list(con, ids, ws, plan, span, r, top)
 }
 
-// The span, of id r, adds one to its record; of its cell it takes floors and overlap, unless the record is known to have them. What the pool has, up to
-// top, only the contract reads.
+// The span, of id r, adds one to its record; of its cell it takes floors and overlap, unless the record is known to have them: all, or what it has from
+// the prior cell. What the pool has, up to top, only the contract reads.
 pub(crate) fn add_cell(
     ids: &[u16],
     ws: &mut [u16],
@@ -176,11 +179,13 @@ pub(crate) fn add_cell(
     span: SpanIx,
     r: usize,
     cell: Spans,
+    prior: Spans,
     known: bool,
 )
     requires { ⌜ Keeping (now ids) m top (span .0) (now ws) × Within (now ids) (span .0) cell ⌝ }
     requires { ⌜ (r ≡ getD (now ids) (span .0) 0) × (plain (getD (now ids) (span .0) 0) ≡ true) ⌝ }
     requires { ⌜ (known ≡ true → Took (now ids) (span .0) (cell .size) (cell .from) (at (recsOf (now ws) m) r)) ⌝ }
+    requires { ⌜ Knowing (now ids) m prior (now ws) ⌝ }
     ensures { λ _. ⌜ (let f = celled (now (ids .entry)) (span .0) (cell .size) (cell .from) in
         Step f (now (ids .entry)) m r top (span .0 + 1) (now (ws .entry)) (now (ws .exit))) ⌝ }
 {
@@ -188,6 +193,6 @@ pub(crate) fn add_cell(
     if known {
         return;
     }
-    let twin = add_floors(ids, ws, m, top, span, r, cell);
+    let twin = add_floors(ids, ws, m, top, span, r, cell, prior);
     add_overlap(ws, m, r, twin);
 }

@@ -45,7 +45,7 @@ add-spans-requires c κs =
     let v = C k in
     let p = S v .pre .1 in
     let e = v .spans-of .ensures in
-    (rw e (p .0), λ y. rw e (know-enter _ _ _ _ _ _ _ _ (p .0) (p .1) (rw e at (b .look-back .ensures .1 y))))
+    (rw e (p .0), (λ y. rw e (know-enter _ _ _ _ _ _ _ _ (p .0) (p .1) (rw e at (b .look-back .ensures .1 y))), p .1))
 
 same-length : tie.Need-same-length
 same-length c = search needs

@@ -27,7 +27,8 @@ use Rattle.records.specs.Cell.{twins, othersFrom, Within, Prior}
 use Rattle.records.specs.Rows.{Keeping, Took, Step, Slack, traced, tracedCut, marked, plusOne, overlaid, floored, celled, withArea, withList, withCut, withContour, contoured}
 use Rattle.records.specs.Map.{poolIn}
 use Rattle.records.specs.Stock.{Reach}
-use Rattle.records.specs.Build.{Knowing}
+use Rattle.records.specs.Build.{Knowing, KnowingFrom}
+use Rattle.rules.specs.Field.{none}
 use Rattle.records.specs.declared.cell.Spans.{Spans}
 use Rattle.records.proofs.KnownLaws.{celled-took, prior-known}
 use Rattle.records.proofs.RowLaws.{list-parts, floor-parts, count-room, step-then, store-start, store-end}
@@ -125,6 +126,12 @@ module _ (ids : List ℕ) (m top s : ℕ) (ws : List ℕ) (K : Keeping ids m top
 
   one : Step plusOne ids m r top (s + 1) ws (set ws (m + r) (getD ws (m + r) 0 + 1))
   one = step-one ids m top s ws K r own-in g er pl
+
+  -- looked back to its own cell, its record has what it takes from it
+  pub took-known : (cell : Spans) (prior : ℕ) → Within ids s cell → KnowingFrom ids m cell prior ws → prior ≡ cell .from → Took ids s (cell .size) (cell .from) (at (recsOf ws m) r)
+  took-known cell prior w k e =
+      let n : prior ≡ none → ⊥ = (λ z. omega (arith, w .lower, g, K .spans)) in
+      rw (er, ← e) (k .knowing n .known .took s (omega (arith, w .lower)) (omega (arith, w .upper)) pl)
 
   -- its record has what it takes from its cell
   pub cell-known : Took ids s size from (at (recsOf ws m) r) → Step (celled ids s size from) ids m r top (s + 1) ws (set ws (m + r) (getD ws (m + r) 0 + 1))

@@ -43,13 +43,10 @@ unfolding once if_then_else_
 once-listed part len r h z = record { same = rw z; low = omega arith; high = omega arith; within = h }
 
 -- a layer that did not change joins to no effect
-pub join-listed : (ids part : List ℕ) (s t u len : ℕ) → len ≤ length part → (v : ℕ) → v ≡ u → Unchanged ids (take len part) s t u → getD ids t 0 ≡ getD ids v 0
+pub join-listed : (ids part : List ℕ) (s t u len : ℕ) → len ≤ length part → Unchanged ids (take len part) s t u → getD ids t 0 ≡ getD ids u 0
     → JoinedOne (joinOne ids s t (take len part)) len part len
-join-listed ids part s t u len h v ev U q = elim (ℕ-discrete t s) [ yes z ↦ join-self ids part s t len h z | no z ↦ go z (plain (getD ids t 0)) refl ]
+join-listed ids part s t u len h U e = elim (ℕ-discrete t s) [ yes z ↦ join-self ids part s t len h z | no z ↦ go z (plain (getD ids t 0)) refl ]
   where
-    e : getD ids t 0 ≡ getD ids u 0
-    e = rw (← ev) q
-
     go : (t ≡ s → ⊥) → (b : Bool) → plain (getD ids t 0) ≡ b → JoinedOne (joinOne ids s t (take len part)) len part len
     go z true y = join-yes ids part s t len h z y part len (once-listed part len (getD ids t 0) h (U .listed z e y))
     go z false y = join-not ids part s t len h z y

@@ -1,11 +1,13 @@
 -- The other spans of a cell, as the code goes through them.
 use mathlib.Core.Path.{_≡_}
+use mathlib.Core.Logic.{_⊎_}
 use mathlib.Core.Bool.{Bool, true, false, not}
 use mathlib.Core.List.{List, map}
 use Prim.Native.Nat.{ℕ, zero, suc, _+_, _-_, _≤_, _<_}
 use lib.ListN.{length, getD, take}
 use lib.Dec.{eqb, ltb}
 use Rattle.rules.specs.Base.{_and_, _or_, if_then_else_, keep, tab}
+use Rattle.rules.specs.Field.{none}
 use Rattle.rules.specs.Growth.{plain}
 use Rattle.rules.specs.Records.{has, once, onceAll}
 use Rattle.rules.specs.Refusals.{mostSpans}
@@ -60,6 +62,18 @@ pub record Within (ids : List ℕ) (s : ℕ) (cell : Spans) : Type 0 where
   pub inside : cell .from + cell .size ≤ length ids
   pub lower : cell .from ≤ s
   pub upper : s < cell .from + cell .size
+
+-- a cell that begins at `prior` and has as many spans
+abbrev pub asManyFrom : ℕ → Spans → Spans
+asManyFrom prior cell = record { from = prior; size = cell .size }
+
+-- there is a prior cell
+abbrev pub Some : ℕ → Type 0
+Some prior = prior ≡ none → ⊥
+
+-- where to look back to: this cell itself, if it is like the last one or has few spans; or the last one, if it has as many
+pub record LooksTo (ids : List ℕ) (last cell : Spans) (prior : ℕ) : Type 0 where
+  pub seen : Some prior → ((prior ≡ cell .from) × (1 < cell .size → Alike ids last cell)) ⊎ ((prior ≡ last .from) × (last .size ≡ cell .size))
 
 -- a prior cell has as many spans, and in the layer of span s its id
 pub record Near (ids : List ℕ) (s : ℕ) (cell prior : Spans) : Type 0 where

@@ -4,16 +4,15 @@ use Prim.Native.Nat.{_-_}
 use native.Mathlib.Omega.{arith}
 use Rattle.records.specs.Build.{Entered}
 use Rattle.records.proofs.BuildLaws.{entered-start, entered-room, entered-stand, entered-knowing, entered-next, entered-end}
-use Rattle.records.proofs.KnownLaws.{known-run}
 use borrow.Author.Needs.{needs}
 use Rattle.records.proofs.build.add_spans.Statement.{statement}
 use Rattle.records.proofs.build.add_spans.Tie as tie
 
 abbrev Inv-loop : tie.InvT-loop
-Inv-loop area con ids ws₀ plan cell prior known top end₀ j₀ j-end ws end j = Entered plan area ids cell j top ws₀ end ws
+Inv-loop area con ids ws₀ plan cell prior top end₀ j₀ j-end ws end j = Entered plan area ids cell j top ws₀ end ws
 
 abbrev μ-loop : tie.MeasureT-loop
-μ-loop area con ids ws₀ plan cell prior known top end₀ j₀ j-end ws end j = cell .size - j
+μ-loop area con ids ws₀ plan cell prior top end₀ j₀ j-end ws end j = cell .size - j
 
 -- the entry
 abbrev S : tie.At-loop Inv-loop μ-loop → tie.Start Inv-loop μ-loop
@@ -22,8 +21,8 @@ S c = c .before .before .before .before .before
 loop-holds : tie.Need-loop-holds Inv-loop μ-loop
 loop-holds c = entered-start _ _ _ _ _ _ _ (c .before .before .before .before .pre .0)
 
-cast-t17 : tie.Need-cast-t17 Inv-loop μ-loop
-cast-t17 c = let i = c .before in omega (arith, S (i .before) .pre .0 .few, i .loop-test .taken)
+cast-t16 : tie.Need-cast-t16 Inv-loop μ-loop
+cast-t16 c = let i = c .before in omega (arith, S (i .before) .pre .0 .few, i .loop-test .taken)
 
 at-requires : tie.Need-at-requires Inv-loop μ-loop
 at-requires c κs = let i = c .before in
@@ -37,7 +36,7 @@ add-span-requires c κs = let i = c .before .before in
     let p = S l .pre in
     let h = i .loop-test .taken in (
       entered-stand _ _ _ _ _ _ _ (p .0) _ _ _ v h _ (c .at .ensures),
-      (λ k. rw (v .same) (known-run _ _ _ _ _ _ (p .1 .0 k)), entered-knowing _ _ _ _ _ _ _ (p .0) _ _ _ v h _ (p .1 .1)),
+      entered-knowing _ _ _ _ _ _ _ (p .0) _ _ _ v h _ (p .1),
     )
 
 add-j : tie.Need-add-j Inv-loop μ-loop
@@ -66,7 +65,7 @@ add-spans-spec =
     Inv-loop
     μ-loop
     loop-holds
-    cast-t17
+    cast-t16
     at-requires
     add-span-requires
     add-j

@@ -39,8 +39,8 @@ is-near-requires c κs = let p = S c .pre .0 in
 loop-holds : tie.Need-loop-holds Inv-loop μ-loop
 loop-holds c = (join-start _ _ _ _ _ _ (S (c .before) .pre .0), twins-start _ _ _ _ _)
 
-cast-t20 : tie.Need-cast-t20 Inv-loop μ-loop
-cast-t20 c = let p = N (c .before) .pre .0 in omega (arith, p .few, c .loop-test .taken)
+cast-t19 : tie.Need-cast-t19 Inv-loop μ-loop
+cast-t19 c = let p = N (c .before) .pre .0 in omega (arith, p .few, c .loop-test .taken)
 
 at-requires : tie.Need-at-requires Inv-loop μ-loop
 at-requires c κs = let p = N (c .before) .pre .0 in omega (arith, p .inside, p .spans, c .loop-test .taken)
@@ -49,6 +49,9 @@ met-requires : tie.Need-met-requires Inv-loop μ-loop
 met-requires c κs = let i = c .before in
     let p = N (i .before) .pre .0 in
     omega (arith, p .inside, c .at .ensures, i .loop-test .taken)
+
+add-join-changed : tie.Need-add-join-changed Inv-loop μ-loop
+add-join-changed c = let i = c .before .before .before in let p = N (i .before) .pre in omega (arith, p .1 .1 .1, p .0 .few, i .loop-test .taken)
 
 join-changed-requires : tie.Need-join-changed-requires Inv-loop μ-loop
 join-changed-requires c κs = let a = c .before .before in
@@ -60,7 +63,7 @@ join-changed-requires c κs = let a = c .before .before in
     let h = i .loop-test .taken in
     let room = join-room _ _ _ _ _ _ p _ _ _ J h _ (a .at .ensures) in (
       omega (arith, p .inside, a .at .ensures, h),
-      (room .0, (room .1, λ n. join-unchanged _ _ _ _ _ _ _ _ _ p (q .1 .0) (q .1 .1) J h (l .before .is-near .ensures n) _ (a .at .ensures))),
+      (room .0, (room .1, λ n. let r = l .before .is-near .ensures n in join-unchanged _ _ _ _ _ _ _ _ _ p (q .1 .0 (r .0)) (q .1 .1 .0 (r .0)) J h (r .1) _ (a .at .ensures))),
     )
 
 add-j : tie.Need-add-j Inv-loop μ-loop
@@ -99,9 +102,10 @@ join-spec =
     shared-slice-read-own
     is-near-requires
     loop-holds
-    cast-t20
+    cast-t19
     at-requires
     met-requires
+    add-join-changed
     join-changed-requires
     add-j
     loop-less

@@ -11,9 +11,6 @@ use Rattle.records.proofs.cell.join_changed.Tie as tie
 abbrev S : tie.Then1 → tie.Start
 S c = c .before .before .before
 
-at-requires : tie.Need-at-requires
-at-requires c κs = let u = S c .pre .1 .1 .1 (c .if1 .taken) in omega (arith, u .inside, u .spans)
-
 mul-if2 : tie.Need-mul-if2
 mul-if2 c = search needs
 
@@ -21,22 +18,17 @@ shared-slice-read-if2 : tie.Need-shared-slice-read-if2
 shared-slice-read-if2 c = search needs
 
 mul-if2-2 : tie.Need-mul-if2-2
-mul-if2-2 c = let a = c .before in
-    let k = a .before in
+mul-if2-2 c = let k = c .before in
     let u = S k .pre .1 .1 .1 (k .if1 .taken) in
-    omega (arith, a .at .ensures, u .inside, u .spans)
+    omega (arith, u .inside, u .spans)
 
 shared-slice-read-if2-2 : tie.Need-shared-slice-read-if2-2
-shared-slice-read-if2-2 c = let a = c .before .before in
-    let k = a .before in
-    let u = S k .pre .1 .1 .1 (k .if1 .taken) in
-    omega (arith, a .at .ensures, u .inside)
+shared-slice-read-if2-2 c = let k = c .before .before in S k .pre .1 .1 .1 (k .if1 .taken) .inside
 
 returns : tie.Need-returns
-returns c = let a = c .before .before .before in
-    let k = a .before in
+returns c = let k = c .before .before .before in
     let p = S k .pre in
-    (join-listed _ _ _ _ _ _ (p .1 .0) _ (a .at .ensures) (p .1 .1 .1 (k .if1 .taken)) (c .if2 .taken), λ _. refl)
+    (join-listed _ _ _ _ _ _ (p .1 .0) (p .1 .1 .1 (k .if1 .taken)) (c .if2 .taken), λ _. refl)
 
 join-one-requires : tie.Need-join-one-requires
 join-one-requires c κs = search needs
@@ -51,7 +43,6 @@ pub join-changed-spec : {M : Type 1} → statement M
 join-changed-spec =
     tie.close
     (tie.spec
-    at-requires
     mul-if2
     shared-slice-read-if2
     mul-if2-2

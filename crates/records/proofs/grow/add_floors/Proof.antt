@@ -72,7 +72,7 @@ join-requires c κs = let t = c .before in
     let p = q .0 in
     let w = p .3 in (
       room-roomy _ _ _ _ _ (p .0) _ (p .1) _ _ _ (ea t) (ee t) (ez t) _ _ _ (omega (arith, p .2 .slack, ea t, ee t, ez t)) (w .few) (w .inside) (w .lower) (w .upper),
-      (q .1 .0, room-prior _ _ _ _ _ (p .0) _ (p .1) _ _ _ (ea t) (ee t) (ez t) _ _ _ (q .1 .1)),
+      (q .1 .0, ((λ n. room-prior _ _ _ _ _ (p .0) _ (p .1) _ _ _ (ea t) (ee t) (ez t) _ _ _ (q .1 .1 .0 n)), q .1 .1 .1)),
     )
 
 same-length : tie.Need-same-length

@@ -18,7 +18,6 @@ ghost use lib.ListN.{length, getD};
 ghost use Rattle.rules.specs.Growth.{plain};
 ghost use Rattle.field.specs.Lent.{lent};
 ghost use Rattle.table.specs.Map.{recordsEnd};
-ghost use Rattle.table.specs.View.{recsOf};
 ghost use Rattle.records.specs.Stock.{Given, Blank, Built};
 ghost use Rattle.records.specs.Build.{spansAt, Standing, Added, Entering, Entered, Knowing, KnowingFrom};
 

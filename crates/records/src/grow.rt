@@ -29,7 +29,7 @@ ghost use Rattle.rules.specs.Growth.{plain};
 ghost use Rattle.net.specs.Table.{netAt};
 ghost use Rattle.contour.specs.Pool.{Start};
 ghost use Rattle.table.specs.Map.{spareAt, poolAt};
-ghost use Rattle.table.specs.View.{listStart, listEnd, floorsIn, recsOf};
+ghost use Rattle.table.specs.View.{listStart, listEnd, floorsIn};
 ghost use Rattle.records.specs.Map.{poolIn};
 ghost use Rattle.records.specs.Cell.{twins, othersFrom, Within, Lies, Prior, asManyFrom, Some};
 ghost use Rattle.records.specs.Rows.{Keeping, Step, Slack, Traced, traced, tracedCut, marked, cutMarked, floored, withContour, contoured, celled};

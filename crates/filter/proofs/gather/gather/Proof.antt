@@ -2,7 +2,7 @@
 -- Each turn takes one that waits; those that wait and those not visited together fall.
 use Rattle.table.specs.View.{recsOf}
 use Rattle.filter.proofs.GroupLaws.{none-waits}
-use Prim.Native.Nat.{_*_, _-_}
+use Prim.Native.Nat.{_*_}
 use mathlib.Core.Path.{_≡_}
 use lib.ListN.{length}
 use Rattle.laws.proofs.FilterEnds.{ahead}

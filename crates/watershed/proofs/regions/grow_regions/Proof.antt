@@ -3,7 +3,7 @@
 use native.Mathlib.Omega.{arith}
 use mathlib.Core.Path.{refl, _∙_}
 use borrow.Author.Needs.{needs}
-use Rattle.watershed.proofs.StageLaws.{few, kept-room, poised, raised, kept-ids, put-back}
+use Rattle.watershed.proofs.StageLaws.{few, kept-room, poised, raised, put-back}
 use Rattle.watershed.proofs.regions.grow_regions.Statement.{statement}
 use Rattle.watershed.proofs.regions.grow_regions.Tie as tie
 

@@ -43,7 +43,7 @@ pub fn merge_regions(ws: &mut [u16], m: usize, pair: Pair, half: Half) -> Half
     ensures { λ _. ⌜ (let records = recsOf (now (ws .entry)) m in
         let old = getD (now (ws .entry)) (pair .absorbed) 0 in
         recsOf (now (ws .exit)) m ≡ mergedPair records (pair .absorbed) old (pair .absorber)) ⌝ }
-    ensures { λ r. ⌜ PoolIn m r (now (ws .exit)) × LaidIn m r (now (ws .exit)) × (r .size ≡ half .size) ⌝ }
+    ensures { λ r. ⌜ PoolIn m r (now (ws .exit)) × LaidIn m r (now (ws .exit)) × (r .size ≡ half .size) × (r .links ≡ half .links) ⌝ }
 {
     let n = pair.absorber;
     let i = pair.absorbed;

@@ -11,8 +11,9 @@ use mathlib.Core.List.{List, [], _∷_}
 use lib.ListN.{length, getD, set}
 use lib.Dec.{eqb, ltb}
 use borrow.Author.Tests.{eqb-true}
+use mathlib.Core.Logic.{⊎-elim, _⊎_}
 use Rattle.rules.specs.Base.{_and_, _or_, if_then_else_, upto, tab}
-use Rattle.rules.specs.Field.{Field, spans, cellOf}
+use Rattle.rules.specs.Field.{Field, spans, cellOf, none}
 use Rattle.rules.specs.Net.{Net, netOf}
 use Rattle.rules.specs.Growth.{plain}
 use Rattle.rules.specs.Contour.{firstSolid, contour, cutShort}
@@ -32,11 +33,11 @@ use Rattle.contour.proofs.Areas.{ways-areas}
 use Rattle.contour.proofs.WalkLaws.{ways-same}
 use Rattle.table.specs.View.{part, startOf, endOf, listAt, recAt, recsOf, Held}
 use Rattle.table.proofs.ViewLaws.{view-by, view-length, part-none, rec-eq, recs-at}
-use Rattle.records.specs.Cell.{twins, othersFrom, Lies, Alike}
+use Rattle.records.specs.Cell.{twins, othersFrom, Lies, Alike, asManyFrom, LooksTo}
 use Rattle.records.specs.Rows.{mine, Row, Keeping, Known, Step, plusOne, overlaid, floored, celled, contoured, traced, tracedCut}
 use Rattle.records.specs.Fresh.{Renewed}
 use Rattle.records.specs.Stock.{Given, Reach, Blank, Built}
-use Rattle.records.specs.Build.{added, Standing, Added, Entering, Entered, Knowing}
+use Rattle.records.specs.Build.{added, Standing, Added, Entering, Entered, Knowing, KnowingFrom}
 use Rattle.records.specs.declared.cell.Spans.{Spans}
 use Rattle.records.specs.declared.grow.Plan.{Plan}
 use Rattle.records.proofs.CellLaws.{any-twins}
@@ -204,6 +205,16 @@ module _ (plan : Plan) (ar cs ids : List ℕ) (cell : Spans) (top : ℕ) (ws₀ 
       after = λ i g. A .after i g ∙ D .after i g;
     }
 
+    -- of a prior cell what is known stays known
+    pub entered-knowing : (prior : ℕ) → KnowingFrom ids (plan .records) cell prior ws₀ → KnowingFrom ids (plan .records) cell prior ws
+    entered-knowing prior k = record {
+      knowing = λ n. record {
+        known = rw (D .same) (known-run _ ids cell (asManyFrom prior cell) j (recsOf ws₀ (plan .records)) (k .knowing n .known));
+        lies = k .knowing n .lies;
+      };
+      place = k .place;
+    }
+
     pub entered-room : cell .from + j < mostSpans
     entered-room = omega (arith, stand-there .reach .span, stand-there .keeping .spans)
 
@@ -230,6 +241,24 @@ module _ (plan : Plan) (ar cs ids : List ℕ) (cell last : Spans) (top : ℕ) (w
     | yes h ↦ known-alike ids last cell (recsOf ws (plan .records)) (k .known) (e h)
     | no h ↦ known-few ids cell (recsOf ws (plan .records)) (omega arith)
   ]
+
+  -- of the cell that is looked back to
+  pub know-from : 0 < cell .size → (prior : ℕ) → LooksTo ids last cell prior → KnowingFrom ids (plan .records) cell prior ws
+  know-from h prior L = record {
+    knowing = λ n. ⊎-elim
+        (λ (w : (prior ≡ cell .from) × (1 < cell .size → Alike ids last cell)).
+        rw (w .0) (record { known = know-enter (w .1); lies = cell-lies }))
+        (λ (w : (prior ≡ last .from) × (last .size ≡ cell .size)).
+        rw (w .0, ← w .1) k)
+        (L .seen n);
+    place = elim (ℕ-discrete prior none) [
+      | yes e ↦ omega (arith, e)
+      | no e ↦ ⊎-elim
+          (λ (w : (prior ≡ cell .from) × (1 < cell .size → Alike ids last cell)). omega (arith, w .0, E .inside h, E .keeping h .spans))
+          (λ (w : (prior ≡ last .from) × (last .size ≡ cell .size)). omega (arith, w .0, w .1, k .lies .inside (omega (arith, w .1)), E .keeping h .spans))
+          (L .seen e)
+    ];
+  }
 
   -- of each all is once it is done, and of the last one it stays known
   pub know-next : 0 < cell .size → (t : ℕ) (ws′ : List ℕ) → Entered plan ar ids cell (cell .size) top ws t ws′ → (next : Spans) → next ≡ (if ltb 1 (cell .size) then cell else last)

@@ -23,11 +23,14 @@ use Rattle.contour.proofs.Areas.{first-areas, contour-areas, cut-areas}
 use Rattle.contour.proofs.WalkLaws.{ways-same}
 use Rattle.table.specs.View.{startOf, endOf, listAt, recAt, view, recsOf}
 use Rattle.table.proofs.ViewLaws.{list-length, view-at, view-length, recs-at}
-use Rattle.records.specs.Cell.{twins, othersFrom}
+use Rattle.records.specs.Cell.{twins, othersFrom, Within, Prior}
 use Rattle.records.specs.Rows.{Keeping, Took, Step, Slack, traced, tracedCut, marked, plusOne, overlaid, floored, celled, withArea, withList, withCut, withContour, contoured}
 use Rattle.records.specs.Map.{poolIn}
 use Rattle.records.specs.Stock.{Reach}
-use Rattle.records.proofs.KnownLaws.{celled-took}
+use Rattle.records.specs.Build.{Knowing, KnowingFrom}
+use Rattle.rules.specs.Field.{none}
+use Rattle.records.specs.declared.cell.Spans.{Spans}
+use Rattle.records.proofs.KnownLaws.{celled-took, prior-known}
 use Rattle.records.proofs.RowLaws.{list-parts, floor-parts, count-room, step-then, store-start, store-end}
 use Rattle.records.proofs.StepLaws.{step-none, step-one, step-area, step-marked}
 use Rattle.records.proofs.TraceLaws.{list-tracing}
@@ -124,6 +127,12 @@ module _ (ids : List ℕ) (m top s : ℕ) (ws : List ℕ) (K : Keeping ids m top
   one : Step plusOne ids m r top (s + 1) ws (set ws (m + r) (getD ws (m + r) 0 + 1))
   one = step-one ids m top s ws K r own-in g er pl
 
+  -- looked back to its own cell, its record has what it takes from it
+  pub took-known : (cell : Spans) (prior : ℕ) → Within ids s cell → KnowingFrom ids m cell prior ws → prior ≡ cell .from → Took ids s (cell .size) (cell .from) (at (recsOf ws m) r)
+  took-known cell prior w k e =
+      let n : prior ≡ none → ⊥ = (λ z. omega (arith, w .lower, g, K .spans)) in
+      rw (er, ← e) (k .knowing n .known .took s (omega (arith, w .lower)) (omega (arith, w .upper)) pl)
+
   -- its record has what it takes from its cell
   pub cell-known : Took ids s size from (at (recsOf ws m) r) → Step (celled ids s size from) ids m r top (s + 1) ws (set ws (m + r) (getD ws (m + r) 0 + 1))
   cell-known k = step-as plusOne (celled ids s size from) ids m r top (s + 1) ws _ (celled-took ids s size from (at (recsOf ws m) r) k) one
@@ -135,15 +144,27 @@ module _ (ids : List ℕ) (m top s : ℕ) (ws : List ℕ) (K : Keeping ids m top
     pub counted-keeping : Keeping ids m top (s + 1) ws₁
     counted-keeping = one₁ .keeping
 
+    -- counting keeps the floors
+    floors-counted : listAt ws₁ m (11 * m) r ≡ listAt ws m (11 * m) r
+    unfolding plusOne recAt
+    floors-counted = ap (λ (x : Rec). x .floors) (step-at _ ids m r top (s + 1) ws ws₁ own-in one₁)
+
     pub counted-slack : Slack m r ws₁
     unfolding plusOne recAt
     counted-slack =
         let e = step-at _ ids m r top (s + 1) ws ws₁ own-in one₁ in
         let c : getD ws₁ (m + r) 0 ≡ suc (getD ws (m + r) 0) = ap (λ (x : Rec). x .count) e in
-        let f : listAt ws₁ m (11 * m) r ≡ listAt ws m (11 * m) r = ap (λ (x : Rec). x .floors) e in
         let l = list-length ws m (11 * m) r (floor-parts ids m top s ws K) own-in in
         let l₁ = list-length ws₁ m (11 * m) r (floor-parts ids m top (s + 1) ws₁ counted-keeping) own-in in
-        record { slack = omega (arith, ap length f, K .rows r own-in .order′, K .rows r own-in .till′, counted-keeping .rows r own-in .order′) }
+        record { slack = omega (arith, ap length floors-counted, K .rows r own-in .order′, K .rows r own-in .till′, counted-keeping .rows r own-in .order′) }
+
+    -- what its record has from a prior cell
+    pub counted-prior : (cell prior : Spans) → Within ids s cell → Knowing ids m prior ws → Prior ids (listAt ws₁ m (11 * m) r) s cell prior
+    unfolding recAt
+    counted-prior cell prior w k =
+        let f : at (recsOf ws m) r .floors ≡ listAt ws m (11 * m) r = ap (λ (x : Rec). x .floors) (recs-at ws m r own-in) in
+        let p : Prior ids (at (recsOf ws m) r .floors) s cell prior = rw er (prior-known ids s cell prior (recsOf ws m) w pl (k .known)) in
+        rw (floors-counted, ← f) p
 
     -- floors and overlap do not touch each other, so either may come first
     pub cell-step : (ws₂ ws₃ : List ℕ) (b : Bool) → Step (floored (othersFrom ids s size from)) ids m r top (s + 1) ws₁ ws₂ → b ≡ twins ids s (getD ids s 0) size from

@@ -17,8 +17,9 @@ use Rattle.space.specs.Space.{Frame, sec}
 use Rattle.space.proofs.Laws.{frame-none, frame-put, getD-before, getD-after, sec-put, sec-after, length-sec}
 use Rattle.table.specs.View.{part, startOf, endOf, listAt, recAt, recsOf, Placed}
 use Rattle.table.proofs.ViewLaws.{rec-eq, list-same, wide-same, recs-at}
-use Rattle.records.specs.Cell.{JoinedAll, Roomy}
+use Rattle.records.specs.Cell.{JoinedAll, Prior, Roomy}
 use Rattle.records.specs.Rows.{walked, Row, Keeping, Change, Step, floored}
+use Rattle.records.specs.declared.cell.Spans.{Spans}
 use Rattle.records.proofs.CountLaws.{many-same}
 use Rattle.records.proofs.RowLaws.{pool-fits, floors-past, floors-inside, floors-apart, list-parts, floor-parts, change-recs, change-keeping}
 
@@ -41,6 +42,14 @@ module _ (ids : List ℕ) (m top k : ℕ) (ws : List ℕ) (K : Keeping ids m top
 
   pub room-roomy : (s from size : ℕ) → e + 62 ≤ z → size ≤ 63 → from + size ≤ length ids → from ≤ s → s < from + size → Roomy ids (midOf a (z - a) ws) s from size (e - a)
   room-roomy s from size slack few in₁ lo hi = record { few = few; spans = K .spans; inside = in₁; lower = lo; upper = hi; room = omega (arith, mid-length, room-order, room-long) }
+
+  -- the list before
+  old : take (e - a) (midOf a (z - a) ws) ≡ listAt ws m (11 * m) r
+  unfolding listAt part
+  old = rw (← ea, ← ee) (take-take (e - a) (z - a) (drop a ws) (omega (arith, room-order, room-long)))
+
+  pub room-prior : (s : ℕ) (cell prior : Spans) → Prior ids (listAt ws m (11 * m) r) s cell prior → Prior ids (take (e - a) (midOf a (z - a) ws)) s cell prior
+  room-prior s cell prior p = rw old p
 
   pub put-room : (part′ : List ℕ) → length part′ ≡ length (midOf a (z - a) ws) → 11 * m + 4 * m ≤ length (putMid a (z - a) ws part′)
   put-room part′ len = rw (same-len-mid a (z - a) ws part′ len) (omega (arith, K .room))
@@ -140,11 +149,7 @@ module _ (ids : List ℕ) (m top k : ℕ) (ws : List ℕ) (K : Keeping ids m top
         spare = λ x g. kept (5 * m + x) (omega arith);
       }
 
-      -- the old list and the new one
-      old : take (e - a) (midOf a (z - a) ws) ≡ listAt ws m (11 * m) r
-      unfolding listAt part
-      old = rw (← ea, ← ee) (take-take (e - a) (z - a) (drop a ws) (omega (arith, room-order, room-long)))
-
+      -- the new list
       new : listAt ws₂ m (11 * m) r ≡ onceAll (listAt ws m (11 * m) r) o
       unfolding listAt part
       new =

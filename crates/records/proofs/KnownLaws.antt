@@ -1,22 +1,22 @@
--- What a span takes from its cell, floors and overlap, its record keeps: floors only join, and overlap is only set (`Grows`). So once all spans of a cell
--- are added, its records have all that they take from it, and so have those of a cell with the same ids, layer by layer (`Known`). Assumes nothing.
+-- What a span takes from its cell its record keeps: floors only join, overlap is only set (`Grows`). So once a cell is done, its records have all that its
+-- spans take from it, and so have those of a cell with the same ids (`Known`); where some layers have the same, they have these (`Prior`). Assumes nothing.
 use Prim.Native.Nat.{ℕ, zero, suc, _+_, _-_, _≤_, _<_}
 use native.Mathlib.Omega.{arith}
 use native.Mathlib.Decide.{ℕ-discrete, decLt}
 use mathlib.Core.Path.{_≡_, refl, sym, ap, _∙_}
 use mathlib.Core.Bool.{Bool, true, false, not, false≢true}
 use mathlib.Core.List.{List, [], _∷_, _++_, map}
-use lib.ListN.{length, getD, set, length-set}
+use lib.ListN.{length, getD, length-set}
 use lib.Seq.{getD-set-same}
 use lib.Dec.{eqb}
 use borrow.Author.Tests.{eq-eqb, ne-eqb, eqb-true}
-use Rattle.rules.specs.Base.{_and_, _or_, if_then_else_, upto, keep, tab, any}
+use Rattle.rules.specs.Base.{_or_, if_then_else_, upto, keep, tab, any}
 use Rattle.rules.specs.Net.{Net}
 use Rattle.rules.specs.Growth.{plain}
 use Rattle.rules.specs.Records.{Rec, fresh, at, has, once, onceAll}
 use Rattle.laws.proofs.Basics.{if-ind, or-left, or-right, or-no, or-yes, store-cases}
 use Rattle.table.proofs.ViewLaws.{rec-eq}
-use Rattle.records.specs.Cell.{twin, twins, othersFrom, Alike}
+use Rattle.records.specs.Cell.{twin, twins, othersFrom, Alike, Within, Near, Prior}
 use Rattle.records.specs.Rows.{plusOne, overlaid, floored, celled, contoured, Took, Known}
 use Rattle.records.specs.Build.{added}
 use Rattle.records.specs.declared.cell.Spans.{Spans}
@@ -38,7 +38,7 @@ unfolding any
 has-last [] r = or-left (eqb r r) false (eq-eqb r r refl)
 has-last (x ∷ l) r = or-right (eqb r x) (has (l ++ (r ∷ [])) r) (has-last l r)
 
-once-keeps : (l : List ℕ) (r v : ℕ) → has l v ≡ true → has (once l r) v ≡ true
+pub once-keeps : (l : List ℕ) (r v : ℕ) → has l v ≡ true → has (once l r) v ≡ true
 unfolding once
 once-keeps l r v e = if-ind (λ (x : List ℕ). has x v ≡ true) (has l r) (λ _. e) (λ _. has-more l r v e)
 
@@ -225,3 +225,38 @@ known-alike ids a b rs k e = record { took = λ s l u pl. go s (s - b .from) (om
           floors = λ v y. rw (← same) (t .floors v (rw o y));
           overlap = λ y. rw (← same) (t .overlap (rw w y));
         })
+
+-- ---------------------------------------------------------------- two cells with some layers the same
+
+-- the id of another span, if it is plain, is one of the others'
+others-have : (ids : List ℕ) (s n t j : ℕ) → j < n → (t + j ≡ s → ⊥) → plain (getD ids (t + j) 0) ≡ true → has (othersFrom ids s n t) (getD ids (t + j) 0) ≡ true
+unfolding othersFrom keep tab any if_then_else_
+others-have ids s zero t j h k pl = absurd (omega arith)
+others-have ids s (suc n) t zero h k pl =
+    let a : t + 0 ≡ t = omega arith in
+    let e : eqb t s ≡ false = ne-eqb t s (λ z. k (omega arith)) in
+    let p : plain (getD ids t 0) ≡ true = rw a at pl in
+    let r = keep (λ x. not (eqb x s)) (tab n (suc t) (λ x. x)) in
+    rw (a, e, p) (or-left (eqb (getD ids t 0) (getD ids t 0)) (has (keep plain (map (λ x. getD ids x 0) r)) (getD ids t 0)) (eq-eqb (getD ids t 0) (getD ids t 0) refl))
+others-have ids s (suc n) t (suc j) h k pl =
+    let a : t + suc j ≡ suc t + j = omega arith in
+    let r = keep (λ x. not (eqb x s)) (tab n (suc t) (λ x. x)) in
+    let ih = others-have ids s n (suc t) j (omega arith) (λ z. k (omega arith)) (rw a at pl) in
+    rw a (later (not (eqb t s)) t r (getD ids (suc t + j) 0) ih)
+  where
+    later : (c : Bool) (t : ℕ) (r : List ℕ) (v : ℕ) → has (keep plain (map (λ x. getD ids x 0) r)) v ≡ true → has (keep plain (map (λ x. getD ids x 0) (if c then t ∷ r else r))) v ≡ true
+    later true t r v e = if-ind (λ (y : List ℕ). has y v ≡ true) (plain (getD ids t 0)) (λ _. or-right (eqb v (getD ids t 0)) (has (keep plain (map (λ x. getD ids x 0) r)) v) e) (λ _. e)
+    later false t r v e = e
+
+-- what the record of a span has from a cell that is known
+pub prior-known : (ids : List ℕ) (s : ℕ) (cell prior : Spans) (rs : List Rec) → Within ids s cell → plain (getD ids s 0) ≡ true → Known ids prior rs
+    → Prior ids (at rs (getD ids s 0) .floors) s cell prior
+prior-known ids s cell prior rs w pl k = record { listed = λ n j h d e y. go n j h d e y }
+  where
+    go : Near ids s cell prior → (j : ℕ) → j < cell .size → (cell .from + j ≡ s → ⊥) → getD ids (cell .from + j) 0 ≡ getD ids (prior .from + j) 0
+        → plain (getD ids (cell .from + j) 0) ≡ true → has (at rs (getD ids s 0) .floors) (getD ids (cell .from + j) 0) ≡ true
+    go n j h d e y =
+        let u = prior .from + (s - cell .from) in
+        let t = k .took u (omega arith) (omega (arith, n .size, w .lower, w .upper)) (rw (n .same) pl) in
+        let o = others-have ids u (prior .size) (prior .from) j (omega (arith, n .size)) (λ z. d (omega (arith, w .lower))) (rw e at y) in
+        rw (e, ← n .same) (t .floors (getD ids (prior .from + j) 0) o)

@@ -5,13 +5,14 @@ use Prim.Native.Nat.{ℕ, _+_, _≤_, _<_}
 use lib.ListN.{length, getD, set}
 use Rattle.rules.specs.Base.{if_then_else_, upto}
 use Rattle.rules.specs.Net.{Net}
+use Rattle.rules.specs.Field.{none}
 use Rattle.rules.specs.Growth.{plain}
 use Rattle.rules.specs.Records.{Rec, at}
 use Rattle.net.specs.Table.{netAt}
 use Rattle.contour.specs.Ways.{Ways}
 use Rattle.table.specs.Map.{recordsEnd}
 use Rattle.table.specs.View.{recsOf}
-use Rattle.records.specs.Cell.{Within, Lies}
+use Rattle.records.specs.Cell.{Within, Lies, asManyFrom, Some}
 use Rattle.records.specs.Rows.{Keeping, Known, celled, contoured}
 use Rattle.records.specs.Stock.{Reach}
 use Rattle.records.specs.declared.cell.Spans.{Spans}
@@ -53,6 +54,11 @@ pub record Entering (plan : Plan) (areas con ids : List ℕ) (cell : Spans) (top
 pub record Knowing (ids : List ℕ) (m : ℕ) (last : Spans) (ws : List ℕ) : Type 0 where
   pub known : Known ids last (recsOf ws m)
   pub lies : Lies ids last
+
+-- and so have those of a cell's spans from a prior cell that has as many, if there is one: it may be the cell itself
+pub record KnowingFrom (ids : List ℕ) (m : ℕ) (cell : Spans) (prior : ℕ) (ws : List ℕ) : Type 0 where
+  pub knowing : Some prior → Knowing ids m (asManyFrom prior cell) ws
+  pub place : prior ≤ none
 
 -- what its first j spans leave, and the pool's end t
 pub record Entered (plan : Plan) (areas ids : List ℕ) (cell : Spans) (j top : ℕ) (ws₀ : List ℕ) (t : ℕ) (ws : List ℕ) : Type 0 where

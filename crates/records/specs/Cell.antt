@@ -1,11 +1,13 @@
 -- The other spans of a cell, as the code goes through them.
 use mathlib.Core.Path.{_≡_}
-use mathlib.Core.Bool.{Bool, false, not}
+use mathlib.Core.Logic.{_⊎_}
+use mathlib.Core.Bool.{Bool, true, false, not}
 use mathlib.Core.List.{List, map}
 use Prim.Native.Nat.{ℕ, zero, suc, _+_, _-_, _≤_, _<_}
 use lib.ListN.{length, getD, take}
 use lib.Dec.{eqb, ltb}
 use Rattle.rules.specs.Base.{_and_, _or_, if_then_else_, keep, tab}
+use Rattle.rules.specs.Field.{none}
 use Rattle.rules.specs.Growth.{plain}
 use Rattle.rules.specs.Records.{has, once, onceAll}
 use Rattle.rules.specs.Refusals.{mostSpans}
@@ -61,6 +63,34 @@ pub record Within (ids : List ℕ) (s : ℕ) (cell : Spans) : Type 0 where
   pub lower : cell .from ≤ s
   pub upper : s < cell .from + cell .size
 
+-- a cell that begins at `prior` and has as many spans
+abbrev pub asManyFrom : ℕ → Spans → Spans
+asManyFrom prior cell = record { from = prior; size = cell .size }
+
+-- there is a prior cell
+abbrev pub Some : ℕ → Type 0
+Some prior = prior ≡ none → ⊥
+
+-- where to look back to: this cell itself, if it is like the last one or has few spans; or the last one, if it has as many
+pub record LooksTo (ids : List ℕ) (last cell : Spans) (prior : ℕ) : Type 0 where
+  pub seen : Some prior → ((prior ≡ cell .from) × (1 < cell .size → Alike ids last cell)) ⊎ ((prior ≡ last .from) × (last .size ≡ cell .size))
+
+-- a prior cell has as many spans, and in the layer of span s its id
+pub record Near (ids : List ℕ) (s : ℕ) (cell prior : Spans) : Type 0 where
+  pub size : prior .size ≡ cell .size
+  pub same : getD ids (prior .from + (s - cell .from)) 0 ≡ getD ids s 0
+
+-- where the id of span t, another than s, is that of span u, l has it, if it is one that joins
+pub record Unchanged (ids l : List ℕ) (s t u : ℕ) : Type 0 where
+  pub spans : length ids ≤ mostSpans
+  pub inside : u < length ids
+  pub listed : (t ≡ s → ⊥) → getD ids t 0 ≡ getD ids u 0 → plain (getD ids t 0) ≡ true → has l (getD ids t 0) ≡ true
+
+-- what the list l of span s has from a prior cell to which it is near: the ids of the other layers that have there the id that they have in its cell
+pub record Prior (ids l : List ℕ) (s : ℕ) (cell prior : Spans) : Type 0 where
+  pub listed : Near ids s cell prior → (j : ℕ) → j < cell .size → (cell .from + j ≡ s → ⊥) → getD ids (cell .from + j) 0 ≡ getD ids (prior .from + j) 0
+      → plain (getD ids (cell .from + j) 0) ≡ true → has l (getD ids (cell .from + j) 0) ≡ true
+
 -- s is one of the size spans from `from` on, and there is room for the others
 pub record Roomy (ids part : List ℕ) (s from size len : ℕ) : Type 0 where
   pub few : size ≤ 63
@@ -75,6 +105,7 @@ pub record Joining (ids part₀ : List ℕ) (s from size len : ℕ) (part : List
   pub low : j ≤ size
   pub length′ : length part ≡ length part₀
   pub within : k ≤ length part
+  pub keeps : (v : ℕ) → has (take len part₀) v ≡ true → has (take k part) v ≡ true
   pub same : onceAll (take len part₀) (othersFrom ids s size from) ≡ onceAll (take k part) (othersFrom ids s (size - j) (from + j))
   pub room₁ : from + j ≤ s → k + (size - j) ≤ length part + 1
   pub room₂ : s < from + j → k + (size - j) ≤ length part

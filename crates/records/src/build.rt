@@ -18,10 +18,8 @@ ghost use lib.ListN.{length, getD};
 ghost use Rattle.rules.specs.Growth.{plain};
 ghost use Rattle.field.specs.Lent.{lent};
 ghost use Rattle.table.specs.Map.{recordsEnd};
-ghost use Rattle.table.specs.View.{recsOf};
-ghost use Rattle.records.specs.Rows.{Known};
 ghost use Rattle.records.specs.Stock.{Given, Blank, Built};
-ghost use Rattle.records.specs.Build.{spansAt, Standing, Added, Entering, Entered, Knowing};
+ghost use Rattle.records.specs.Build.{spansAt, Standing, Added, Entering, Entered, Knowing, KnowingFrom};
 
 // A span of a region is added to its record. Gives the pool's new end.
 fn count_span(
@@ -31,16 +29,16 @@ fn count_span(
     ws: &mut [u16],
     plan: Plan,
     cell: Spans,
-    known: bool,
+    prior: usize,
     span: SpanIx,
     top: usize,
 ) -> usize
     requires { ⌜ Standing plan (now area) (now con) (now ids) cell (span .0) top (now ws) × (plain (getD (now ids) (span .0) 0) ≡ true) ⌝ }
-    requires { ⌜ (known ≡ true → Known (now ids) cell (recsOf (now ws) (plan .records))) ⌝ }
+    requires { ⌜ KnowingFrom (now ids) (plan .records) cell prior (now ws) ⌝ }
     ensures { λ t. ⌜ Added plan (now (area .entry)) (now (ids .entry)) cell (span .0) (now (ws .entry)) t (now (ws .exit)) ⌝ }
 {
     let r = at(ids, span.0);
-    add_cell(ids, ws, plan.records, top, span, r, cell, known);
+    add_cell(ids, ws, plan.records, top, span, r, cell, prior);
     add_contour(area, con, ids, ws, plan, span, r, top)
 }
 
@@ -52,12 +50,12 @@ fn add_span(
     ws: &mut [u16],
     plan: Plan,
     cell: Spans,
-    known: bool,
+    prior: usize,
     span: SpanIx,
     top: usize,
 ) -> usize
     requires { ⌜ Standing plan (now area) (now con) (now ids) cell (span .0) top (now ws) ⌝ }
-    requires { ⌜ (known ≡ true → Known (now ids) cell (recsOf (now ws) (plan .records))) ⌝ }
+    requires { ⌜ KnowingFrom (now ids) (plan .records) cell prior (now ws) ⌝ }
     ensures { λ t. ⌜ Added plan (now (area .entry)) (now (ids .entry)) cell (span .0) (now (ws .entry)) t (now (ws .exit)) ⌝ }
 {
     let s = span.0;
@@ -68,10 +66,10 @@ fn add_span(
     if RegionId(r).is_border() {
         return top;
     }
-    count_span(area, con, ids, ws, plan, cell, known, span, top)
+    count_span(area, con, ids, ws, plan, cell, prior, span, top)
 }
 
-// All spans of a cell, layer by layer. Where it is known that their records have what they take from the cell, it is not looked for again.
+// All spans of a cell, layer by layer. What their records have from the prior cell is not looked for again.
 fn add_spans(
     area: &[u8],
     con: &[u8],
@@ -79,11 +77,11 @@ fn add_spans(
     ws: &mut [u16],
     plan: Plan,
     cell: Spans,
-    known: bool,
+    prior: usize,
     top: usize,
 ) -> usize
     requires { ⌜ Entering plan (now area) (now con) (now ids) cell top (now ws) ⌝ }
-    requires { ⌜ (known ≡ true → Known (now ids) cell (recsOf (now ws) (plan .records))) ⌝ }
+    requires { ⌜ KnowingFrom (now ids) (plan .records) cell prior (now ws) ⌝ }
     ensures { λ t. ⌜ Entered plan (now (area .entry)) (now (ids .entry)) cell (cell .size) top (now (ws .entry)) t (now (ws .exit)) ⌝ }
 {
     let mut end = top;
@@ -95,7 +93,7 @@ fn add_spans(
             ws,
             plan,
             cell,
-            known,
+            prior,
             cell.at(Layer(j as u8)),
             end,
         );
@@ -148,7 +146,7 @@ fn add_cell_at(
     let back = look_back(ids, last, cell);
     let next = back.last;
     SoFar {
-        top: add_spans(area, con, ids, ws, plan, cell, back.known, t.top),
+        top: add_spans(area, con, ids, ws, plan, cell, back.prior, t.top),
         last: next,
     }
 }

@@ -1,5 +1,6 @@
 // The other spans of a cell.
 use field::place::Layer;
+use field::place::NO_SPAN;
 use field::place::SpanIx;
 use region::RegionId;
 use table::place;
@@ -9,9 +10,10 @@ ghost use Prim.Native.Nat.{_+_, _≤_, _<_};
 ghost use lib.ListN.{length, getD, take};
 ghost use lib.Dec.{ltb};
 ghost use Rattle.rules.specs.Base.{_or_, if_then_else_};
+ghost use Rattle.rules.specs.Field.{none};
 ghost use Rattle.rules.specs.Records.{once, onceAll};
 ghost use Rattle.rules.specs.Refusals.{mostSpans};
-ghost use Rattle.records.specs.Cell.{twin, twins, othersFrom, joinOne, Lies, Alike, Found, JoinedOne, JoinedAll, Roomy};
+ghost use Rattle.records.specs.Cell.{twin, twins, othersFrom, joinOne, Lies, Alike, Found, JoinedOne, JoinedAll, Within, Roomy, Near, Unchanged, Prior, asManyFrom, Some, LooksTo};
 
 // The spans of a cell: size of them, from `from` on. Two numbers of one size: bytes that no field has would be copied with each cell (docs/PERFORMANCE.md).
 pub struct Spans {
@@ -44,51 +46,51 @@ fn same(l: &[u16], k: &[u16]) -> bool
     true
 }
 
-// Have the spans of two cells the same ids, layer by layer? A no decides only how fast.
+// Have the spans of two cells with as many the same ids, layer by layer? A no decides only how fast.
 fn alike(ids: &[u16], last: Spans, cell: Spans) -> bool
-    requires { ⌜ (length (now ids) ≤ mostSpans) × Lies (now ids) last × Lies (now ids) cell × (0 < cell .size) ⌝ }
+    requires { ⌜ (length (now ids) ≤ mostSpans) × Lies (now ids) last × Lies (now ids) cell × (0 < cell .size) × (last .size ≡ cell .size) ⌝ }
     ensures { λ r. ⌜ (r ≡ true → Alike (now (ids .entry)) last cell) ⌝ }
 {
-    if last.size != cell.size {
-        return false;
-    }
     let n = cell.size;
     let a = last.from;
     let b = cell.from;
     same(&ids[b..b + n], &ids[a..a + n])
 }
 
-// The last cell with several spans, and whether the records of this one's have all that these take from it. Filled up, as `Spans` is without gaps.
+// The last cell with several spans, and where the one begins from which the records of this one's have something; NO_SPAN where that is none. A cell that
+// begins where this one does has as many spans as this one: it is this one, and they have all.
 pub struct Looked {
     pub last: Spans,
-    pub known: bool,
-    pub fill1: u8,
-    pub fill2: u16,
-    pub fill4: u32,
+    pub prior: usize,
 }
 
 // The records of the last cell's spans have what these take from theirs; so have others with the same ids, layer by layer; and a span alone in its cell
-// takes nothing.
+// takes nothing. Of a cell with as many spans they have what the layers with the same ids take from each other.
 pub(crate) fn look_back(ids: &[u16], last: Spans, cell: Spans) -> Looked
     requires { ⌜ (length (now ids) ≤ mostSpans) × Lies (now ids) last × Lies (now ids) cell ⌝ }
-    ensures { λ r. ⌜ (r .last ≡ (if ltb 1 (cell .size) then cell else last)) ⌝ }
-    ensures { λ r. ⌜ (r .known ≡ true → 1 < cell .size → Alike (now (ids .entry)) last cell) ⌝ }
+    ensures { λ r. ⌜ (r .last ≡ (if ltb 1 (cell .size) then cell else last)) × LooksTo (now (ids .entry)) last cell (r .prior) ⌝ }
 {
     if cell.size < 2 {
         return Looked {
             last,
-            known: true,
-            fill1: 0,
-            fill2: 0,
-            fill4: 0,
+            prior: cell.from,
+        };
+    }
+    if last.size != cell.size {
+        return Looked {
+            last: cell,
+            prior: NO_SPAN,
+        };
+    }
+    if alike(ids, last, cell) {
+        return Looked {
+            last: cell,
+            prior: cell.from,
         };
     }
     Looked {
         last: cell,
-        known: alike(ids, last, cell),
-        fill1: 0,
-        fill2: 0,
-        fill4: 0,
+        prior: last.from,
     }
 }
 
@@ -167,15 +169,66 @@ fn join_one(ids: &[u16], part: &mut [u16], span: SpanIx, other: SpanIx, l: Liste
     add_unique_floor_region(part, l, r)
 }
 
+// Has the prior cell, if there is one, the span's id in its layer? A no decides only how fast.
+fn is_near(ids: &[u16], span: SpanIx, cell: Spans, prior: usize) -> bool
+    requires { ⌜ (length (now ids) ≤ mostSpans) × Within (now ids) (span .0) cell × (Some prior → Lies (now ids) (asManyFrom prior cell)) ⌝ }
+    ensures { λ r. ⌜ (r ≡ true → Some prior × Near (now (ids .entry)) (span .0) cell (asManyFrom prior cell)) ⌝ }
+{
+    if prior == NO_SPAN {
+        return false;
+    }
+    let s = span.0;
+    let t = prior + (s - cell.from);
+    ids[t] == ids[s]
+}
+
+// As join_one; but of a span near the prior cell's, a layer that has the id that it had there is passed over: the list has that id already, or it is none
+// that joins.
+fn join_changed(
+    ids: &[u16],
+    part: &mut [u16],
+    span: SpanIx,
+    other: SpanIx,
+    before: usize,
+    near: bool,
+    l: Listed,
+) -> Listed
+    requires { ⌜ other .0 < length (now ids) ⌝ }
+    requires { ⌜ l .len ≤ length (now part) ⌝ }
+    requires { ⌜ ((other .0 ≡ span .0 → ⊥) → l .len < length (now part)) ⌝ }
+    requires { ⌜ (near ≡ true → Unchanged (now ids) (take (l .len) (now part)) (span .0) (other .0) before) ⌝ }
+    ensures { λ k. ⌜ (let joined = joinOne (now (ids .entry)) (span .0) (other .0) (take (l .len) (now (part .entry))) in
+        JoinedOne joined (l .len) (now (part .exit)) (k .len)) ⌝ }
+    ensures { λ k. ⌜ (other .0 ≡ span .0 → k .len ≡ l .len) ⌝ }
+{
+    if near {
+        let t = other.0;
+        if ids[t] == ids[before] {
+            return l;
+        }
+    }
+    join_one(ids, part, span, other, l)
+}
+
 // What a span takes from its cell: the length of its record's floor list, and whether another span has its id.
 pub struct Taken {
     pub len: usize,
     pub twin: bool,
 }
 
-// The ids of the cell's other spans join the list of the first len; on the same walk the span's own id is looked for.
-pub(crate) fn join(ids: &[u16], part: &mut [u16], span: SpanIx, cell: Spans, len: usize) -> Taken
+// The ids of the cell's other spans join the list of the first len; on the same walk the span's own id is looked for. What the list has from the prior
+// cell is not looked for again.
+pub(crate) fn join(
+    ids: &[u16],
+    part: &mut [u16],
+    span: SpanIx,
+    cell: Spans,
+    prior: usize,
+    len: usize,
+) -> Taken
     requires { ⌜ Roomy (now ids) (now part) (span .0) (cell .from) (cell .size) len ⌝ }
+    requires { ⌜ (Some prior → Lies (now ids) (asManyFrom prior cell)) ⌝ }
+    requires { ⌜ (Some prior → Prior (now ids) (take len (now part)) (span .0) cell (asManyFrom prior cell)) × (prior ≤ none) ⌝ }
     ensures { λ k. ⌜ (let others = othersFrom (now (ids .entry)) (span .0) (cell .size) (cell .from) in
         JoinedAll (onceAll (take len (now (part .entry))) others) len (now (part .exit)) (k .len)) ⌝ }
     ensures { λ k. ⌜ (let own = getD (now (ids .entry)) (span .0) 0 in
@@ -183,12 +236,13 @@ pub(crate) fn join(ids: &[u16], part: &mut [u16], span: SpanIx, cell: Spans, len
 {
     let s = span.0;
     let own = ids[s];
+    let near = is_near(ids, span, cell, prior);
     let mut l = Listed { len, next: 0 };
     let mut twin = false;
     for j in 0..cell.size {
         let other = cell.at(Layer(j as u8));
         twin = met(ids, other, span, own, twin);
-        l = join_one(ids, part, span, other, l);
+        l = join_changed(ids, part, span, other, prior + j, near, l);
     }
     Taken { len: l.len, twin }
 }

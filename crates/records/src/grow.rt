@@ -24,16 +24,17 @@ ghost use mathlib.Core.Path.{_≡_};
 ghost use mathlib.Core.Bool.{true};
 ghost use Prim.Native.Nat.{_+_, _*_, _≤_, _<_};
 ghost use lib.ListN.{length, getD};
+ghost use Rattle.rules.specs.Field.{none};
 ghost use Rattle.rules.specs.Growth.{plain};
-ghost use Rattle.rules.specs.Records.{at};
 ghost use Rattle.net.specs.Table.{netAt};
 ghost use Rattle.contour.specs.Pool.{Start};
 ghost use Rattle.table.specs.Map.{spareAt, poolAt};
-ghost use Rattle.table.specs.View.{listStart, listEnd, recsOf};
+ghost use Rattle.table.specs.View.{listStart, listEnd, floorsIn};
 ghost use Rattle.records.specs.Map.{poolIn};
-ghost use Rattle.records.specs.Cell.{twins, othersFrom, Within};
-ghost use Rattle.records.specs.Rows.{Keeping, Took, Step, Slack, Traced, traced, tracedCut, marked, cutMarked, floored, withContour, contoured, celled};
+ghost use Rattle.records.specs.Cell.{twins, othersFrom, Within, Lies, Prior, asManyFrom, Some};
+ghost use Rattle.records.specs.Rows.{Keeping, Step, Slack, Traced, traced, tracedCut, marked, cutMarked, floored, withContour, contoured, celled};
 ghost use Rattle.records.specs.Stock.{Reach};
+ghost use Rattle.records.specs.Build.{KnowingFrom};
 
 // Overlap is set where another span of a cell has the id r too.
 fn add_overlap(ws: &mut [u16], m: usize, r: usize, twin: bool)
@@ -55,8 +56,11 @@ fn add_floors(
     span: SpanIx,
     r: usize,
     cell: Spans,
+    prior: usize,
 ) -> bool
     requires { ⌜ Keeping (now ids) m top (span .0 + 1) (now ws) × (r < m) × Slack m r (now ws) × Within (now ids) (span .0) cell ⌝ }
+    requires { ⌜ (Some prior → Lies (now ids) (asManyFrom prior cell)) ⌝ }
+    requires { ⌜ (Some prior → Prior (now ids) (floorsIn (now ws) m r) (span .0) cell (asManyFrom prior cell)) × (prior ≤ none) ⌝ }
     ensures { λ b. ⌜ (let others = othersFrom (now (ids .entry)) (span .0) (cell .size) (cell .from) in
         Step (floored others) (now (ids .entry)) m r top (span .0 + 1) (now (ws .entry)) (now (ws .exit))) ⌝ }
     ensures { λ b. ⌜ (let own = getD (now (ids .entry)) (span .0) 0 in
@@ -66,7 +70,7 @@ fn add_floors(
     let end = end_of(ws, m, FLOORS * m, r);
     let limit = start + FLOOR_ROOM * at(ws, m + r);
     let len = end - start;
-    let taken = join(ids, &mut ws[start..limit], span, cell, len);
+    let taken = join(ids, &mut ws[start..limit], span, cell, prior, len);
     let listed = taken.len;
     if listed == len {
         return taken.twin;
@@ -166,8 +170,8 @@ pub(crate) fn add_contour(
     add_list(con, ids, ws, plan, span, r, top)
 }
 
-// The span, of id r, adds one to its record; of its cell it takes floors and overlap, unless the record is known to have them. What the pool has, up to
-// top, only the contract reads.
+// The span, of id r, adds one to its record; of its cell it takes floors and overlap, unless the record is known to have them: all, or what it has from
+// the prior cell. What the pool has, up to top, only the contract reads.
 pub(crate) fn add_cell(
     ids: &[u16],
     ws: &mut [u16],
@@ -176,18 +180,18 @@ pub(crate) fn add_cell(
     span: SpanIx,
     r: usize,
     cell: Spans,
-    known: bool,
+    prior: usize,
 )
     requires { ⌜ Keeping (now ids) m top (span .0) (now ws) × Within (now ids) (span .0) cell ⌝ }
     requires { ⌜ (r ≡ getD (now ids) (span .0) 0) × (plain (getD (now ids) (span .0) 0) ≡ true) ⌝ }
-    requires { ⌜ (known ≡ true → Took (now ids) (span .0) (cell .size) (cell .from) (at (recsOf (now ws) m) r)) ⌝ }
+    requires { ⌜ KnowingFrom (now ids) m cell prior (now ws) ⌝ }
     ensures { λ _. ⌜ (let f = celled (now (ids .entry)) (span .0) (cell .size) (cell .from) in
         Step f (now (ids .entry)) m r top (span .0 + 1) (now (ws .entry)) (now (ws .exit))) ⌝ }
 {
     ws[m + r] += 1;
-    if known {
+    if prior == cell.from {
         return;
     }
-    let twin = add_floors(ids, ws, m, top, span, r, cell);
+    let twin = add_floors(ids, ws, m, top, span, r, cell, prior);
     add_overlap(ws, m, r, twin);
 }

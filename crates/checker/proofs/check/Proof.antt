@@ -21,19 +21,39 @@ returns-4 : tie.Need-returns-4
 returns-4 c = search (needs, refused-3)
 
 cells-ok-requires : tie.Need-cells-ok-requires
-cells-ok-requires c κs = (same-cells _ _ _ _ _ _ _ _ (c .before .before .before .before .if1 .left) (c .before .before .before .if2 .left) (c .before .before .if3 .left) _ (c .before .lengths-ok .ensures) (c .if4 .taken), few-cells _ _ _ _ _ _ _ _ (c .before .before .before .before .if1 .left) (c .before .before .before .if2 .left) (c .before .before .if3 .left) _ (c .before .lengths-ok .ensures) (c .if4 .taken))
+cells-ok-requires c κs =
+    let at-lengths-ok = c .before in
+    let at-if3 = at-lengths-ok .before in
+    let at-if2 = at-if3 .before in
+    let at-if1 = at-if2 .before in
+    (same-cells _ _ _ _ _ _ _ _ (at-if1 .if1 .left) (at-if2 .if2 .left) (at-if3 .if3 .left) _ (at-lengths-ok .lengths-ok .ensures) (c .if4 .taken), few-cells _ _ _ _ _ _ _ _ (at-if1 .if1 .left) (at-if2 .if2 .left) (at-if3 .if3 .left) _ (at-lengths-ok .lengths-ok .ensures) (c .if4 .taken))
 
 returns-5 : tie.Need-returns-5
 returns-5 c = search (needs, refused-4)
 
 links-ok-requires : tie.Need-links-ok-requires
-links-ok-requires c κs = checked-cells _ _ _ _ _ _ _ _ (c .before .before .before .before .before .before .if1 .left) (c .before .before .before .before .before .if2 .left) (c .before .before .before .before .if3 .left) _ (c .before .before .before .lengths-ok .ensures) (c .before .before .if4 .taken) _ (c .before .cells-ok .ensures) (c .if5 .taken)
+links-ok-requires c κs =
+    let at-cells-ok = c .before in
+    let at-if4 = at-cells-ok .before in
+    let at-lengths-ok = at-if4 .before in
+    let at-if3 = at-lengths-ok .before in
+    let at-if2 = at-if3 .before in
+    let at-if1 = at-if2 .before in
+    checked-cells _ _ _ _ _ _ _ _ (at-if1 .if1 .left) (at-if2 .if2 .left) (at-if3 .if3 .left) _ (at-lengths-ok .lengths-ok .ensures) (at-if4 .if4 .taken) _ (at-cells-ok .cells-ok .ensures) (c .if5 .taken)
 
 returns-6 : tie.Need-returns-6
 returns-6 c = search (needs, refused-none)
 
 reach-ok-requires : tie.Need-reach-ok-requires
-reach-ok-requires c κs = checked-cells _ _ _ _ _ _ _ _ (c .before .before .before .before .before .before .before .before .if1 .left) (c .before .before .before .before .before .before .before .if2 .left) (c .before .before .before .before .before .before .if3 .left) _ (c .before .before .before .before .before .lengths-ok .ensures) (c .before .before .before .before .if4 .taken) _ (c .before .before .before .cells-ok .ensures) (c .before .before .if5 .taken)
+reach-ok-requires c κs =
+    let at-if5 = c .before .before in
+    let at-cells-ok = at-if5 .before in
+    let at-if4 = at-cells-ok .before in
+    let at-lengths-ok = at-if4 .before in
+    let at-if3 = at-lengths-ok .before in
+    let at-if2 = at-if3 .before in
+    let at-if1 = at-if2 .before in
+    checked-cells _ _ _ _ _ _ _ _ (at-if1 .if1 .left) (at-if2 .if2 .left) (at-if3 .if3 .left) _ (at-lengths-ok .lengths-ok .ensures) (at-if4 .if4 .taken) _ (at-cells-ok .cells-ok .ensures) (at-if5 .if5 .taken)
 
 returns-7 : tie.Need-returns-7
 returns-7 c = search (needs, refused-5)

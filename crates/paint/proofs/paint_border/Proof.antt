@@ -7,7 +7,9 @@ use Rattle.paint.proofs.paint_border.Statement.{statement}
 use Rattle.paint.proofs.paint_border.Tie as tie
 
 returns : tie.Need-returns
-returns c = (λ F a b d e. border-none _ _ _ (c .if1 .taken) (c .before .before .before .before .before .pre .2) _ _ _ F a b d e, first-none _ (c .if1 .taken))
+returns c =
+    let start = c .before .before .before .before .before in
+    (λ F a b d e. border-none _ _ _ (c .if1 .taken) (start .pre .2) _ _ _ F a b d e, first-none _ (c .if1 .taken))
 
 wide16-requires : tie.Need-wide16-requires
 wide16-requires c κs = search needs

@@ -25,7 +25,12 @@ same-length-3 : tie.Need-same-length-3
 same-length-3 c = search needs
 
 returns : tie.Need-returns
-returns c = passes-done _ _ _ _ _ _ _ _ _ _ _ _ _ _ _ _ _ _ (c .before .before .before .before .before .before .before .before .before .before .before .before .before .before .before .before .before .before .before .before .before .before .before .pre .1) (c .before .before .before .before .before .before .before .before .before .before .before .before .before .before .before .row-before .ensures) (c .before .before .before .before .before .before .before .before .before .before .before .before .redo-pass1 .ensures .0) (c .before .before .before .before .before .before .before .before .before .before .before .before .redo-pass1 .ensures .1) (c .before .before .before .before .before .before .before .before .before .before .before .before .redo-pass1 .ensures .2) (c .before .before .before .before .before .before .before .before .before .before .before .before .redo-pass1 .ensures .4) (c .before .before .before .before .redo-pass2 .ensures .0) (c .before .before .before .before .redo-pass2 .ensures .1) (c .before .before .before .before .redo-pass2 .ensures .2) (c .before .before .before .before .redo-pass2 .ensures .3)
+returns c =
+    let at-redo-pass2 = c .before .before .before .before in
+    let at-redo-pass1 = at-redo-pass2 .before .before .before .before .before .before .before .before in
+    let at-row-before = at-redo-pass1 .before .before .before in
+    let start = at-row-before .before .before .before .before .before .before .before .before in
+    passes-done _ _ _ _ _ _ _ _ _ _ _ _ _ _ _ _ _ _ (start .pre .1) (at-row-before .row-before .ensures) (at-redo-pass1 .redo-pass1 .ensures .0) (at-redo-pass1 .redo-pass1 .ensures .1) (at-redo-pass1 .redo-pass1 .ensures .2) (at-redo-pass1 .redo-pass1 .ensures .4) (at-redo-pass2 .redo-pass2 .ensures .0) (at-redo-pass2 .redo-pass2 .ensures .1) (at-redo-pass2 .redo-pass2 .ensures .2) (at-redo-pass2 .redo-pass2 .ensures .3)
 
 pub redo-passes-spec : {M : Type 1} → statement M
 redo-passes-spec =

@@ -32,7 +32,10 @@ same-length-2 : tie.Need-same-length-2
 same-length-2 c = search needs
 
 returns : tie.Need-returns
-returns c = search (needs, out-refused (c .before .before .before .before .before .before .before .before .before .before .before .before .before .args .w) (c .before .before .before .before .before .before .before .before .before .before .before .before .before .args .h) (now (c .before .before .before .before .before .before .before .before .before .before .before .before .before .args .index)) (now (c .before .before .before .before .before .before .before .before .before .before .before .before .before .args .count)) (now (c .before .before .before .before .before .before .before .before .before .before .before .before .before .args .area)) (now (c .before .before .before .before .before .before .before .before .before .before .before .before .before .args .con)) (now (c .before .before .before .before .before .before .before .before .before .before .before .before .before .args .pass1)) (now (c .before .before .before .before .before .before .before .before .before .before .before .before .before .args .raw)) (now (c .before .before .before .before .before .before .before .before .before .before .before .before .before .args .blurred)) (c .before .before .before .before .before .before .before .before .before .before .before .before .before .args .x0) (c .before .before .before .before .before .before .before .before .before .before .before .before .before .args .z0) (c .before .before .before .before .before .before .before .before .before .before .before .before .before .args .x1) (c .before .before .before .before .before .before .before .before .before .before .before .before .before .args .z1) (c .before .before .before .check-refresh .result) (c .before .before .before .check-refresh .ensures))
+returns c =
+    let at-check-refresh = c .before .before .before in
+    let start = at-check-refresh .before .before .before .before .before .before .before .before .before .before in
+    search (needs, out-refused (start .args .w) (start .args .h) (now (start .args .index)) (now (start .args .count)) (now (start .args .area)) (now (start .args .con)) (now (start .args .pass1)) (now (start .args .raw)) (now (start .args .blurred)) (start .args .x0) (start .args .z0) (start .args .x1) (start .args .z1) (at-check-refresh .check-refresh .result) (at-check-refresh .check-refresh .ensures))
 
 same-length-3 : tie.Need-same-length-3
 same-length-3 c = search needs

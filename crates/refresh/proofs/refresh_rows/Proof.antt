@@ -27,22 +27,44 @@ greatest-requires : tie.Need-greatest-requires
 greatest-requires c κs = search needs
 
 cast-t34 : tie.Need-cast-t34
-cast-t34 c = first-number _ _ _ _ _ _ (c .before .before .before .before .before .before .before .before .before .before .before .before .before .before .before .before .before .before .before .before .before .before .before .before .before .before .pre .0) _ _ _ _ _ _ _ _ _ _ _ (c .before .before .before .before .before .before .before .before .before .before .before .before .before .before .before .redo-passes .ensures)
+cast-t34 c =
+    let at-redo-passes = c .before .before .before .before .before .before .before .before .before .before .before .before .before .before .before in
+    let start = at-redo-passes .before .before .before .before .before .before .before .before .before .before .before in
+    first-number _ _ _ _ _ _ (start .pre .0) _ _ _ _ _ _ _ _ _ _ _ (at-redo-passes .redo-passes .ensures)
 
 cast-t35 : tie.Need-cast-t35
-cast-t35 c = last-number _ _ _ _ _ _ (c .before .before .before .before .before .before .before .before .before .before .before .before .before .before .before .before .before .before .before .before .before .before .before .before .before .before .pre .0) _ _ _ _ _ _ _ _ _ _ _ (c .before .before .before .before .before .before .before .before .before .before .before .before .before .before .before .redo-passes .ensures)
+cast-t35 c =
+    let at-redo-passes = c .before .before .before .before .before .before .before .before .before .before .before .before .before .before .before in
+    let start = at-redo-passes .before .before .before .before .before .before .before .before .before .before .before in
+    last-number _ _ _ _ _ _ (start .pre .0) _ _ _ _ _ _ _ _ _ _ _ (at-redo-passes .redo-passes .ensures)
 
 cast-t36 : tie.Need-cast-t36
-cast-t36 c = top-number _ _ _ _ _ _ (c .before .before .before .before .before .before .before .before .before .before .before .before .before .before .before .before .before .before .before .before .before .before .before .before .before .before .pre .0) _ _ _ _ _ _ _ _ _ _ _ (c .before .before .before .before .before .before .before .before .before .before .before .before .before .before .before .redo-passes .ensures)
+cast-t36 c =
+    let at-redo-passes = c .before .before .before .before .before .before .before .before .before .before .before .before .before .before .before in
+    let start = at-redo-passes .before .before .before .before .before .before .before .before .before .before .before in
+    top-number _ _ _ _ _ _ (start .pre .0) _ _ _ _ _ _ _ _ _ _ _ (at-redo-passes .redo-passes .ensures)
 
 cast-t37 : tie.Need-cast-t37
-cast-t37 c = last-number _ _ _ _ _ _ (c .before .before .before .before .before .before .before .before .before .before .before .before .before .before .before .before .before .before .before .before .before .before .before .before .before .before .pre .0) _ _ _ _ _ _ _ _ _ _ _ (c .before .before .before .before .before .before .before .before .before .before .before .before .before .before .before .redo-passes .ensures)
+cast-t37 c =
+    let at-redo-passes = c .before .before .before .before .before .before .before .before .before .before .before .before .before .before .before in
+    let start = at-redo-passes .before .before .before .before .before .before .before .before .before .before .before in
+    last-number _ _ _ _ _ _ (start .pre .0) _ _ _ _ _ _ _ _ _ _ _ (at-redo-passes .redo-passes .ensures)
 
 cast-t38 : tie.Need-cast-t38
-cast-t38 c = low-number _ _ _ _ _ _ (c .before .before .before .before .before .before .before .before .before .before .before .before .before .before .before .before .before .before .before .before .before .before .before .before .before .before .pre .0) _ _ _ _ _ _ _ _ _ _ _ (c .before .before .before .before .before .before .before .before .before .before .before .before .before .before .before .redo-passes .ensures) _ _ (c .before .before .before .before .before .before .before .before .row-before .ensures) (c .before .before .before .before .before .before .before .lesser .ensures)
+cast-t38 c =
+    let at-lesser = c .before .before .before .before .before .before .before in
+    let at-row-before = at-lesser .before in
+    let at-redo-passes = at-row-before .before .before .before .before .before .before .before in
+    let start = at-redo-passes .before .before .before .before .before .before .before .before .before .before .before in
+    low-number _ _ _ _ _ _ (start .pre .0) _ _ _ _ _ _ _ _ _ _ _ (at-redo-passes .redo-passes .ensures) _ _ (at-row-before .row-before .ensures) (at-lesser .lesser .ensures)
 
 cast-t39 : tie.Need-cast-t39
-cast-t39 c = high-number _ _ _ _ _ _ (c .before .before .before .before .before .before .before .before .before .before .before .before .before .before .before .before .before .before .before .before .before .before .before .before .before .before .pre .0) _ _ _ _ _ _ _ _ _ _ _ (c .before .before .before .before .before .before .before .before .before .before .before .before .before .before .before .redo-passes .ensures) _ _ (c .before .before .before .before .before .before .before .before .row-before .ensures) (c .before .before .before .before .before .before .before .lesser .ensures)
+cast-t39 c =
+    let at-lesser = c .before .before .before .before .before .before .before in
+    let at-row-before = at-lesser .before in
+    let at-redo-passes = at-row-before .before .before .before .before .before .before .before in
+    let start = at-redo-passes .before .before .before .before .before .before .before .before .before .before .before in
+    high-number _ _ _ _ _ _ (start .pre .0) _ _ _ _ _ _ _ _ _ _ _ (at-redo-passes .redo-passes .ensures) _ _ (at-row-before .row-before .ensures) (at-lesser .lesser .ensures)
 
 same-length : tie.Need-same-length
 same-length c = search needs
@@ -54,7 +76,13 @@ same-length-3 : tie.Need-same-length-3
 same-length-3 c = search needs
 
 returns : tie.Need-returns
-returns c = all-refreshed _ _ _ _ _ _ (c .before .before .before .before .before .before .before .before .before .before .before .before .before .before .before .before .before .before .before .before .before .before .before .before .before .before .pre .0) _ _ _ _ _ _ _ _ _ _ _ (c .before .before .before .before .before .before .before .before .before .before .before .before .before .before .before .redo-passes .ensures) _ _ _ _ (c .before .before .before .before .before .before .before .before .row-before .ensures) (c .before .before .before .before .before .before .before .lesser .ensures) (c .before .before .before .before .before .before .before .before .before .before .before .before .before .before .before .before .before .before .before .before .before .before .before .before .before .before .pre .5) (c .before .before .before .before .blur-rows .ensures) (c .greatest .ensures)
+returns c =
+    let at-blur-rows = c .before .before .before .before in
+    let at-lesser = at-blur-rows .before .before .before in
+    let at-row-before = at-lesser .before in
+    let at-redo-passes = at-row-before .before .before .before .before .before .before .before in
+    let start = at-redo-passes .before .before .before .before .before .before .before .before .before .before .before in
+    all-refreshed _ _ _ _ _ _ (start .pre .0) _ _ _ _ _ _ _ _ _ _ _ (at-redo-passes .redo-passes .ensures) _ _ _ _ (at-row-before .row-before .ensures) (at-lesser .lesser .ensures) (start .pre .5) (at-blur-rows .blur-rows .ensures) (c .greatest .ensures)
 
 pub refresh-rows-spec : {M : Type 1} → statement M
 refresh-rows-spec =

@@ -48,7 +48,13 @@ loop-less : tie.Need-loop-less Inv-loop μ-loop
 loop-less c = search needs
 
 loop-again : tie.Need-loop-again Inv-loop μ-loop
-loop-again c = (search needs, search needs, blur-go _ _ _ _ _ _ _ _ _ _ _ _ _ _ (c .before .before .before .before .before .before .before .before .before .before .before .pre .0) (c .before .before .before .before .at32 .ensures .0) (c .before .before .before .at8 .ensures .0) (c .before .loop-test .taken) (c .before .before .loop .inv .2) (c .blur-span .ensures))
+loop-again c =
+    let at-loop-test = c .before in
+    let head = at-loop-test .before in
+    let at-at8 = head .before in
+    let at-at32 = at-at8 .before in
+    let start = at-at32 .before .before .before .before .before .before .before in
+    (search needs, search needs, blur-go _ _ _ _ _ _ _ _ _ _ _ _ _ _ (start .pre .0) (at-at32 .at32 .ensures .0) (at-at8 .at8 .ensures .0) (at-loop-test .loop-test .taken) (head .loop .inv .2) (c .blur-span .ensures))
 
 same-length : tie.Need-same-length Inv-loop μ-loop
 same-length c = search needs

@@ -26,7 +26,11 @@ at16-requires : tie.Need-at16-requires Inv-loop μ-loop
 at16-requires c κs = search needs
 
 blur-span-requires : tie.Need-blur-span-requires Inv-loop μ-loop
-blur-span-requires c κs = blur-sized _ _ _ _ (c .before .before .before .before .before .before .before .before .before .before .pre .0) (c .before .before .before .before .before .before .before .before .before .before .pre .1) (blur-stands _ _ _ _ _ _ _ (c .before .before .before .before .before .before .before .before .before .before .pre .2) (c .before .before .before .loop .inv .3) (c .before .before .loop-test .taken) (c .before .before .before .loop .inv .1) (c .at16 .ensures .0))
+blur-span-requires c κs =
+    let at-loop-test = c .before .before in
+    let head = at-loop-test .before in
+    let start = head .before .before .before .before .before .before .before in
+    blur-sized _ _ _ _ (start .pre .0) (start .pre .1) (blur-stands _ _ _ _ _ _ _ (start .pre .2) (head .loop .inv .3) (at-loop-test .loop-test .taken) (head .loop .inv .1) (c .at16 .ensures .0))
 
 mul-blurred : tie.Need-mul-blurred Inv-loop μ-loop
 mul-blurred c = search needs
@@ -41,7 +45,12 @@ loop-less : tie.Need-loop-less Inv-loop μ-loop
 loop-less c = search needs
 
 loop-again : tie.Need-loop-again Inv-loop μ-loop
-loop-again c = (search needs, search needs, search needs, blur-next _ _ _ _ _ _ _ (c .before .before .before .before .before .before .before .before .before .before .before .pre .0) (blur-stands _ _ _ _ _ _ _ (c .before .before .before .before .before .before .before .before .before .before .before .pre .2) (c .before .before .before .before .loop .inv .3) (c .before .before .before .loop-test .taken) (c .before .before .before .before .loop .inv .1) (c .before .at16 .ensures .0)) (c .before .before .before .before .loop .inv .3) (c .blur-span .ensures), search needs)
+loop-again c =
+    let at-at16 = c .before in
+    let at-loop-test = at-at16 .before .before in
+    let head = at-loop-test .before in
+    let start = head .before .before .before .before .before .before .before in
+    (search needs, search needs, search needs, blur-next _ _ _ _ _ _ _ (start .pre .0) (blur-stands _ _ _ _ _ _ _ (start .pre .2) (head .loop .inv .3) (at-loop-test .loop-test .taken) (head .loop .inv .1) (at-at16 .at16 .ensures .0)) (head .loop .inv .3) (c .blur-span .ensures), search needs)
 
 same-length : tie.Need-same-length Inv-loop μ-loop
 same-length c = search needs

@@ -41,7 +41,12 @@ follow-requires-2 : tie.Need-follow-requires-2
 follow-requires-2 c κs = (search (needs, term-leaf), search (needs, turned), search needs)
 
 at16-requires-2 : tie.Need-at16-requires-2
-at16-requires-2 c κs = corner-in _ _ _ _ _ _ _ _ (c .before .before .before .before .before .before .before .before .before .before .args .v) (c .before .before .before .before .before .before .before .before .before .before .pre .0) (c .before .before .before .before .before .before .before .before .before .before .pre .1) (c .before .before .before .before .before .before .before .before .before .before .pre .2) _ _ (c .before .before .before .before .before .follow .ensures .0) (c .before .before .before .before .before .follow .ensures .1) (c .before .before .before .before .before .follow .ensures .2) _ (c .before .before .connections .ensures) _ (c .before .before .before .at16 .ensures .0) _ (c .follow2 .ensures .0) (c .follow2 .ensures .2)
+at16-requires-2 c κs =
+    let at-connections = c .before .before in
+    let at-at16 = at-connections .before in
+    let at-follow = at-at16 .before .before in
+    let start = at-follow .before .before .before .before .before in
+    corner-in _ _ _ _ _ _ _ _ (start .args .v) (start .pre .0) (start .pre .1) (start .pre .2) _ _ (at-follow .follow .ensures .0) (at-follow .follow .ensures .1) (at-follow .follow .ensures .2) _ (at-connections .connections .ensures) _ (at-at16 .at16 .ensures .0) _ (c .follow2 .ensures .0) (c .follow2 .ensures .2)
 
 add-result-2 : tie.Need-add-result-2
 add-result-2 c = search needs

@@ -61,7 +61,12 @@ loop-less : tie.Need-loop-less Inv-loop μ-loop
 loop-less c = search needs
 
 loop-again : tie.Need-loop-again Inv-loop μ-loop
-loop-again c = (search needs, search needs, note-go _ _ _ _ _ _ _ _ _ _ _ _ (c .before .before .before .before .before .before .before .before .before .before .pre .0) (c .before .before .before .before .at32 .ensures .0) (c .before .before .before .at8 .ensures .0) (c .loop-test .taken) (c .before .loop .inv .2))
+loop-again c =
+    let head = c .before in
+    let at-at8 = head .before .before in
+    let at-at32 = at-at8 .before in
+    let start = at-at32 .before .before .before .before .before .before in
+    (search needs, search needs, note-go _ _ _ _ _ _ _ _ _ _ _ _ (start .pre .0) (at-at32 .at32 .ensures .0) (at-at8 .at8 .ensures .0) (c .loop-test .taken) (head .loop .inv .2))
 
 same-length-2 : tie.Need-same-length-2 Inv-loop μ-loop
 same-length-2 c = search needs

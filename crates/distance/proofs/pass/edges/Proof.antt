@@ -49,7 +49,14 @@ loop-less : tie.Need-loop-less Inv-loop μ-loop
 loop-less c = search needs
 
 loop-again : tie.Need-loop-again Inv-loop μ-loop
-loop-again c = (search needs, search needs, edge-run _ _ _ _ _ _ _ _ (c .before .before .before .before .before .before .before .before .before .before .pre .0) (c .before .before .before .before .loop .inv .3) (c .before .before .before .loop-test .taken) _ (c .before .before .connections .ensures) _ (c .before .surrounded .ensures) (c .if1 .left) (λ r. omega (arith, c .before .before .before .before .before .before .before .shared-slice-known3 .given r)) _ _ (c .before .before .before .before .loop .inv .0) (c .before .before .before .before .loop .inv .2), edge-go _ _ _ _ _ _ _ _ (c .before .before .before .before .before .before .before .before .before .before .pre .0) (c .before .before .before .before .loop .inv .3) (c .before .before .before .loop-test .taken) _ (c .before .before .connections .ensures) _ (c .before .surrounded .ensures) (c .if1 .left) (λ r. omega (arith, c .before .before .before .before .before .before .before .shared-slice-known3 .given r)))
+loop-again c =
+    let at-surrounded = c .before in
+    let at-connections = at-surrounded .before in
+    let at-loop-test = at-connections .before in
+    let head = at-loop-test .before in
+    let at-shared-slice-known3 = head .before .before .before in
+    let start = at-shared-slice-known3 .before .before .before in
+    (search needs, search needs, edge-run _ _ _ _ _ _ _ _ (start .pre .0) (head .loop .inv .3) (at-loop-test .loop-test .taken) _ (at-connections .connections .ensures) _ (at-surrounded .surrounded .ensures) (c .if1 .left) (λ r. omega (arith, at-shared-slice-known3 .shared-slice-known3 .given r)) _ _ (head .loop .inv .0) (head .loop .inv .2), edge-go _ _ _ _ _ _ _ _ (start .pre .0) (head .loop .inv .3) (at-loop-test .loop-test .taken) _ (at-connections .connections .ensures) _ (at-surrounded .surrounded .ensures) (c .if1 .left) (λ r. omega (arith, at-shared-slice-known3 .shared-slice-known3 .given r)))
 
 same-length-2 : tie.Need-same-length-2 Inv-loop μ-loop
 same-length-2 c = search needs

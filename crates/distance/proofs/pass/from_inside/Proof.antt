@@ -22,7 +22,13 @@ beside-requires-2 : tie.Need-beside-requires-2
 beside-requires-2 c κs = (search needs, search (needs, ringed-each))
 
 returns-2 : tie.Need-returns-2
-returns-2 c = from-sides _ _ _ _ _ _ _ _ _ (c .before .before .before .before .before .before .before .before .before .before .before .pre .0 .0) (c .before .before .before .before .before .before .before .before .before .before .before .pre .0 .1) _ (c .before .before .before .before .connections .ensures) _ (c .before .before .before .start-span .ensures) (c .before .before .if1 .left) _ _ (c .before .beside .ensures) (c .beside2 .ensures)
+returns-2 c =
+    let at-beside = c .before in
+    let at-if1 = at-beside .before in
+    let at-start-span = at-if1 .before in
+    let at-connections = at-start-span .before in
+    let start = at-connections .before .before .before .before .before .before .before in
+    from-sides _ _ _ _ _ _ _ _ _ (start .pre .0 .0) (start .pre .0 .1) _ (at-connections .connections .ensures) _ (at-start-span .start-span .ensures) (at-if1 .if1 .left) _ _ (at-beside .beside .ensures) (c .beside2 .ensures)
 
 pub from-inside-spec : {M : Type 1} → statement M
 from-inside-spec =

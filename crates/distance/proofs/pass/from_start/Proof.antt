@@ -20,7 +20,12 @@ returns : tie.Need-returns
 returns c = search needs
 
 returns-2 : tie.Need-returns-2
-returns-2 c = from-edge _ _ _ _ _ _ _ _ _ (c .before .before .before .before .before .before .before .before .before .pre .0 .0) (c .before .before .before .before .before .before .before .before .before .pre .0 .1) _ (c .before .before .connections .ensures) _ (c .before .surrounded .ensures) (c .if1 .left) (λ r. omega (arith, c .before .before .before .before .before .before .shared-slice-known3 .given r))
+returns-2 c =
+    let at-surrounded = c .before in
+    let at-connections = at-surrounded .before in
+    let at-shared-slice-known3 = at-connections .before .before .before .before in
+    let start = at-shared-slice-known3 .before .before .before in
+    from-edge _ _ _ _ _ _ _ _ _ (start .pre .0 .0) (start .pre .0 .1) _ (at-connections .connections .ensures) _ (at-surrounded .surrounded .ensures) (c .if1 .left) (λ r. omega (arith, at-shared-slice-known3 .shared-slice-known3 .given r))
 
 pub from-start-spec : {M : Type 1} → statement M
 from-start-spec =

@@ -21,7 +21,10 @@ side-requires-2 : tie.Need-side-requires-2
 side-requires-2 c κs = search needs
 
 returns : tie.Need-returns
-returns c = least-is _ _ _ _ _ _ _ _ _ _ _ _ (c .before .before .before .before .before .before .before .before .pre .0) (c .before .side .ensures) (c .side2 .ensures)
+returns c =
+    let at-side = c .before in
+    let start = at-side .before .before .before .before .before .before .before in
+    least-is _ _ _ _ _ _ _ _ _ _ _ _ (start .pre .0) (at-side .side .ensures) (c .side2 .ensures)
 
 pub least-at-spec : {M : Type 1} → statement M
 least-at-spec =

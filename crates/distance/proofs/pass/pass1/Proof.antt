@@ -27,33 +27,58 @@ loop-holds : tie.Need-loop-holds Inv-loop μ-loop
 loop-holds c = (search needs, run-first _ _ _, search needs, search needs)
 
 at16-requires : tie.Need-at16-requires Inv-loop μ-loop
-at16-requires c κs = let n = cells-sized _ _ (c .before .before .before .before .before .before .before .before .before .before .before .before .pre .2) in
-    omega (arith, n, c .before .loop .inv .3 .there (c .loop-test .taken))
+at16-requires c κs =
+    let head = c .before in
+    let start = head .before .before .before .before .before .before .before .before .before .before .before in
+    let n = cells-sized _ _ (start .pre .2) in
+    omega (arith, n, head .loop .inv .3 .there (c .loop-test .taken))
 
 from-inside-requires : tie.Need-from-inside-requires Inv-loop μ-loop
-from-inside-requires c κs = let st = cell-stands _ _ _ _ _ (c .before .before .before .before .before .before .before .before .before .before .before .before .before .before .pre .2) (c .before .before .before .loop .inv .3 .there (c .before .before .loop-test .taken)) refl (c .before .at16 .ensures .0) in
-    ((search needs, st), ((flat-left _ (c .before .before .before .before .before .before .before .before .before .before .before .before .before .before .pre .0) _ _ _ (c .before .before .before .loop .inv .2) st, flat-up _ (c .before .before .before .before .before .before .before .before .before .before .before .before .before .before .pre .0) _ _ _ (c .before .before .before .loop .inv .2) st), c .before .before .before .loop .inv .3 .four (c .before .before .loop-test .taken)))
+from-inside-requires c κs =
+    let at-at16 = c .before in
+    let at-loop-test = at-at16 .before in
+    let head = at-loop-test .before in
+    let start = head .before .before .before .before .before .before .before .before .before .before .before in
+    let st = cell-stands _ _ _ _ _ (start .pre .2) (head .loop .inv .3 .there (at-loop-test .loop-test .taken)) refl (at-at16 .at16 .ensures .0) in
+    ((search needs, st), ((flat-left _ (start .pre .0) _ _ _ (head .loop .inv .2) st, flat-up _ (start .pre .0) _ _ _ (head .loop .inv .2) st), head .loop .inv .3 .four (at-loop-test .loop-test .taken)))
 
 mul-raw : tie.Need-mul-raw Inv-loop μ-loop
 mul-raw c = search needs
 
 slice-write-raw : tie.Need-slice-write-raw Inv-loop μ-loop
-slice-write-raw c = omega (arith, c .before .before .before .before .loop .inv .2 .size, c .before .before .before .before .loop .inv .3 .there (c .before .before .before .loop-test .taken))
+slice-write-raw c =
+    let at-loop-test = c .before .before .before in
+    let head = at-loop-test .before in
+    omega (arith, head .loop .inv .2 .size, head .loop .inv .3 .there (at-loop-test .loop-test .taken))
 
 add-edges : tie.Need-add-edges Inv-loop μ-loop
 add-edges c = search needs
 
 edges-requires-2 : tie.Need-edges-requires-2 Inv-loop μ-loop
-edges-requires-2 c κs = let st = cell-stands _ _ _ _ _ (c .before .before .before .before .before .before .before .before .before .before .before .before .before .before .before .before .pre .2) (c .before .before .before .before .before .loop .inv .3 .there (c .before .before .before .before .loop-test .taken)) refl (c .before .before .before .at16 .ensures .0) in
-    (search needs, omega (arith, st .span), flat-go _ (c .before .before .before .before .before .before .before .before .before .before .before .before .before .before .before .before .pre .0) _ _ _ (c .before .before .before .before .before .loop .inv .2) st (λ i. omega (arith, c .before .before .before .before .before .before .before .before .before .before .before .before .before .shared-slice-known3 .given i)) _ (c .before .from-inside .ensures))
+edges-requires-2 c κs =
+    let at-from-inside = c .before in
+    let at-at16 = at-from-inside .before .before in
+    let at-loop-test = at-at16 .before in
+    let head = at-loop-test .before in
+    let at-shared-slice-known3 = head .before .before .before .before .before .before .before .before in
+    let start = at-shared-slice-known3 .before .before .before in
+    let st = cell-stands _ _ _ _ _ (start .pre .2) (head .loop .inv .3 .there (at-loop-test .loop-test .taken)) refl (at-at16 .at16 .ensures .0) in
+    (search needs, omega (arith, st .span), flat-go _ (start .pre .0) _ _ _ (head .loop .inv .2) st (λ i. omega (arith, at-shared-slice-known3 .shared-slice-known3 .given i)) _ (at-from-inside .from-inside .ensures))
 
 loop-less : tie.Need-loop-less Inv-loop μ-loop
 loop-less c = search needs
 
 loop-again : tie.Need-loop-again Inv-loop μ-loop
-loop-again c = let st = cell-stands _ _ _ _ _ (c .before .before .before .before .before .before .before .before .before .before .before .before .before .before .before .before .before .before .before .pre .2) (c .before .before .before .before .before .before .before .before .loop .inv .3 .there (c .before .before .before .before .before .before .before .loop-test .taken)) refl (c .before .before .before .before .before .before .at16 .ensures .0) in
-    let one = flat-run _ (c .before .before .before .before .before .before .before .before .before .before .before .before .before .before .before .before .before .before .before .pre .0) _ _ _ (c .before .before .before .before .before .before .before .before .loop .inv .2) st _ _ _ (c .before .before .before .before .before .before .before .before .loop .inv .0) (c .before .before .before .before .before .before .before .before .loop .inv .1) (c .before .before .before .before .from-inside .ensures) in
-    (omega (arith, c .before .before .before .before .before .before .before .before .loop .inv .0, c .before .before .edges2 .ensures .2), run-join _ _ _ _ _ _ _ (omega (arith, c .before .before .before .before .before .before .before .before .loop .inv .0)) (c .before .before .edges2 .ensures .2) one (c .before .before .edges2 .ensures .0), search needs, search needs)
+loop-again c =
+    let at-edges2 = c .before .before in
+    let at-from-inside = at-edges2 .before .before in
+    let at-at16 = at-from-inside .before .before in
+    let at-loop-test = at-at16 .before in
+    let head = at-loop-test .before in
+    let start = head .before .before .before .before .before .before .before .before .before .before .before in
+    let st = cell-stands _ _ _ _ _ (start .pre .2) (head .loop .inv .3 .there (at-loop-test .loop-test .taken)) refl (at-at16 .at16 .ensures .0) in
+    let one = flat-run _ (start .pre .0) _ _ _ (head .loop .inv .2) st _ _ _ (head .loop .inv .0) (head .loop .inv .1) (at-from-inside .from-inside .ensures) in
+    (omega (arith, head .loop .inv .0, at-edges2 .edges2 .ensures .2), run-join _ _ _ _ _ _ _ (omega (arith, head .loop .inv .0)) (at-edges2 .edges2 .ensures .2) one (at-edges2 .edges2 .ensures .0), search needs, search needs)
 
 same-length : tie.Need-same-length Inv-loop μ-loop
 same-length c = search needs

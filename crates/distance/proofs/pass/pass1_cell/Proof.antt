@@ -55,7 +55,14 @@ loop-less : tie.Need-loop-less Inv-loop μ-loop
 loop-less c = search needs
 
 loop-again : tie.Need-loop-again Inv-loop μ-loop
-loop-again c = (search needs, search needs, start-go _ _ _ _ _ _ _ _ _ _ _ (c .before .before .before .before .before .before .before .before .before .before .before .pre .0) (c .before .before .before .before .before .at32 .ensures .0) (c .before .before .before .before .at8 .ensures .0) (c .before .before .loop-test .taken) _ _ (c .before .before .before .loop .inv .1) (c .before .before .before .before .before .before .before .before .before .before .before .pre .1) (c .before .before .before .loop .inv .3) _ (c .from-start .ensures) _ (c .before .before .before .loop .inv .2), passing-go _ _ _ _ _ _ _ _ _ _ _ (c .before .before .before .before .before .before .before .before .before .before .before .pre .0) (c .before .before .before .before .before .at32 .ensures .0) (c .before .before .before .before .at8 .ensures .0) (c .before .before .loop-test .taken) _ _ (c .before .before .before .loop .inv .1) (c .before .before .before .before .before .before .before .before .before .before .before .pre .1) (c .before .before .before .loop .inv .3) _ (c .from-start .ensures), layers-go _ _ _ _ _ _ _ _ _ _ _ (c .before .before .before .before .before .before .before .before .before .before .before .pre .0) (c .before .before .before .before .before .at32 .ensures .0) (c .before .before .before .before .at8 .ensures .0) (c .before .before .loop-test .taken) _ _ (c .before .before .before .loop .inv .1) (c .before .before .before .before .before .before .before .before .before .before .before .pre .1) (c .before .before .before .loop .inv .3) _ (c .from-start .ensures) (λ r. omega (arith, c .before .before .before .before .before .before .before .before .shared-slice-known3 .given r)) (c .before .before .before .loop .inv .4))
+loop-again c =
+    let at-loop-test = c .before .before in
+    let head = at-loop-test .before in
+    let at-at8 = head .before in
+    let at-at32 = at-at8 .before in
+    let at-shared-slice-known3 = at-at32 .before .before .before in
+    let start = at-shared-slice-known3 .before .before .before in
+    (search needs, search needs, start-go _ _ _ _ _ _ _ _ _ _ _ (start .pre .0) (at-at32 .at32 .ensures .0) (at-at8 .at8 .ensures .0) (at-loop-test .loop-test .taken) _ _ (head .loop .inv .1) (start .pre .1) (head .loop .inv .3) _ (c .from-start .ensures) _ (head .loop .inv .2), passing-go _ _ _ _ _ _ _ _ _ _ _ (start .pre .0) (at-at32 .at32 .ensures .0) (at-at8 .at8 .ensures .0) (at-loop-test .loop-test .taken) _ _ (head .loop .inv .1) (start .pre .1) (head .loop .inv .3) _ (c .from-start .ensures), layers-go _ _ _ _ _ _ _ _ _ _ _ (start .pre .0) (at-at32 .at32 .ensures .0) (at-at8 .at8 .ensures .0) (at-loop-test .loop-test .taken) _ _ (head .loop .inv .1) (start .pre .1) (head .loop .inv .3) _ (c .from-start .ensures) (λ r. omega (arith, at-shared-slice-known3 .shared-slice-known3 .given r)) (head .loop .inv .4))
 
 same-length : tie.Need-same-length Inv-loop μ-loop
 same-length c = search needs

@@ -37,17 +37,30 @@ unsettled-requires : tie.Need-unsettled-requires Inv-loop μ-loop
 unsettled-requires c κs = search needs
 
 loop-less : tie.Need-loop-less Inv-loop μ-loop
-loop-less c = omega (arith, high-fits _ _ _ _ (c .unsettled .ensures) (le-refl _), c .before .before .before .before .loop-test .taken)
+loop-less c =
+    let at-loop-test = c .before .before .before .before in
+    omega (arith, high-fits _ _ _ _ (c .unsettled .ensures) (le-refl _), at-loop-test .loop-test .taken)
 
 loop-again : tie.Need-loop-again Inv-loop μ-loop
-loop-again c = (high-fits _ _ _ _ (c .unsettled .ensures) (omega (arith, c .before .before .before .before .before .loop .inv .0)), high-next _ _ _ _ _ (c .unsettled .ensures) (omega (arith, c .before .before .before .before .before .loop .inv .0, c .before .before .before .before .before .loop .inv .2 .size)) (low-skip _ _ _ _ (c .before .before .before .before .loop-test .taken) (omega (arith, c .before .before .before .before .before .loop .inv .0, c .before .before .before .before .before .loop .inv .2 .size)) (c .before .before .if1 .taken) (c .before .before .before .before .before .loop .inv .1)), search needs)
+loop-again c =
+    let at-if1 = c .before .before in
+    let at-loop-test = at-if1 .before .before in
+    let head = at-loop-test .before in
+    (high-fits _ _ _ _ (c .unsettled .ensures) (omega (arith, head .loop .inv .0)), high-next _ _ _ _ _ (c .unsettled .ensures) (omega (arith, head .loop .inv .0, head .loop .inv .2 .size)) (low-skip _ _ _ _ (at-loop-test .loop-test .taken) (omega (arith, head .loop .inv .0, head .loop .inv .2 .size)) (at-if1 .if1 .taken) (head .loop .inv .1)), search needs)
 
 at16-requires : tie.Need-at16-requires Inv-loop μ-loop
-at16-requires c κs = let n = cells-sized _ _ (c .before .before .before .before .before .before .before .before .before .before .pre .2) in search needs
+at16-requires c κs =
+    let start = c .before .before .before .before .before .before .before .before .before .before in
+    let n = cells-sized _ _ (start .pre .2) in search needs
 
 least-at-requires : tie.Need-least-at-requires Inv-loop μ-loop
-least-at-requires c κs = let st = last-stands _ _ _ _ (c .before .before .before .before .before .before .before .before .before .before .before .before .pre .2) (c .before .before .before .before .loop-test .taken) (c .before .before .before .before .before .loop .inv .0) (c .before .at16 .ensures .0) in
-    (low-room _ (c .before .before .before .before .before .before .before .before .before .before .before .before .pre .0) _ _ _ (c .before .before .before .before .before .loop .inv .2) st _ _, low-room _ (c .before .before .before .before .before .before .before .before .before .before .before .before .pre .0) _ _ _ (c .before .before .before .before .before .loop .inv .2) st _ _)
+least-at-requires c κs =
+    let at-at16 = c .before in
+    let at-loop-test = at-at16 .before .before .before in
+    let head = at-loop-test .before in
+    let start = head .before .before .before .before .before .before .before in
+    let st = last-stands _ _ _ _ (start .pre .2) (at-loop-test .loop-test .taken) (head .loop .inv .0) (at-at16 .at16 .ensures .0) in
+    (low-room _ (start .pre .0) _ _ _ (head .loop .inv .2) st _ _, low-room _ (start .pre .0) _ _ _ (head .loop .inv .2) st _ _)
 
 mul-raw : tie.Need-mul-raw Inv-loop μ-loop
 mul-raw c = search needs
@@ -59,8 +72,13 @@ loop-less-2 : tie.Need-loop-less-2 Inv-loop μ-loop
 loop-less-2 c = search needs
 
 loop-again-2 : tie.Need-loop-again-2 Inv-loop μ-loop
-loop-again-2 c = let st = last-stands _ _ _ _ (c .before .before .before .before .before .before .before .before .before .before .before .before .before .pre .2) (c .before .before .before .before .before .loop-test .taken) (c .before .before .before .before .before .before .loop .inv .0) (c .before .before .at16 .ensures .0) in
-    (search needs, down-go _ _ _ _ _ (c .before .before .before .before .before .loop-test .taken) (c .before .before .before .before .before .before .loop .inv .1) (down-next _ (c .before .before .before .before .before .before .before .before .before .before .before .before .before .pre .0) _ _ _ (c .before .before .before .before .before .before .loop .inv .2) st _ (c .least-at .ensures)), low-next _ (c .before .before .before .before .before .before .before .before .before .before .before .before .before .pre .0) _ _ _ (c .before .before .before .before .before .before .loop .inv .2) st _ (c .least-at .ensures))
+loop-again-2 c =
+    let at-at16 = c .before .before in
+    let at-loop-test = at-at16 .before .before .before in
+    let head = at-loop-test .before in
+    let start = head .before .before .before .before .before .before .before in
+    let st = last-stands _ _ _ _ (start .pre .2) (at-loop-test .loop-test .taken) (head .loop .inv .0) (at-at16 .at16 .ensures .0) in
+    (search needs, down-go _ _ _ _ _ (at-loop-test .loop-test .taken) (head .loop .inv .1) (down-next _ (start .pre .0) _ _ _ (head .loop .inv .2) st _ (c .least-at .ensures)), low-next _ (start .pre .0) _ _ _ (head .loop .inv .2) st _ (c .least-at .ensures))
 
 same-length : tie.Need-same-length Inv-loop μ-loop
 same-length c = search needs

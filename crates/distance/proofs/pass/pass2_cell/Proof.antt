@@ -47,7 +47,13 @@ loop-less : tie.Need-loop-less Inv-loop μ-loop
 loop-less c = search needs
 
 loop-again : tie.Need-loop-again Inv-loop μ-loop
-loop-again c = (search needs, pass-go _ _ _ _ _ _ _ _ _ _ _ (c .before .before .before .before .before .before .before .before .before .before .before .pre .0) (c .before .before .before .before .before .at32 .ensures .0) (c .before .before .before .before .at8 .ensures .0) (c .before .before .loop-test .taken) _ _ _ _ _ (c .lowered .ensures) _ (c .before .before .before .loop .inv .1), low-go _ _ _ _ _ _ _ _ _ _ _ (c .before .before .before .before .before .before .before .before .before .before .before .pre .0) (c .before .before .before .before .before .at32 .ensures .0) (c .before .before .before .before .at8 .ensures .0) (c .before .before .loop-test .taken) _ _ _ _ _ (c .lowered .ensures) (c .before .before .before .loop .inv .2))
+loop-again c =
+    let at-loop-test = c .before .before in
+    let head = at-loop-test .before in
+    let at-at8 = head .before in
+    let at-at32 = at-at8 .before in
+    let start = at-at32 .before .before .before .before .before .before in
+    (search needs, pass-go _ _ _ _ _ _ _ _ _ _ _ (start .pre .0) (at-at32 .at32 .ensures .0) (at-at8 .at8 .ensures .0) (at-loop-test .loop-test .taken) _ _ _ _ _ (c .lowered .ensures) _ (head .loop .inv .1), low-go _ _ _ _ _ _ _ _ _ _ _ (start .pre .0) (at-at32 .at32 .ensures .0) (at-at8 .at8 .ensures .0) (at-loop-test .loop-test .taken) _ _ _ _ _ (c .lowered .ensures) (head .loop .inv .2))
 
 same-length : tie.Need-same-length Inv-loop μ-loop
 same-length c = search needs

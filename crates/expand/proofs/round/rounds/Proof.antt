@@ -41,7 +41,9 @@ abbrev A : tie.At-loop Inv-loop μ-loop → tie.After-try-all Inv-loop μ-loop
 A c = c .before .before .before
 
 abbrev S : tie.After-try-all Inv-loop μ-loop → tie.Start Inv-loop μ-loop
-S c = c .before .before .before .before .before .before
+S c =
+    let at-before = c .before .before .before .before .before in
+    at-before .before
 
 tell-round-requires : tie.Need-tell-round-requires Inv-loop μ-loop
 tell-round-requires c κs =
@@ -108,10 +110,14 @@ try-beside-requires c κs =
     )
 
 sub-left : tie.Need-sub-left Inv-loop μ-loop
-sub-left c = omega (arith, c .before .before .before .before .before .before .before .before .before .before .before .before .before .before .before .before .before .before .loop .inv .0 .some)
+sub-left c =
+    let head = c .before .before .before .before .before .before .before .before .before .before .before .before .before .before .before .before .before .before in
+    omega (arith, head .loop .inv .0 .some)
 
 loop-less : tie.Need-loop-less Inv-loop μ-loop
-loop-less c = omega (arith, c .before .before .before .before .before .before .before .before .before .before .before .before .before .before .before .before .before .before .loop .inv .0 .some)
+loop-less c =
+    let head = c .before .before .before .before .before .before .before .before .before .before .before .before .before .before .before .before .before .before in
+    omega (arith, head .loop .inv .0 .some)
 
 loop-again : tie.Need-loop-again Inv-loop μ-loop
 loop-again c =

@@ -25,7 +25,11 @@ same-length-4 : tie.Need-same-length-4
 same-length-4 c = search needs
 
 returns : tie.Need-returns
-returns c = whole-place _ _ _ _ _ _ _ _ _ _ (c .before .before .before .before .before .before .before .before .before .load-whole .ensures) (c .before .before .before .before .before .before .before .before .before .before .before .before .before .before .before .before .before .before .before .pre) (λ i. omega (arith, c .before .before .before .before .before .before .before .before .before .before .before .before .before .before .before .before .before .before .shared-slice-known .given i)) _ (c .place-in .ensures)
+returns c =
+    let at-load-whole = c .before .before .before .before .before .before .before .before .before in
+    let at-shared-slice-known = at-load-whole .before .before .before .before .before .before .before .before .before in
+    let start = at-shared-slice-known .before in
+    whole-place _ _ _ _ _ _ _ _ _ _ (at-load-whole .load-whole .ensures) (start .pre) (λ i. omega (arith, at-shared-slice-known .shared-slice-known .given i)) _ (c .place-in .ensures)
 
 pub place-with-spec : {M : Type 1} → statement M
 place-with-spec =

@@ -10,7 +10,11 @@ load-whole-requires : tie.Need-load-whole-requires
 load-whole-requires c κs = search needs
 
 reading-requires : tie.Need-reading-requires
-reading-requires c κs = whole-short _ _ _ _ _ _ _ _ _ _ (c .before .before .before .before .before .before .before .before .load-whole .ensures) (c .before .before .before .before .before .before .before .before .before .before .before .before .before .before .before .before .before .before .pre) (λ i. omega (arith, c .before .before .before .before .before .before .before .before .before .before .before .before .before .before .before .before .before .shared-slice-known .given i))
+reading-requires c κs =
+    let at-load-whole = c .before .before .before .before .before .before .before .before in
+    let at-shared-slice-known = at-load-whole .before .before .before .before .before .before .before .before .before in
+    let start = at-shared-slice-known .before in
+    whole-short _ _ _ _ _ _ _ _ _ _ (at-load-whole .load-whole .ensures) (start .pre) (λ i. omega (arith, at-shared-slice-known .shared-slice-known .given i))
 
 same-length : tie.Need-same-length
 same-length c = search needs
@@ -25,7 +29,11 @@ same-length-4 : tie.Need-same-length-4
 same-length-4 c = search needs
 
 returns : tie.Need-returns
-returns c = whole-reads _ _ _ _ _ _ _ _ _ _ (c .before .before .before .before .before .before .before .before .before .load-whole .ensures) (c .before .before .before .before .before .before .before .before .before .before .before .before .before .before .before .before .before .before .before .pre) (λ i. omega (arith, c .before .before .before .before .before .before .before .before .before .before .before .before .before .before .before .before .before .before .shared-slice-known .given i)) _ (c .reading .ensures)
+returns c =
+    let at-load-whole = c .before .before .before .before .before .before .before .before .before in
+    let at-shared-slice-known = at-load-whole .before .before .before .before .before .before .before .before .before in
+    let start = at-shared-slice-known .before in
+    whole-reads _ _ _ _ _ _ _ _ _ _ (at-load-whole .load-whole .ensures) (start .pre) (λ i. omega (arith, at-shared-slice-known .shared-slice-known .given i)) _ (c .reading .ensures)
 
 pub read-file-spec : {M : Type 1} → statement M
 read-file-spec =

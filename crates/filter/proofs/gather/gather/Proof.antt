@@ -2,7 +2,7 @@
 -- Each turn takes one that waits; those that wait and those not visited together fall.
 use Rattle.table.specs.View.{recsOf}
 use Rattle.filter.proofs.GroupLaws.{none-waits}
-use Prim.Native.Nat.{_*_, _-_}
+use Prim.Native.Nat.{_*_}
 use mathlib.Core.Path.{_≡_}
 use lib.ListN.{length}
 use Rattle.laws.proofs.FilterEnds.{ahead}
@@ -34,7 +34,10 @@ reach-requires : tie.Need-reach-requires Inv-loop μ-loop
 reach-requires c κs = search needs
 
 add-f : tie.Need-add-f Inv-loop μ-loop
-add-f c = omega (arith, turn-room _ _ _ _ _ (c .before .before .before .before .before .before .before .before .before .loop .inv .3) (c .before .before .before .before .before .before .before .before .loop-test .taken))
+add-f c =
+    let at-loop-test = c .before .before .before .before .before .before .before .before in
+    let head = at-loop-test .before in
+    omega (arith, turn-room _ _ _ _ _ (head .loop .inv .3) (at-loop-test .loop-test .taken))
 
 loop-less : tie.Need-loop-less Inv-loop μ-loop
 loop-less c = search turn-falls

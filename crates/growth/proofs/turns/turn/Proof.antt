@@ -13,7 +13,9 @@ use Rattle.growth.proofs.turns.turn.Tie as tie
 
 -- the entry, and after each call
 abbrev S : tie.After-load-arg2 → tie.Start
-S c = c .before .before .before .before .before .before .before
+S c =
+    let at-before = c .before .before .before .before .before .before in
+    at-before .before
 
 abbrev L : tie.After-turn-stack → tie.After-load
 L c = c .before .before .before
@@ -22,7 +24,9 @@ abbrev T : tie.After-expand-regions → tie.After-turn-stack
 T c = c .before .before .before
 
 abbrev X : tie.After-flood-all → tie.After-expand-regions
-X c = c .before .before .before .before .before .before .before .before .before
+X c =
+    let at-before = c .before .before .before .before .before .before .before .before in
+    at-before .before
 
 -- no call changes the workspace's length
 ws-kept : (y : tie.After-flood-all) → length (y .flood-all .last .1 .1 .1 .1 .0) ≡ length (now (S (L (T (X y)) .before) .args .ws))

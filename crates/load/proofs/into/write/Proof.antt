@@ -26,7 +26,14 @@ same-length : tie.Need-same-length
 same-length c = search needs
 
 returns : tie.Need-returns
-returns c = stored (now (c .before .before .before .before .before .before .before .before .before .before .before .before .before .before .before .before .before .before .before .before .before .args .to)) _ _ _ _ _ (loaderOf (c .before .before .before .before .before .before .before .before .before .before .before .before .before .before .before .before .before .before .before .before .before .args .l)) (c .before .before .before .before .before .before .before .before .before .before .before .before .before .before .before .before .before .before .before .before .before .pre) (c .before .before .before .before .before .before .before .before .before .before .before .before .before .before .before .before .before .before .put4 .ensures) (c .before .before .before .before .before .before .before .before .before .before .before .before .before .before .put42 .ensures) (c .before .before .before .before .before .before .before .before .before .before .put43 .ensures) (c .before .before .before .before .before .before .put44 .ensures) (c .before .before .put32 .ensures)
+returns c =
+    let at-put32 = c .before .before in
+    let at-put44 = at-put32 .before .before .before .before in
+    let at-put43 = at-put44 .before .before .before .before in
+    let at-put42 = at-put43 .before .before .before .before in
+    let at-put4 = at-put42 .before .before .before .before in
+    let start = at-put4 .before .before .before in
+    stored (now (start .args .to)) _ _ _ _ _ (loaderOf (start .args .l)) (start .pre) (at-put4 .put4 .ensures) (at-put42 .put42 .ensures) (at-put43 .put43 .ensures) (at-put44 .put44 .ensures) (at-put32 .put32 .ensures)
 
 pub write-spec : {M : Type 1} → statement M
 write-spec =

@@ -28,7 +28,11 @@ same-length : tie.Need-same-length
 same-length c = search needs
 
 returns : tie.Need-returns
-returns c = (try-none _ _ _ _ _ _ _ (c .before .before .before .before .before .before .before .before .pre .0 .0) (c .before .before .before .before .before .before .before .before .pre .1 .0 .0) (c .before .before .before .before .before .before .before .before .pre .1 .0 .1) _ _ _ (c .before .before .before .place-of .ensures) (c .before .len-of .ensures .0) (c .if1 .taken), (c .before .before .before .before .before .before .before .before .pre .0 .0, c .before .before .before .before .before .before .before .before .pre .0 .1, search needs, refl))
+returns c =
+    let at-len-of = c .before in
+    let at-place-of = at-len-of .before .before in
+    let start = at-place-of .before .before .before .before .before in
+    (try-none _ _ _ _ _ _ _ (start .pre .0 .0) (start .pre .1 .0 .0) (start .pre .1 .0 .1) _ _ _ (at-place-of .place-of .ensures) (at-len-of .len-of .ensures .0) (c .if1 .taken), (start .pre .0 .0, start .pre .0 .1, search needs, refl))
 
 place-of-requires-2 : tie.Need-place-of-requires-2
 place-of-requires-2 c κs = search needs
@@ -40,19 +44,45 @@ same-length-2 : tie.Need-same-length-2
 same-length-2 c = search needs
 
 returns-2 : tie.Need-returns-2
-returns-2 c = (try-none-2 _ _ _ _ _ _ _ (c .before .before .before .before .before .before .before .before .before .before .before .before .before .pre .0 .0) (c .before .before .before .before .before .before .before .before .before .before .before .before .before .pre .1 .0 .0) (c .before .before .before .before .before .before .before .before .before .before .before .before .before .pre .1 .0 .1) _ _ _ (c .before .before .before .before .before .before .before .before .place-of .ensures) (c .before .before .before .before .before .before .len-of .ensures .0) (c .before .before .before .before .before .if1 .left) _ _ (c .before .before .before .place-of2 .ensures) (c .before .len-of2 .ensures .0) (c .if2 .taken), (c .before .before .before .before .before .before .before .before .before .before .before .before .before .pre .0 .0, c .before .before .before .before .before .before .before .before .before .before .before .before .before .pre .0 .1, search needs, refl))
+returns-2 c =
+    let at-len-of2 = c .before in
+    let at-place-of2 = at-len-of2 .before .before in
+    let at-if1 = at-place-of2 .before .before in
+    let at-len-of = at-if1 .before in
+    let at-place-of = at-len-of .before .before in
+    let start = at-place-of .before .before .before .before .before in
+    (try-none-2 _ _ _ _ _ _ _ (start .pre .0 .0) (start .pre .1 .0 .0) (start .pre .1 .0 .1) _ _ _ (at-place-of .place-of .ensures) (at-len-of .len-of .ensures .0) (at-if1 .if1 .left) _ _ (at-place-of2 .place-of2 .ensures) (at-len-of2 .len-of2 .ensures .0) (c .if2 .taken), (start .pre .0 .0, start .pre .0 .1, search needs, refl))
 
 merge-regions-requires : tie.Need-merge-regions-requires
-merge-regions-requires c κs = (c .before .before .before .before .before .before .before .before .before .before .before .before .before .before .pre .0 .0, c .before .before .before .before .before .before .before .before .before .before .before .before .before .before .pre .0 .1, try-listed _ _ _ _ _ _ _ (c .before .before .before .before .before .before .before .before .before .before .before .before .before .before .pre .0 .0) (c .before .before .before .before .before .before .before .before .before .before .before .before .before .before .pre .1 .0 .0) (c .before .before .before .before .before .before .before .before .before .before .before .before .before .before .pre .1 .0 .1) (c .before .before .before .before .before .before .before .before .before .before .before .before .before .before .args .round .merges) _ _ (c .before .before .before .before .before .before .before .before .before .place-of .ensures) (c .before .before .before .before .before .before .before .len-of .ensures .0) (c .before .before .before .before .before .before .if1 .left) _ _ (c .before .before .before .before .place-of2 .ensures) (c .before .before .len-of2 .ensures .0) (c .before .if2 .left) (c .before .before .before .before .before .before .before .before .before .before .before .before .before .before .pre .1 .0 .2) (c .before .before .before .before .before .before .before .before .before .before .before .before .before .before .pre .1 .1 .0) (c .before .before .before .before .before .before .before .before .before .before .before .before .before .before .pre .1 .1 .1) (c .before .before .before .before .before .before .before .before .before .before .before .before .before .before .pre .1 .1 .2))
+merge-regions-requires c κs =
+    let at-if2 = c .before in
+    let at-len-of2 = at-if2 .before in
+    let at-place-of2 = at-len-of2 .before .before in
+    let at-if1 = at-place-of2 .before .before in
+    let at-len-of = at-if1 .before in
+    let at-place-of = at-len-of .before .before in
+    let start = at-place-of .before .before .before .before .before in
+    (start .pre .0 .0, start .pre .0 .1, try-listed _ _ _ _ _ _ _ (start .pre .0 .0) (start .pre .1 .0 .0) (start .pre .1 .0 .1) (start .args .round .merges) _ _ (at-place-of .place-of .ensures) (at-len-of .len-of .ensures .0) (at-if1 .if1 .left) _ _ (at-place-of2 .place-of2 .ensures) (at-len-of2 .len-of2 .ensures .0) (at-if2 .if2 .left) (start .pre .1 .0 .2) (start .pre .1 .1 .0) (start .pre .1 .1 .1) (start .pre .1 .1 .2))
 
 add-t11 : tie.Need-add-t11
-add-t11 c = omega (arith, c .before .before .before .before .before .before .before .before .before .before .before .before .before .before .before .before .before .before .pre .0 .2)
+add-t11 c =
+    let start = c .before .before .before .before .before .before .before .before .before .before .before .before .before .before .before .before .before .before in
+    omega (arith, start .pre .0 .2)
 
 same-length-3 : tie.Need-same-length-3
 same-length-3 c = search needs
 
 returns-3 : tie.Need-returns-3
-returns-3 c = (try-some _ _ _ _ _ _ _ (c .before .before .before .before .before .before .before .before .before .before .before .before .before .before .before .before .before .before .pre .0 .0) (c .before .before .before .before .before .before .before .before .before .before .before .before .before .before .before .before .before .before .pre .1 .0 .0) (c .before .before .before .before .before .before .before .before .before .before .before .before .before .before .before .before .before .before .pre .1 .0 .1) _ _ _ (c .before .before .before .before .before .before .before .before .before .before .before .before .before .place-of .ensures) (c .before .before .before .before .before .before .before .before .before .before .before .len-of .ensures .0) (c .before .before .before .before .before .before .before .before .before .before .if1 .left) _ _ (c .before .before .before .before .before .before .before .before .place-of2 .ensures) (c .before .before .before .before .before .before .len-of2 .ensures .0) (c .before .before .before .before .before .if2 .left) _ (c .before .before .before .merge-regions .ensures .0), (c .before .before .before .merge-regions .ensures .1 .0, c .before .before .before .merge-regions .ensures .1 .1, search needs, c .before .before .before .merge-regions .ensures .1 .2))
+returns-3 c =
+    let at-merge-regions = c .before .before .before in
+    let at-if2 = at-merge-regions .before .before in
+    let at-len-of2 = at-if2 .before in
+    let at-place-of2 = at-len-of2 .before .before in
+    let at-if1 = at-place-of2 .before .before in
+    let at-len-of = at-if1 .before in
+    let at-place-of = at-len-of .before .before in
+    let start = at-place-of .before .before .before .before .before in
+    (try-some _ _ _ _ _ _ _ (start .pre .0 .0) (start .pre .1 .0 .0) (start .pre .1 .0 .1) _ _ _ (at-place-of .place-of .ensures) (at-len-of .len-of .ensures .0) (at-if1 .if1 .left) _ _ (at-place-of2 .place-of2 .ensures) (at-len-of2 .len-of2 .ensures .0) (at-if2 .if2 .left) _ (at-merge-regions .merge-regions .ensures .0), (at-merge-regions .merge-regions .ensures .1 .0, at-merge-regions .merge-regions .ensures .1 .1, search needs, at-merge-regions .merge-regions .ensures .1 .2))
 
 pub try-merge-spec : {M : Type 1} → statement M
 try-merge-spec =

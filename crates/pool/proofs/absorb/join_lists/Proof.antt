@@ -29,16 +29,37 @@ end-of-requires-2 : tie.Need-end-of-requires-2
 end-of-requires-2 c κs = search needs
 
 join-requires : tie.Need-join-requires
-join-requires c κs = ((join-first _ _ _ _ _ _ _ _ (c .before .before .before .before .before .before .before .before .before .before .pre .0) (c .before .before .before .before .before .before .before .before .before .before .pre .1) _ _ _ _ (c .before .before .before .before .before .before .before .start-of .ensures .0) (c .before .before .before .before .before .end-of .ensures .0) (c .before .before .before .start-of2 .ensures .0) (c .before .end-of2 .ensures .0), join-second _ _ _ _ _ _ _ _ (c .before .before .before .before .before .before .before .before .before .before .pre .0) (c .before .before .before .before .before .before .before .before .before .before .pre .1) _ _ _ _ (c .before .before .before .before .before .before .before .start-of .ensures .0) (c .before .before .before .before .before .end-of .ensures .0) (c .before .before .before .start-of2 .ensures .0) (c .before .end-of2 .ensures .0)), (join-entry _ _ _ _ _ _ _ _ (c .before .before .before .before .before .before .before .before .before .before .pre .0) (c .before .before .before .before .before .before .before .before .before .before .pre .1) _ _ _ _ (c .before .before .before .before .before .before .before .start-of .ensures .0) (c .before .before .before .before .before .end-of .ensures .0) (c .before .before .before .start-of2 .ensures .0) (c .before .end-of2 .ensures .0), join-entry-2 _ _ _ _ _ _ _ _ (c .before .before .before .before .before .before .before .before .before .before .pre .0) (c .before .before .before .before .before .before .before .before .before .before .pre .1) _ _ _ _ (c .before .before .before .before .before .before .before .start-of .ensures .0) (c .before .before .before .before .before .end-of .ensures .0) (c .before .before .before .start-of2 .ensures .0) (c .before .end-of2 .ensures .0), join-room _ _ _ _ _ _ _ _ (c .before .before .before .before .before .before .before .before .before .before .pre .0) (c .before .before .before .before .before .before .before .before .before .before .pre .1) _ _ _ _ (c .before .before .before .before .before .before .before .start-of .ensures .0) (c .before .before .before .before .before .end-of .ensures .0) (c .before .before .before .start-of2 .ensures .0) (c .before .end-of2 .ensures .0)))
+join-requires c κs =
+    let at-end-of2 = c .before in
+    let at-start-of2 = at-end-of2 .before .before in
+    let at-end-of = at-start-of2 .before .before in
+    let at-start-of = at-end-of .before .before in
+    let start = at-start-of .before .before .before in
+    ((join-first _ _ _ _ _ _ _ _ (start .pre .0) (start .pre .1) _ _ _ _ (at-start-of .start-of .ensures .0) (at-end-of .end-of .ensures .0) (at-start-of2 .start-of2 .ensures .0) (at-end-of2 .end-of2 .ensures .0), join-second _ _ _ _ _ _ _ _ (start .pre .0) (start .pre .1) _ _ _ _ (at-start-of .start-of .ensures .0) (at-end-of .end-of .ensures .0) (at-start-of2 .start-of2 .ensures .0) (at-end-of2 .end-of2 .ensures .0)), (join-entry _ _ _ _ _ _ _ _ (start .pre .0) (start .pre .1) _ _ _ _ (at-start-of .start-of .ensures .0) (at-end-of .end-of .ensures .0) (at-start-of2 .start-of2 .ensures .0) (at-end-of2 .end-of2 .ensures .0), join-entry-2 _ _ _ _ _ _ _ _ (start .pre .0) (start .pre .1) _ _ _ _ (at-start-of .start-of .ensures .0) (at-end-of .end-of .ensures .0) (at-start-of2 .start-of2 .ensures .0) (at-end-of2 .end-of2 .ensures .0), join-room _ _ _ _ _ _ _ _ (start .pre .0) (start .pre .1) _ _ _ _ (at-start-of .start-of .ensures .0) (at-end-of .end-of .ensures .0) (at-start-of2 .start-of2 .ensures .0) (at-end-of2 .end-of2 .ensures .0)))
 
 replace-neighbour-requires : tie.Need-replace-neighbour-requires
-replace-neighbour-requires c κs = (c .before .before .before .join .ensures .1 .0 .0, join-top _ _ _ _ _ _ _ _ (c .before .before .before .before .before .before .before .before .before .before .before .before .before .before .pre .0) (c .before .before .before .before .before .before .before .before .before .before .before .before .before .before .pre .1) _ _ _ _ (c .before .before .before .before .before .before .before .before .before .before .before .start-of .ensures .0) (c .before .before .before .before .before .before .before .before .before .end-of .ensures .0) (c .before .before .before .before .before .before .before .start-of2 .ensures .0) (c .before .before .before .before .before .end-of2 .ensures .0) (c .before .before .before .join .last .0) _ (c .before .before .before .join .kept .0) (c .before .before .before .join .ensures .1 .0))
+replace-neighbour-requires c κs =
+    let at-join = c .before .before .before in
+    let at-end-of2 = at-join .before .before in
+    let at-start-of2 = at-end-of2 .before .before in
+    let at-end-of = at-start-of2 .before .before in
+    let at-start-of = at-end-of .before .before in
+    let start = at-start-of .before .before .before in
+    (at-join .join .ensures .1 .0 .0, join-top _ _ _ _ _ _ _ _ (start .pre .0) (start .pre .1) _ _ _ _ (at-start-of .start-of .ensures .0) (at-end-of .end-of .ensures .0) (at-start-of2 .start-of2 .ensures .0) (at-end-of2 .end-of2 .ensures .0) (at-join .join .last .0) _ (at-join .join .kept .0) (at-join .join .ensures .1 .0))
 
 same-length : tie.Need-same-length
 same-length c = search needs
 
 returns : tie.Need-returns
-returns c = (joined-list _ _ _ _ _ _ _ _ (c .before .before .before .before .before .before .before .before .before .before .before .before .before .before .before .before .before .pre .0) (c .before .before .before .before .before .before .before .before .before .before .before .before .before .before .before .before .before .pre .1) _ _ _ _ (c .before .before .before .before .before .before .before .before .before .before .before .before .before .before .start-of .ensures .0) (c .before .before .before .before .before .before .before .before .before .before .before .before .end-of .ensures .0) (c .before .before .before .before .before .before .before .before .before .before .start-of2 .ensures .0) (c .before .before .before .before .before .before .before .before .end-of2 .ensures .0) _ _ _ _ _ _ (c .before .before .before .before .before .before .join .ensures .0) (c .before .before .before .before .before .before .join .ensures .1 .0) (c .before .before .before .before .before .before .join .ensures .1 .1) (c .before .before .replace-neighbour .ensures .0) (c .before .before .replace-neighbour .ensures .1 .0) (c .before .before .replace-neighbour .ensures .1 .1), (joined-short _ _ _ _ _ _ _ _ (c .before .before .before .before .before .before .before .before .before .before .before .before .before .before .before .before .before .pre .0) (c .before .before .before .before .before .before .before .before .before .before .before .before .before .before .before .before .before .pre .1) _ _ _ _ (c .before .before .before .before .before .before .before .before .before .before .before .before .before .before .start-of .ensures .0) (c .before .before .before .before .before .before .before .before .before .before .before .before .end-of .ensures .0) (c .before .before .before .before .before .before .before .before .before .before .start-of2 .ensures .0) (c .before .before .before .before .before .before .before .before .end-of2 .ensures .0) _ _ _ _ _ _ (c .before .before .before .before .before .before .join .ensures .0) (c .before .before .before .before .before .before .join .ensures .1 .0) (c .before .before .before .before .before .before .join .ensures .1 .1) (c .before .before .replace-neighbour .ensures .0) (c .before .before .replace-neighbour .ensures .1 .0) (c .before .before .replace-neighbour .ensures .1 .1), joined-frame _ _ _ _ _ _ _ _ (c .before .before .before .before .before .before .before .before .before .before .before .before .before .before .before .before .before .pre .0) (c .before .before .before .before .before .before .before .before .before .before .before .before .before .before .before .before .before .pre .1) _ _ _ _ (c .before .before .before .before .before .before .before .before .before .before .before .before .before .before .start-of .ensures .0) (c .before .before .before .before .before .before .before .before .before .before .before .before .end-of .ensures .0) (c .before .before .before .before .before .before .before .before .before .before .start-of2 .ensures .0) (c .before .before .before .before .before .before .before .before .end-of2 .ensures .0) _ _ _ _ _ _ (c .before .before .before .before .before .before .join .ensures .0) (c .before .before .before .before .before .before .join .ensures .1 .0) (c .before .before .before .before .before .before .join .ensures .1 .1) (c .before .before .replace-neighbour .ensures .0) (c .before .before .replace-neighbour .ensures .1 .0) (c .before .before .replace-neighbour .ensures .1 .1)))
+returns c =
+    let at-replace-neighbour = c .before .before in
+    let at-join = at-replace-neighbour .before .before .before .before in
+    let at-end-of2 = at-join .before .before in
+    let at-start-of2 = at-end-of2 .before .before in
+    let at-end-of = at-start-of2 .before .before in
+    let at-start-of = at-end-of .before .before in
+    let start = at-start-of .before .before .before in
+    (joined-list _ _ _ _ _ _ _ _ (start .pre .0) (start .pre .1) _ _ _ _ (at-start-of .start-of .ensures .0) (at-end-of .end-of .ensures .0) (at-start-of2 .start-of2 .ensures .0) (at-end-of2 .end-of2 .ensures .0) _ _ _ _ _ _ (at-join .join .ensures .0) (at-join .join .ensures .1 .0) (at-join .join .ensures .1 .1) (at-replace-neighbour .replace-neighbour .ensures .0) (at-replace-neighbour .replace-neighbour .ensures .1 .0) (at-replace-neighbour .replace-neighbour .ensures .1 .1), (joined-short _ _ _ _ _ _ _ _ (start .pre .0) (start .pre .1) _ _ _ _ (at-start-of .start-of .ensures .0) (at-end-of .end-of .ensures .0) (at-start-of2 .start-of2 .ensures .0) (at-end-of2 .end-of2 .ensures .0) _ _ _ _ _ _ (at-join .join .ensures .0) (at-join .join .ensures .1 .0) (at-join .join .ensures .1 .1) (at-replace-neighbour .replace-neighbour .ensures .0) (at-replace-neighbour .replace-neighbour .ensures .1 .0) (at-replace-neighbour .replace-neighbour .ensures .1 .1), joined-frame _ _ _ _ _ _ _ _ (start .pre .0) (start .pre .1) _ _ _ _ (at-start-of .start-of .ensures .0) (at-end-of .end-of .ensures .0) (at-start-of2 .start-of2 .ensures .0) (at-end-of2 .end-of2 .ensures .0) _ _ _ _ _ _ (at-join .join .ensures .0) (at-join .join .ensures .1 .0) (at-join .join .ensures .1 .1) (at-replace-neighbour .replace-neighbour .ensures .0) (at-replace-neighbour .replace-neighbour .ensures .1 .0) (at-replace-neighbour .replace-neighbour .ensures .1 .1)))
 
 pub join-lists-spec : {M : Type 1} → statement M
 join-lists-spec =

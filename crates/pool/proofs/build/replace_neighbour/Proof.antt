@@ -66,7 +66,10 @@ same-length-2 : tie.Need-same-length-2
 same-length-2 c = search needs
 
 returns-2 : tie.Need-returns-2
-returns-2 c = (search rename-some, ((search needs, part-le _ _ _ _ (c .before .before .before .before .before .before .before .before .before .before .before .before .before .pre .0) (c .before .before .remove-adjacent-neighbours .ensures .1)), search rename-frame))
+returns-2 c =
+    let at-remove-adjacent-neighbours = c .before .before in
+    let start = at-remove-adjacent-neighbours .before .before .before .before .before .before .before .before .before .before .before in
+    (search rename-some, ((search needs, part-le _ _ _ _ (start .pre .0) (at-remove-adjacent-neighbours .remove-adjacent-neighbours .ensures .1)), search rename-frame))
 
 pub replace-neighbour-spec : {M : Type 1} → statement M
 replace-neighbour-spec =

@@ -46,6 +46,7 @@ returns c = let k = c .before .before in
         pool-sized _ _ _ _ _ _ (q .0 .0) (region-pool _ _ _ _ _ _ _ _ _ _ _ _ _ _ _ (p .0) (p .1 .room) (p .2) (q .0 .2) (q .1 .0) (r .relist .kept .0) (n .recount .ensures) (n .recount .kept .0) (s .hand-over .ensures) (s .hand-over .kept .0) _ (k .carry-mark .ensures)),
         laid-sized _ _ _ _ _ _ _ _ _ _ _ _ (q .0 .0) (q .0 .1) (region-laid _ _ _ _ _ _ _ _ _ _ _ _ _ _ _ (p .0) (p .1 .room) (p .2) (q .0 .2) (q .1 .0) (r .relist .kept .0) (n .recount .ensures) (n .recount .kept .0) (s .hand-over .ensures) (s .hand-over .kept .0) _ (k .carry-mark .ensures) _) (q .1 .1),
         q .0 .0,
+        q .0 .1,
       ),
     )
 

@@ -7,7 +7,7 @@ use denote.Ref.{now}
 use mathlib.Core.Path.{sym, ap, _∙_}
 use Rattle.records.specs.Build.{spansAt}
 use Rattle.records.specs.declared.cell.Spans.{Spans}
-use Rattle.records.proofs.BuildLaws.{cell-lies, know-enter, know-next, entered-none}
+use Rattle.records.proofs.BuildLaws.{cell-lies, know-from, know-next, entered-none}
 use Rattle.records.proofs.build.add_cell_at.Statement.{statement}
 use Rattle.records.proofs.build.add_cell_at.Tie as tie
 
@@ -45,7 +45,7 @@ add-spans-requires c κs =
     let v = C k in
     let p = S v .pre .1 in
     let e = v .spans-of .ensures in
-    (rw e (p .0), λ y. rw e (know-enter _ _ _ _ _ _ _ _ (p .0) (p .1) (rw e at (b .look-back .ensures .1 y))))
+    (rw e (p .0), rw e (know-from _ _ _ _ _ _ _ _ (p .0) (p .1) (some k) _ (rw e at (b .look-back .ensures .1))))
 
 same-length : tie.Need-same-length
 same-length c = search needs

@@ -3,17 +3,16 @@
 use Prim.Native.Nat.{_-_}
 use native.Mathlib.Omega.{arith}
 use Rattle.records.specs.Build.{Entered}
-use Rattle.records.proofs.BuildLaws.{entered-start, entered-room, entered-stand, entered-next, entered-end}
-use Rattle.records.proofs.KnownLaws.{known-run}
+use Rattle.records.proofs.BuildLaws.{entered-start, entered-room, entered-stand, entered-knowing, entered-next, entered-end}
 use borrow.Author.Needs.{needs}
 use Rattle.records.proofs.build.add_spans.Statement.{statement}
 use Rattle.records.proofs.build.add_spans.Tie as tie
 
 abbrev Inv-loop : tie.InvT-loop
-Inv-loop area con ids ws₀ plan cell known top end₀ j₀ j-end ws end j = Entered plan area ids cell j top ws₀ end ws
+Inv-loop area con ids ws₀ plan cell prior top end₀ j₀ j-end ws end j = Entered plan area ids cell j top ws₀ end ws
 
 abbrev μ-loop : tie.MeasureT-loop
-μ-loop area con ids ws₀ plan cell known top end₀ j₀ j-end ws end j = cell .size - j
+μ-loop area con ids ws₀ plan cell prior top end₀ j₀ j-end ws end j = cell .size - j
 
 -- the entry
 abbrev S : tie.At-loop Inv-loop μ-loop → tie.Start Inv-loop μ-loop
@@ -34,7 +33,11 @@ add-span-requires : tie.Need-add-span-requires Inv-loop μ-loop
 add-span-requires c κs = let i = c .before .before in
     let l = i .before in
     let v = l .loop .inv in
-    (entered-stand _ _ _ _ _ _ _ (S l .pre .0) _ _ _ v (i .loop-test .taken) _ (c .at .ensures), λ k. rw (v .same) (known-run _ _ _ _ _ _ (S l .pre .1 k)))
+    let p = S l .pre in
+    let h = i .loop-test .taken in (
+      entered-stand _ _ _ _ _ _ _ (p .0) _ _ _ v h _ (c .at .ensures),
+      entered-knowing _ _ _ _ _ _ _ (p .0) _ _ _ v h _ (p .1),
+    )
 
 add-j : tie.Need-add-j Inv-loop μ-loop
 add-j c = search needs

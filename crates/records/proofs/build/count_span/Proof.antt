@@ -19,7 +19,7 @@ add-cell-requires : tie.Need-add-cell-requires
 add-cell-requires c κs = let a = c .before in
     let p = S a .pre in
     let w = p .0 .0 .within in
-    ((p .0 .0 .keeping, w), ((a .at .ensures .0, p .0 .1), λ k. rw (a .at .ensures .0) (p .1 k .took _ (w .lower) (w .upper) (p .0 .1))))
+    ((p .0 .0 .keeping, w), ((a .at .ensures .0, p .0 .1), p .1))
 
 add-contour-requires : tie.Need-add-contour-requires
 add-contour-requires c κs = let k = c .before .before .before in

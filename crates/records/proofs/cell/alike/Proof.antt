@@ -4,24 +4,20 @@ use native.Mathlib.Omega.{arith}
 use borrow.Author.Needs.{needs}
 use denote.Ref.{now}
 use mathlib.Core.Path.{refl}
-use mathlib.Core.Bool.{false≢true}
 use lib.ListN.{length}
 use Rattle.records.proofs.CellLaws.{alike-ids}
 use Rattle.records.proofs.cell.alike.Statement.{statement}
 use Rattle.records.proofs.cell.alike.Tie as tie
 
 -- the entry
-abbrev S : tie.Else1 → tie.Start
-S c = c .before .before .before .before
+abbrev S : tie.After-shared-slice-known → tie.Start
+S c = c .before
 
-lies : (c : tie.Else1) → S c .args .cell .from + S c .args .cell .size ≤ length (now (S c .args .ids))
+lies : (c : tie.After-shared-slice-known) → S c .args .cell .from + S c .args .cell .size ≤ length (now (S c .args .ids))
 lies c = S c .pre .2 .inside (S c .pre .3)
 
-lies-last : (c : tie.Else1) → S c .args .last .from + S c .args .cell .size ≤ length (now (S c .args .ids))
-lies-last c = let e = c .if1 .left in omega (arith, e, S c .pre .1 .inside (omega (arith, e, S c .pre .3)))
-
-returns : tie.Need-returns
-returns c = λ e. absurd (false≢true e)
+lies-last : (c : tie.After-shared-slice-known) → S c .args .last .from + S c .args .cell .size ≤ length (now (S c .args .ids))
+lies-last c = let e = S c .pre .4 in omega (arith, e, S c .pre .1 .inside (omega (arith, e, S c .pre .3)))
 
 add-same : tie.Need-add-same
 add-same c = omega (arith, lies c, S c .pre .0)
@@ -56,14 +52,13 @@ part-same-end-2 c = let k = c .before in omega (arith, lies k, lies-last k)
 same-requires : tie.Need-same-requires
 same-requires c κs = search needs
 
-returns-2 : tie.Need-returns-2
-returns-2 c = let k = c .before .before .before in λ e. alike-ids _ _ _ _ (k .if1 .left) refl (c .same .ensures .0 e)
+returns : tie.Need-returns
+returns c = let k = c .before .before .before in λ e. alike-ids _ _ _ _ (S k .pre .4) refl (c .same .ensures .0 e)
 
 pub alike-spec : {M : Type 1} → statement M
 alike-spec =
     tie.close
     (tie.spec
-    returns
     add-same
     mul-same
     sub-same
@@ -75,4 +70,4 @@ alike-spec =
     part-same-start-2
     part-same-end-2
     same-requires
-    returns-2)
+    returns)

@@ -1,11 +1,11 @@
 -- `add_cell` is the rule's `celled`: one more span, then floors, then overlap, each a step on record r.
--- Counting first gives the floors of this span their room; where the record has what the span takes (KnownLaws), there is no more to do.
+-- Counting first gives the floors of this span their room; what the record has already, all or from a prior cell (KnownLaws), is not looked for.
 use lib.ListN.{length-set}
 use Prim.Native.Nat.{_<_}
 use mathlib.Core.Path.{refl, _∙_}
 use lib.ListN.{length}
 use denote.Ref.{now}
-use Rattle.records.proofs.ContourLaws.{own-in, count-fits, counted-keeping, counted-slack, cell-known, cell-step}
+use Rattle.records.proofs.ContourLaws.{own-in, count-fits, counted-keeping, counted-slack, counted-prior, took-known, cell-known, cell-step}
 use native.Mathlib.Omega.{arith}
 use Rattle.records.proofs.grow.add_cell.Statement.{statement}
 use Rattle.records.proofs.grow.add_cell.Tie as tie
@@ -35,18 +35,30 @@ same-length : tie.Need-same-length
 same-length c = simp length-set
 
 returns : tie.Need-returns
-returns c = let b = c .before in
+returns c = let b = c .before .before in
     let p = S b .pre in
-    cell-known _ _ _ _ _ (p .0 .0) _ _ _ (p .1 .0 .0) (p .1 .0 .1) (here b) (p .1 .1 (c .if1 .taken))
+    let k = took-known _ _ _ _ _ (p .0 .0) _ 0 0 (p .1 .0 .0) (p .1 .0 .1) (here b) _ _ (p .0 .1) (p .1 .1) (c .if1 .taken) in
+    cell-known _ _ _ _ _ (p .0 .0) _ _ _ (p .1 .0 .0) (p .1 .0 .1) (here b) k
 
 add-floors-requires : tie.Need-add-floors-requires
-add-floors-requires c κs = let b = c .before .before in
+add-floors-requires c κs = let b = c .before .before .before in
     let p = S b .pre in
-    (counted-keeping _ _ _ _ _ (p .0 .0) _ 0 0 (p .1 .0 .0) (p .1 .0 .1) (here b) _ refl, own-in _ _ _ _ _ (p .0 .0) _ 0 0 (p .1 .0 .0) (p .1 .0 .1) (here b), counted-slack _ _ _ _ _ (p .0 .0) _ 0 0 (p .1 .0 .0) (p .1 .0 .1) (here b) _ refl, p .0 .1)
+    let k = p .1 .1 in (
+      (
+        counted-keeping _ _ _ _ _ (p .0 .0) _ 0 0 (p .1 .0 .0) (p .1 .0 .1) (here b) _ refl,
+        own-in _ _ _ _ _ (p .0 .0) _ 0 0 (p .1 .0 .0) (p .1 .0 .1) (here b),
+        counted-slack _ _ _ _ _ (p .0 .0) _ 0 0 (p .1 .0 .0) (p .1 .0 .1) (here b) _ refl,
+        p .0 .1,
+      ),
+      (
+        (λ n. k .knowing n .lies),
+        ((λ n. counted-prior _ _ _ _ _ (p .0 .0) _ 0 0 (p .1 .0 .0) (p .1 .0 .1) (here b) _ refl _ _ (p .0 .1) (k .knowing n)), k .place),
+      ),
+    )
 
 add-overlap-requires : tie.Need-add-overlap-requires
 add-overlap-requires c κs = let f = c .before .before .before in
-    let b = f .before .before .before in
+    let b = f .before .before .before .before in
     let p = S b .pre in
     (own-in _ _ _ _ _ (p .0 .0) _ 0 0 (p .1 .0 .0) (p .1 .0 .1) (here b), omega (arith, f .add-floors .ensures .0 .keeping .room))
 
@@ -58,7 +70,7 @@ same-length-2 c = let o = c .before .before in
 returns-2 : tie.Need-returns-2
 returns-2 c = let o = c .before .before in
     let f = o .before .before .before .before in
-    let b = f .before .before .before in
+    let b = f .before .before .before .before in
     let p = S b .pre in
     cell-step _ _ _ _ _ (p .0 .0) _ _ _ (p .1 .0 .0) (p .1 .0 .1) (here b) _ refl _ _ _ (f .add-floors .ensures .0) (f .add-floors .ensures .1) (o .add-overlap .ensures)
 

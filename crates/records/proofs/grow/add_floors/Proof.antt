@@ -6,7 +6,7 @@ use mathlib.Core.Path.{_≡_, refl, ap}
 use lib.ListN.{getD}
 use denote.Ref.{now}
 use Rattle.records.proofs.RowLaws.{floor-parts}
-use Rattle.records.proofs.FloorLaws.{room-order, room-inside, room-roomy, put-room, end-fits, step-floors, step-stays}
+use Rattle.records.proofs.FloorLaws.{room-order, room-inside, room-roomy, room-prior, put-room, end-fits, step-floors, step-stays}
 use native.Mathlib.Omega.{arith}
 use borrow.Author.Needs.{needs}
 use Rattle.records.proofs.grow.add_floors.Statement.{statement}
@@ -31,13 +31,13 @@ mul-start-of : tie.Need-mul-start-of
 mul-start-of c = search needs
 
 start-of-requires : tie.Need-start-of-requires
-start-of-requires c κs = (floor-parts _ _ _ _ _ (c .before .before .before .pre .0), c .before .before .before .pre .1)
+start-of-requires c κs = (floor-parts _ _ _ _ _ (c .before .before .before .pre .0 .0), c .before .before .before .pre .0 .1)
 
 mul-end-of : tie.Need-mul-end-of
 mul-end-of c = search needs
 
 end-of-requires : tie.Need-end-of-requires
-end-of-requires c κs = (floor-parts _ _ _ _ _ (c .before .before .before .before .before .pre .0), c .before .before .before .before .before .pre .1)
+end-of-requires c κs = (floor-parts _ _ _ _ _ (c .before .before .before .before .before .pre .0 .0), c .before .before .before .before .before .pre .0 .1)
 
 add-at : tie.Need-add-at
 add-at c = search needs
@@ -52,7 +52,7 @@ add-limit : tie.Need-add-limit
 add-limit c = search needs
 
 sub-len : tie.Need-sub-len
-sub-len c = room-order _ _ _ _ _ (S c .pre .0) _ (S c .pre .1) _ _ _ (ea c) (ee c) (ez c)
+sub-len c = room-order _ _ _ _ _ (S c .pre .0 .0) _ (S c .pre .0 .1) _ _ _ (ea c) (ee c) (ez c)
 
 mul-join : tie.Need-mul-join
 mul-join c = search needs
@@ -64,12 +64,16 @@ part-join-start : tie.Need-part-join-start
 part-join-start c = search needs
 
 part-join-end : tie.Need-part-join-end
-part-join-end c = omega (arith, room-inside _ _ _ _ _ (S c .pre .0) _ (S c .pre .1) _ _ _ (ea c) (ee c) (ez c), S c .pre .0 .room)
+part-join-end c = omega (arith, room-inside _ _ _ _ _ (S c .pre .0 .0) _ (S c .pre .0 .1) _ _ _ (ea c) (ee c) (ez c), S c .pre .0 .0 .room)
 
 join-requires : tie.Need-join-requires
-join-requires c κs = let p = S (c .before) .pre in
-    let w = p .3 in
-    room-roomy _ _ _ _ _ (p .0) _ (p .1) _ _ _ (ea (c .before)) (ee (c .before)) (ez (c .before)) _ _ _ (omega (arith, p .2 .slack, ea (c .before), ee (c .before), ez (c .before))) (w .few) (w .inside) (w .lower) (w .upper)
+join-requires c κs = let t = c .before in
+    let q = S t .pre in
+    let p = q .0 in
+    let w = p .3 in (
+      room-roomy _ _ _ _ _ (p .0) _ (p .1) _ _ _ (ea t) (ee t) (ez t) _ _ _ (omega (arith, p .2 .slack, ea t, ee t, ez t)) (w .few) (w .inside) (w .lower) (w .upper),
+      (q .1 .0, ((λ n. room-prior _ _ _ _ _ (p .0) _ (p .1) _ _ _ (ea t) (ee t) (ez t) _ _ _ (q .1 .1 .0 n)), q .1 .1 .1)),
+    )
 
 same-length : tie.Need-same-length
 same-length c = search needs
@@ -77,7 +81,7 @@ same-length c = search needs
 returns : tie.Need-returns
 returns c = let j = J (c .before) in
     let t = j .before .before in
-    let p = S t .pre in
+    let p = S t .pre .0 in
     (step-stays _ _ _ _ _ (p .0) _ (p .1) _ _ _ (ea t) (ee t) (ez t) _ _ _ _ (j .join .kept .1 .0) (j .join .ensures .0) refl (c .if1 .taken), j .join .ensures .1)
 
 mul-set-part : tie.Need-mul-set-part
@@ -89,7 +93,7 @@ add-set-part c = search needs
 set-part-requires : tie.Need-set-part-requires
 set-part-requires c κs = let j = J (c .before .before) in
     let t = j .before .before in
-    let p = S t .pre in
+    let p = S t .pre .0 in
     let f = end-fits _ _ _ _ _ (p .0) _ (p .1) _ _ _ (ea t) (ee t) (ez t) _ _ _ (j .join .kept .1 .0) (j .join .ensures .0) in
     (put-room _ _ _ _ _ (p .0) _ (p .1) _ _ _ (ea t) (ee t) (ez t) (j .join .last .1 .0) (j .join .kept .1 .0), (p .1, f))
 
@@ -100,7 +104,7 @@ returns-2 : tie.Need-returns-2
 returns-2 c = let sp = c .before .before in
     let j = J (sp .before .before .before) in
     let t = j .before .before in
-    let p = S t .pre in
+    let p = S t .pre .0 in
     (step-floors _ _ _ _ _ (p .0) _ (p .1) _ _ _ (ea t) (ee t) (ez t) _ _ _ _ (j .join .kept .1 .0) (j .join .ensures .0) refl _ (sp .set-part .ensures) (sp .set-part .kept .0), j .join .ensures .1)
 
 pub add-floors-spec : {M : Type 1} → statement M

@@ -27,7 +27,12 @@ same-length-2 : tie.Need-same-length-2
 same-length-2 c = search needs
 
 returns : tie.Need-returns
-returns c = (search needs, redo-same _ _ _ _ (c .before .before .before .before .before .before .before .before .before .before .before .before .row-part .ensures) (c .before .before .before .before .before .before .before .before .before .before .before .before .before .before .before .before .before .before .before .pre .0) _ _ _ (c .before .before .before .before .before .before .before .before .before .before .before .before .before .before .before .before .before .before .before .pre .2) (c .before .before .before .before .before .before .before .before .before .before .before .before .before .before .before .before .before .before .before .pre .3) (c .before .before .before .before .before .before .before .before .before .copy-part .ensures) _ _ (pass1-low _ (c .before .before .before .before .before .before .before .before .before .before .before .before .before .before .before .before .before .before .before .pre .0) _ _ _ (c .before .before .before .before .before .before .before .before .before .before .before .before .before .before .before .before .before .before .before .pre .2) (c .before .before .before .before .before .pass1-row .ensures .0) (c .before .before .before .before .before .pass1-row .ensures .1)) (c .same-part .ensures), search (needs, pass1-low), search (needs, redo-kept))
+returns c =
+    let at-pass1-row = c .before .before .before .before .before in
+    let at-copy-part = at-pass1-row .before .before .before .before in
+    let at-row-part = at-copy-part .before .before .before in
+    let start = at-row-part .before .before .before .before .before .before .before in
+    (search needs, redo-same _ _ _ _ (at-row-part .row-part .ensures) (start .pre .0) _ _ _ (start .pre .2) (start .pre .3) (at-copy-part .copy-part .ensures) _ _ (pass1-low _ (start .pre .0) _ _ _ (start .pre .2) (at-pass1-row .pass1-row .ensures .0) (at-pass1-row .pass1-row .ensures .1)) (c .same-part .ensures), search (needs, pass1-low), search (needs, redo-kept))
 
 pub redo1-row-spec : {M : Type 1} → statement M
 redo1-row-spec =

@@ -24,7 +24,12 @@ same-length-2 : tie.Need-same-length-2
 same-length-2 c = search needs
 
 returns : tie.Need-returns
-returns c = (search needs, redo-same _ _ _ _ (c .before .before .before .before .before .before .before .before .before .before .before .before .row-part .ensures) (c .before .before .before .before .before .before .before .before .before .before .before .before .before .before .before .before .before .before .before .before .pre .0) _ _ _ (c .before .before .before .before .before .before .before .before .before .before .before .before .before .before .before .before .before .before .before .before .pre .3) (c .before .before .before .before .before .before .before .before .before .before .before .before .before .before .before .before .before .before .before .before .pre .4) (c .before .before .before .before .before .before .before .before .before .copy-part .ensures) _ _ (c .before .before .before .before .before .pass2-from .ensures .1) (c .same-part .ensures), search needs, search (needs, redo-kept))
+returns c =
+    let at-pass2-from = c .before .before .before .before .before in
+    let at-copy-part = at-pass2-from .before .before .before .before in
+    let at-row-part = at-copy-part .before .before .before in
+    let start = at-row-part .before .before .before .before .before .before .before .before in
+    (search needs, redo-same _ _ _ _ (at-row-part .row-part .ensures) (start .pre .0) _ _ _ (start .pre .3) (start .pre .4) (at-copy-part .copy-part .ensures) _ _ (at-pass2-from .pass2-from .ensures .1) (c .same-part .ensures), search needs, search (needs, redo-kept))
 
 pub redo2-row-spec : {M : Type 1} → statement M
 redo2-row-spec =

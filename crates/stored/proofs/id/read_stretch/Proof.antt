@@ -79,9 +79,16 @@ loop-less c = search needs
 
 loop-again : tie.Need-loop-again Inv-loop μ-loop
 loop-again c =
-    within-next (c .before .before .before .before .before .before .before .before .before .args .file .now) (c .before .before .before .before .before .before .before .before .before .args .p) (c .before .before .before .before .before .before .before .before .before .args .before) (c .before .before .before .before .before .before .before .before .before .args .span) (c .before .before .before .before .before .before .before .loop .left) (c .before .before .before .before .before .before .before .loop .j) (c .before .before .before .before .before .before .before .loop .spans)
-    (c .before .before .before .before .before .before .before .loop .inv) (c .before .before .before .before .before .before .before .before .before .pre .0) (search needs) (c .before .before .before .before .before .if1 .left) _ (c .before .before .before .before .is-run .ensures) (c .before .before .before .if2 .taken) _ (c .before .before .run-holds .ensures)
-    (c .spans-after .result) (c .before .if3 .left) (c .spans-after .ensures .0) (c .spans-after .ensures .1)
+    let at-if3 = c .before in
+    let at-run-holds = at-if3 .before in
+    let at-if2 = at-run-holds .before in
+    let at-is-run = at-if2 .before in
+    let at-if1 = at-is-run .before in
+    let head = at-if1 .before .before in
+    let start = head .before .before in
+    within-next (start .args .file .now) (start .args .p) (start .args .before) (start .args .span) (head .loop .left) (head .loop .j) (head .loop .spans)
+    (head .loop .inv) (start .pre .0) (search needs) (at-if1 .if1 .left) _ (at-is-run .is-run .ensures) (at-if2 .if2 .taken) _ (at-run-holds .run-holds .ensures)
+    (c .spans-after .result) (at-if3 .if3 .left) (c .spans-after .ensures .0) (c .spans-after .ensures .1)
 
 cast-t23 : tie.Need-cast-t23 Inv-loop μ-loop
 cast-t23 c = search needs

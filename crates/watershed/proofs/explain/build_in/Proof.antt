@@ -10,7 +10,9 @@ slice-relend-prefix-build-records : tie.Need-slice-relend-prefix-build-records
 slice-relend-prefix-build-records c = search needs
 
 slice-aggregate-build-records : tie.Need-slice-aggregate-build-records
-slice-aggregate-build-records c = sym (part-length _ _ (c .before .before .before .before .before .before .before .pre .0))
+slice-aggregate-build-records c =
+    let start = c .before .before .before .before .before .before .before in
+    sym (part-length _ _ (start .pre .0))
 
 build-records-requires : tie.Need-build-records-requires
 build-records-requires c κs = search needs

@@ -80,7 +80,12 @@ returns-3 c =
     (never-reached-at _ _ _ _ _ _ (g .grew) (g .span) (c .before .before .before .before .before .before .before .before .if1 .left) (c .before .before .before .before .before .before .if2 .left) (c .before .before .before .before .before .if3 .taken))
 
 explain-region-requires : tie.Need-explain-region-requires
-explain-region-requires c κs = (c .before .before .before .before .before .before .before .before .before .before .before .before .before .before .before .pre, record { walkable = c .before .before .before .before .before .if1 .left; plain = c .before .before .before .if2 .left; some = c .before .before .if3 .left })
+explain-region-requires c κs =
+    let at-if3 = c .before .before in
+    let at-if2 = at-if3 .before in
+    let at-if1 = at-if2 .before .before in
+    let start = at-if1 .before .before .before .before .before .before .before .before .before .before in
+    (start .pre, record { walkable = at-if1 .if1 .left; plain = at-if2 .if2 .left; some = at-if3 .if3 .left })
 
 same-length-4 : tie.Need-same-length-4
 same-length-4 c = search needs
@@ -89,7 +94,9 @@ same-length-5 : tie.Need-same-length-5
 same-length-5 c = search needs
 
 returns-4 : tie.Need-returns-4
-returns-4 c = c .before .before .before .before .explain-region .ensures
+returns-4 c =
+    let at-explain-region = c .before .before .before .before in
+    at-explain-region .explain-region .ensures
 
 pub explain-grown-spec : {M : Type 1} → statement M
 explain-grown-spec =

@@ -101,7 +101,9 @@ returns c =
     (filtered-out-at _ _ _ _ _ _ (S k .pre .0 .grew) (S k .pre .0 .span) (S k .pre .1) _ _ (told-id _ _ _ _ _ _ _ _ _ _ _ _ _ _ _ (S k .pre .0) (bytes k) _ (p .links-past .ensures) _ (r .ready-records .kept .0) (r .ready-records .ensures) _ (b .build-in .kept .1 .1 .1 .1 .1 .1 .1 .0) (b .build-in .ensures) _ _ _ _ _ _ _ _ refl (m .merge-and-filter-told .ensures)) (c .before .before .before .before .before .before .if1 .taken) (told-group _ _ _ _ _ _ _ _ _ _ _ _ _ _ _ (S k .pre .0) (bytes k) _ (p .links-past .ensures) _ (r .ready-records .kept .0) (r .ready-records .ensures) _ (b .build-in .kept .1 .1 .1 .1 .1 .1 .1 .0) (b .build-in .ensures) _ _ _ _ _ _ _ _ refl (m .merge-and-filter-told .ensures)))
 
 mul-lower : tie.Need-mul-lower
-mul-lower c = let k = K (c .before .before .before .before .before .before .before .before .before .before .before .before .before .before .before .before .before .before .before) in omega (arith, S k .pre .0 .span, short _ _ _ _ _ _ _ _ _ _ _ _ _ _ _ (S k .pre .0) (bytes k))
+mul-lower c =
+    let at-before = c .before .before .before .before .before .before .before .before .before .before .before .before .before .before .before .before .before .before in
+    let k = K (at-before .before) in omega (arith, S k .pre .0 .span, short _ _ _ _ _ _ _ _ _ _ _ _ _ _ _ (S k .pre .0) (bytes k))
 
 slice-read-lower : tie.Need-slice-read-lower
 slice-read-lower c =

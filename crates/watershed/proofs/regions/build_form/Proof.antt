@@ -10,13 +10,17 @@ use Rattle.watershed.proofs.regions.build_form.Tie as tie
 
 -- what the stages find, the verdict, the entry
 abbrev F : tie.After-struct-known → tie.After-find-regions
-F c = c .before .before .before .before .before
+F c =
+    let at-before = c .before .before .before .before in
+    at-before .before
 
 abbrev T : tie.After-find-regions → tie.After-enum-told
 T c = c .before .before .before
 
 abbrev S : tie.After-enum-told → tie.Start
-S c = c .before .before .before .before .before .before .before .before .before .before
+S c =
+    let at-before = c .before .before .before .before .before .before .before .before .before in
+    at-before .before
 
 check-regions-requires : tie.Need-check-regions-requires
 check-regions-requires c κs = search needs

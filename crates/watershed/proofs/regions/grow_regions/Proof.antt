@@ -3,25 +3,35 @@
 use native.Mathlib.Omega.{arith}
 use mathlib.Core.Path.{refl, _∙_}
 use borrow.Author.Needs.{needs}
-use Rattle.watershed.proofs.StageLaws.{few, kept-room, poised, raised, kept-ids, put-back}
+use Rattle.watershed.proofs.StageLaws.{few, kept-room, poised, raised, put-back}
 use Rattle.watershed.proofs.regions.grow_regions.Statement.{statement}
 use Rattle.watershed.proofs.regions.grow_regions.Tie as tie
 
 -- the entry, the ids kept, the ids cleared, the workspace cleared before the table, the growth
 abbrev S : tie.After-copy-part-arg2 → tie.Start
-S c = c .before .before .before .before .before .before .before .before .before
+S c =
+    let at-before = c .before .before .before .before .before .before .before .before in
+    at-before .before
 
 abbrev C : tie.After-clear → tie.After-copy-part
-C c = c .before .before .before .before
+C c =
+    let at-before = c .before .before .before in
+    at-before .before
 
 abbrev I : tie.After-clear-part → tie.After-clear
-I c = c .before .before .before .before
+I c =
+    let at-before = c .before .before .before in
+    at-before .before
 
 abbrev P : tie.After-grow → tie.After-clear-part
-P c = c .before .before .before .before .before
+P c =
+    let at-before = c .before .before .before .before in
+    at-before .before
 
 abbrev G : tie.After-struct-known → tie.After-grow
-G c = c .before .before .before .before .before
+G c =
+    let at-before = c .before .before .before .before in
+    at-before .before
 
 mul-kept : tie.Need-mul-kept
 mul-kept c = let s = c .before .before .before .before .before .before .before in omega (arith, few _ _ _ _ _ _ _ _ _ (s .pre .0))
@@ -72,7 +82,8 @@ put-back-requires c κs =
 
 same-length : tie.Need-same-length
 same-length c =
-    let g = G (c .before .before .before .before .before .before) in
+    let at-before = c .before .before .before .before .before in
+    let g = G (at-before .before) in
     let p = P g in
     g .grow .kept .1 .1 .1 .1 .1 .1 .1 .1 .0 ∙ p .clear-part .kept .0 ∙ C (I p) .copy-part .kept .1 .0
 

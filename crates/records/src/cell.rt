@@ -13,7 +13,8 @@ ghost use Rattle.rules.specs.Base.{_or_, if_then_else_};
 ghost use Rattle.rules.specs.Field.{none};
 ghost use Rattle.rules.specs.Records.{once, onceAll};
 ghost use Rattle.rules.specs.Refusals.{mostSpans};
-ghost use Rattle.records.specs.Cell.{twin, twins, othersFrom, joinOne, Lies, Alike, Found, JoinedOne, JoinedAll, Within, Roomy, Near, Unchanged, Prior, asManyFrom, Some, LooksTo};
+ghost use Rattle.records.specs.Cell.{twin, twins, othersFrom, joinOne, Lies, Alike, Found, JoinedOne};
+ghost use Rattle.records.specs.Cell.{JoinedAll, Within, Roomy, Near, Unchanged, Prior, asManyFrom, Some, LooksTo};
 
 // The spans of a cell: size of them, from `from` on. Two numbers of one size: bytes that no field has would be copied with each cell (docs/PERFORMANCE.md).
 pub struct Spans {

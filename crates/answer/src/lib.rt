@@ -1,4 +1,7 @@
 // From the bytes of a field file to the bytes that are printed for it.
+
+#![tactic(auto)]
+
 ghost use Rattle.std.specs.Prelude.{◌*◌, ◌≤◌, length};
 ghost use Rattle.rules.specs.Listing.{ran, printed};
 ghost use Rattle.field.specs.Lent.{lent};

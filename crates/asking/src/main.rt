@@ -3,6 +3,9 @@
 // height, or `no_layer` with the number of the cell's layers.
 // On standard error it tells where a file is refused 20 or 21: `position` and the place, counted from 0.
 // The first 4,096 bytes are enough: `first_bytes_decide` and `first_bytes_place` (crates/file/proofs/FirstBytes.antt).
+
+#![tactic(auto)]
+
 mod place;
 mod print;
 mod whole;

@@ -7,7 +7,7 @@ use field::read::at8;
 pub const NO_NUMBER: u32 = 4294967295;
 
 // The column, row and layer asked for.
-#[derive(Drop)]
+#[derive(Clone, Copy)]
 pub struct Asked {
     pub x: u32,
     pub z: u32,
@@ -15,14 +15,14 @@ pub struct Asked {
 }
 
 // Where a span is: its cell, and its layer there.
-#[derive(Drop)]
+#[derive(Clone, Copy)]
 pub struct Spot {
     pub cell: usize,
     pub layer: usize,
 }
 
 // What is at a place: no cell; a cell with so many layers, none of them that one; or a span.
-#[derive(Drop)]
+#[derive(Clone, Copy)]
 pub enum Found {
     NoCell,
     NoLayer(u8),

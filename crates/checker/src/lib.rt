@@ -1,4 +1,7 @@
 // The refusals 1 to 6 in their order: each over the whole field before the next.
+
+#![tactic(auto)]
+
 mod cells;
 pub mod links;
 pub mod reach;
@@ -14,7 +17,7 @@ use crate::links::links_ok;
 use crate::reach::reach_ok;
 
 // The table of refusals of documents 01 and 02. The last four are the region entry's.
-#[derive(Drop)]
+#[derive(Clone, Copy)]
 pub enum Refusal {
     TooWide,
     TooMany,
@@ -46,7 +49,7 @@ pub fn refusal_number(r: Refusal) -> u16
     }
 }
 
-#[derive(Drop)]
+#[derive(Clone, Copy)]
 pub enum Verdict {
     Sound,
     Refused(Refusal),

@@ -46,7 +46,7 @@ pub(crate) fn is_solid_edge(
 }
 
 // A direction, or none.
-#[derive(Drop)]
+#[derive(Clone, Copy)]
 pub enum Edge {
     At(usize),
     Nowhere,

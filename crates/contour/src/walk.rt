@@ -11,7 +11,7 @@ use net::neighbour;
 
 // Where the pool begins in the workspace, four numbers a span, and the table of neighbours. Starts and ends of lists are counted from
 // the pool's place on.
-#[derive(Drop)]
+#[derive(Clone, Copy)]
 pub struct Pool {
     pub at: usize,
     pub table: usize,
@@ -106,7 +106,7 @@ fn trim(ws: &mut [u16], pool: Pool, start: usize, end: usize) -> usize
 }
 
 // Where a contour's list ends, and whether its walk used up its strides without coming back.
-#[derive(Drop)]
+#[derive(Clone, Copy)]
 pub struct Contour {
     pub end: usize,
     pub cut: bool,

@@ -6,7 +6,7 @@ ghost use Rattle.contour.specs.Pool.{turned, stepped, noted};
 use field::place::SpanIx;
 
 // A walker stands on a span and faces one direction. It knows the id that it listed last, and where its list ends.
-#[derive(Drop)]
+#[derive(Clone, Copy)]
 pub struct Walker {
     pub span: SpanIx,
     pub dir: usize,

@@ -135,7 +135,7 @@ fn from_inside(
 }
 
 // The same for any span: one that lacks a neighbour starts at 0.
-fn from_start_lem(
+fn from_start(
     w: usize,
     h: usize,
     index: &[u32],
@@ -185,7 +185,7 @@ fn pass1_cell(
             cell: c,
             span: SpanIx(s),
         };
-        raw[s] = from_start_lem(w, h, index, count, area, con, raw, p);
+        raw[s] = from_start(w, h, index, count, area, con, raw, p);
     }
 }
 
@@ -261,7 +261,7 @@ pub fn pass1_row(
 }
 
 // Where a run of spans ends, and whether a span stands there. Both are told, so that who goes on from there need not ask again.
-#[derive(Drop)]
+#[derive(Clone, Copy)]
 struct Run {
     at: usize,
     more: bool,

@@ -1,1 +1,3 @@
 // Opening a door, as theorems about the rules: see specs/ and proofs/. This crate has no code.
+
+#![tactic(auto)]

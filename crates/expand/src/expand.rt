@@ -45,7 +45,7 @@ fn settle(ids: &[u16], ws: &mut [u16], at: Sections, stack: Stack, k: usize)
 }
 
 // Whether a sum exceeded what a source distance can be, and the story of the watched span.
-#[derive(Drop)]
+#[derive(Clone, Copy)]
 pub struct Expanded {
     pub strays: bool,
     pub story: Story,

@@ -14,7 +14,7 @@ use net::neighbour;
 use region::RegionId;
 
 // An id, and the source distance that goes with it; and whether a sum exceeded what a source distance can be. Filled up, as `Tries` is.
-#[derive(Drop)]
+#[derive(Clone, Copy)]
 pub struct Taken {
     pub id: u16,
     pub far: u16,

@@ -39,7 +39,7 @@ fn write_all(ids: &mut [u16], ws: &mut [u16], changes: usize, lo: usize, hi: usi
 }
 
 // How many changes are noted, whether a sum exceeded what a source distance can be, and the story of the watched span.
-#[derive(Drop)]
+#[derive(Clone, Copy)]
 pub struct Spread {
     pub noted: usize,
     pub strays: bool,

@@ -14,7 +14,7 @@ use region::RegionId;
 
 // How many changes are noted, and whether a sum exceeded what a source distance can be. Past the flag the struct is filled up: bytes that no field
 // has are copied with a struct too, by way of memory, and these copies took more than half of the time of an expansion (docs/PERFORMANCE.md).
-#[derive(Drop)]
+#[derive(Clone, Copy)]
 pub struct Tries {
     pub noted: usize,
     pub strays: bool,

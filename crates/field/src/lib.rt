@@ -1,4 +1,7 @@
 // The field as lent, and where a connection leads.
+
+#![tactic(auto)]
+
 pub mod block;
 pub mod place;
 pub mod read;

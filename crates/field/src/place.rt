@@ -7,15 +7,15 @@ ghost use Rattle.field.specs.Lent.{cons_at, Leaf, SomeLeaf};
 use crate::read::at32;
 
 // A span's number.
-#[derive(Drop)]
+#[derive(Clone, Copy)]
 pub struct SpanIx(pub usize);
 
 // A span's layer within its cell: not a span's number.
-#[derive(Drop)]
+#[derive(Clone, Copy)]
 pub struct Layer(pub u8);
 
 // A span and the cell that it stands in.
-#[derive(Drop)]
+#[derive(Clone, Copy)]
 pub struct Place {
     pub cell: usize,
     pub span: SpanIx,

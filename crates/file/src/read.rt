@@ -7,7 +7,7 @@ use load::bytes::feed;
 use load::{Loader, load_begin, load_end};
 
 // Document 01's refusals of a file.
-#[derive(Drop)]
+#[derive(Clone, Copy)]
 pub enum FileRefusal {
     Malformed,
     TooLarge,
@@ -24,7 +24,7 @@ pub fn file_number(r: FileRefusal) -> u16
 }
 
 // The numbers of a file's header.
-#[derive(Drop)]
+#[derive(Clone, Copy)]
 pub struct Header {
     pub w: u16,
     pub h: u16,
@@ -34,14 +34,14 @@ pub struct Header {
 }
 
 // What reading a file comes to: a refusal, or its header and the number of its spans, the field being in the lent lists.
-#[derive(Drop)]
+#[derive(Clone, Copy)]
 pub enum FileReading {
     Refused(FileRefusal),
     Described(Header, usize),
 }
 
 // Where a file is refused.
-#[derive(Drop)]
+#[derive(Clone, Copy)]
 pub enum FilePlace {
     At(u32),
     Nowhere,

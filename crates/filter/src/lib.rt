@@ -1,4 +1,7 @@
 // The filter: groups of records under the least area are removed.
+
+#![tactic(auto)]
+
 mod gather;
 mod remove;
 mod told;

@@ -16,7 +16,7 @@ use field::read::at16;
 use net::{Sections, neighbour};
 
 // The stack's height, and how many spans count.
-#[derive(Drop)]
+#[derive(Clone, Copy)]
 pub struct Height {
     pub top: usize,
     pub count: usize,
@@ -105,7 +105,7 @@ fn pop(ws: &mut [u16], i: usize) -> usize
 }
 
 // The stack after a visit, and the story of the watched span.
-#[derive(Drop)]
+#[derive(Clone, Copy)]
 pub struct Visited {
     pub height: Height,
     pub story: Story,
@@ -173,7 +173,7 @@ fn below(level: u16) -> u16
 }
 
 // How many spans count, and the story of the watched span.
-#[derive(Drop)]
+#[derive(Clone, Copy)]
 pub struct Flooded {
     pub count: usize,
     pub story: Story,

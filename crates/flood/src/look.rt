@@ -12,7 +12,7 @@ use net::neighbour;
 use region::RegionId;
 
 // What a flood has from its seed.
-#[derive(Drop)]
+#[derive(Clone, Copy)]
 pub struct Seed {
     pub area: u8,
     pub id: u16,

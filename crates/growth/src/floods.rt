@@ -17,7 +17,7 @@ use net::Sections;
 use region::RegionId;
 
 // The next id, and the story of the watched span.
-#[derive(Drop)]
+#[derive(Clone, Copy)]
 pub struct Floods {
     pub next: u16,
     pub story: Story,

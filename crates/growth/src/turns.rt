@@ -52,7 +52,7 @@ fn turn_stack(n: usize, l: LevelStacks) -> Stack
 }
 
 // What growth comes to: the next id, the refusal that stops it, and the story of the watched span.
-#[derive(Drop)]
+#[derive(Clone, Copy)]
 pub struct Growth {
     pub next: u16,
     pub stop: u16,
@@ -69,7 +69,7 @@ pub const IDS_RUN_OUT: u16 = 12;
 pub(crate) const TOO_FAR: u16 = 13;
 
 // The stacks after a turn, the next id, what stops it, and the story of the watched span.
-#[derive(Drop)]
+#[derive(Clone, Copy)]
 pub struct TurnResult {
     pub stacks: LevelStacks,
     pub next: u16,

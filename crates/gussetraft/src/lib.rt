@@ -1,4 +1,7 @@
 // The functions that C and Rust call (include/gussetraft.h). They take any input, as the entries do.
+
+#![tactic(auto)]
+
 mod pieces;
 mod results;
 pub mod roomids;
@@ -27,7 +30,7 @@ use watershed::{
 
 // The answer of the distance entry: 0 or the refusal number, and max_distance.
 #[repr(C)]
-#[derive(Drop)]
+#[derive(Clone, Copy)]
 pub struct Distances {
     pub refusal: u16,
     pub max_distance: u16,
@@ -35,7 +38,7 @@ pub struct Distances {
 
 // The answer of the region entry: 0 or the refusal number, max_region, the overlap count, and the number of records cut short.
 #[repr(C)]
-#[derive(Drop)]
+#[derive(Clone, Copy)]
 pub struct Regions {
     pub refusal: u16,
     pub max_region: u16,
@@ -45,7 +48,7 @@ pub struct Regions {
 
 // The answer of the mending: 0 or the refusal number, and how many connections were set to none.
 #[repr(C)]
-#[derive(Drop)]
+#[derive(Clone, Copy)]
 pub struct Mending {
     pub refusal: u32,
     pub count: u32,

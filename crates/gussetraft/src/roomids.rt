@@ -10,7 +10,7 @@ use plain::{RoomsAnswer, build_rooms};
 
 // The answer of the entry: 0 or the refusal number, and max_region.
 #[repr(C)]
-#[derive(Drop)]
+#[derive(Clone, Copy)]
 pub struct Rooms {
     pub refusal: u16,
     pub max_region: u16,

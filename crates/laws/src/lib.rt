@@ -1,1 +1,3 @@
 // Theorems about the rules alone: see proofs/. This crate has no code.
+
+#![tactic(auto)]

@@ -1,4 +1,7 @@
 // The eight level stacks: flood and expansion rule 2.
+
+#![tactic(auto)]
+
 ghost use Rattle.std.specs.Prelude.{◌≡◌, [], ◌∷◌, ◌+◌, ◌-◌, ◌*◌, ◌/◌, ◌<◌, ◌≤◌, length, get_or, replicate, eqb, leb};
 ghost use Rattle.rules.specs.Base.{◌and◌, ◌or◌};
 ghost use Rattle.rules.specs.Growth.{sorted, remains};
@@ -17,7 +20,7 @@ const BLOCK: usize = 16;
 const USED: u16 = 65535;
 
 // The fill of each stack, beside the turn's number. Stack k lies at k * n .. (k + 1) * n of the part that is lent for the stacks.
-#[derive(Drop)]
+#[derive(Clone, Copy)]
 pub struct LevelStacks {
     pub fills: [u16; STACKS],
     pub turn: usize,

@@ -1,5 +1,8 @@
 // The two entries on sample fields and at their limits. What it prints is held against what the oracle gives for the same calls
 // (oracle/oracle/src/bin/limits.rs).
+
+#![tactic(auto)]
+
 mod fields;
 mod regions;
 mod show;

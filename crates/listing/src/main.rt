@@ -1,6 +1,9 @@
 // Reads a field file, standard input or the file that the one argument names, and prints its listing, or `refused` and the number. On standard error it
 // tells where a file is refused 20 or 21: `position` and the place, counted from 0.
 // The first 4,096 bytes are enough: `first_bytes_decide` and `first_bytes_place` (crates/file/proofs/FirstBytes.antt).
+
+#![tactic(auto)]
+
 use answer::reply;
 use file::read::{FilePlace, place};
 use libc::{STDERR_FILENO, STDIN_FILENO, STDOUT_FILENO};

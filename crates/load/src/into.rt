@@ -10,7 +10,7 @@ use crate::{Loader, PieceAnswer, load_begin, load_end, load_piece};
 
 // What a call gives: 0 or the number of the refusal, and its position, 0 where there is none.
 #[repr(C)]
-#[derive(Drop)]
+#[derive(Clone, Copy)]
 pub struct LoadAnswer {
     pub refusal: u32,
     pub position: u32,

@@ -1,4 +1,7 @@
 // Loading a field file in pieces (document 02, A2): a loader is handed from call to call, beside the lent lists of the field.
+
+#![tactic(auto)]
+
 pub mod bytes;
 pub mod into;
 
@@ -11,7 +14,7 @@ use crate::bytes::feed;
 // The numbers of a loader: the limits of refusal 21; the kind of the record under way (0: none), the bytes of its body so far and the place of its kind
 // byte; the bytes received; the header's numbers; the cells and spans so far and the spans of the last cell that are still to come; the refusal and its
 // position; and whether the end was declared.
-#[derive(Drop)]
+#[derive(Clone, Copy)]
 pub struct Loader {
     pub most_cells: u32,
     pub most_spans: u32,
@@ -33,7 +36,7 @@ pub struct Loader {
 }
 
 // What a call with a piece comes to: the loader after it, whose refusal is the file's; or a lent list was too short, and nothing changed.
-#[derive(Drop)]
+#[derive(Clone, Copy)]
 pub enum PieceAnswer {
     Taken(Loader),
     TooShort,

@@ -1,1 +1,3 @@
 // What the distance means, as theorems about the rules: see specs/ and proofs/. This crate has no code.
+
+#![tactic(auto)]

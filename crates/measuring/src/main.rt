@@ -2,6 +2,9 @@
 // right, low and high edge; or `refused` and the number. The one argument is the scale k: a cell's side is k/64 metre.
 // On standard error it tells where a file is refused 20 or 21: `position` and the place, counted from 0.
 // The first 4,096 bytes are enough: `first_bytes_decide` and `first_bytes_place` (crates/file/proofs/FirstBytes.antt).
+
+#![tactic(auto)]
+
 mod print;
 mod whole;
 

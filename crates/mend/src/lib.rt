@@ -1,5 +1,8 @@
 // The mending of a hand-edited field: connections that lead to no span, or are not answered, become none, and each change is listed.
 // One walk serves twice: with no room it counts the changes and writes nothing, with room for all it makes and notes them.
+
+#![tactic(auto)]
+
 ghost use Rattle.std.specs.Prelude.{◌≡◌, ◌+◌, ◌*◌, ◌<◌, length, get_or, []};
 ghost use Rattle.rules.specs.Refusals.{refusal, most_spans};
 ghost use Rattle.rules.specs.Mend.{stays, mend_outcome};
@@ -14,7 +17,7 @@ use field::place::{Layer, NO_LAYER, SpanIx};
 use field::read::{at8, at32};
 
 // One of refusals 1 to 4; 27, a list without room; or how many connections were set to none.
-#[derive(Drop)]
+#[derive(Clone, Copy)]
 pub enum MendAnswer {
     Refused(Refusal),
     NoRoom,

@@ -1,6 +1,9 @@
 // Reads a field file from standard input and prints it with its connections mended, or `refused` and the number. On standard error it tells each change
 // in a line of five numbers: column, row, layer, direction, old layer; or where a file is refused 20 or 21: `position` and the place, counted from 0.
 // The first 4,096 bytes are enough: a file that is not refused is shorter (`first_bytes_decide` and `first_bytes_place` in crates/file/proofs/FirstBytes.antt).
+
+#![tactic(auto)]
+
 mod patch;
 mod whole;
 

@@ -7,7 +7,7 @@ use field::place::NO_LAYER;
 use field::read::{at8, at16};
 
 // Where a span is: its cell, and its layer there.
-#[derive(Drop)]
+#[derive(Clone, Copy)]
 pub struct Spot {
     pub cell: usize,
     pub layer: usize,

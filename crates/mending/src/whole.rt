@@ -11,7 +11,7 @@ use file::read::{FileReading, Header, file_number, read_file};
 use mend::{MendAnswer, mend};
 
 // What mending a file comes to: a refusal's number, or its width and how many changes were made.
-#[derive(Drop)]
+#[derive(Clone, Copy)]
 pub enum Filed {
     Refused(u16),
     Made(u16, usize),

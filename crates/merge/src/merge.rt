@@ -15,7 +15,7 @@ use table::map::{HALF, LISTS, OVERLAPS, POOL, RECORD_ROOM};
 use table::{holds, list_of, place};
 
 // Where the lists are, and how many merges there were in the round.
-#[derive(Drop)]
+#[derive(Clone, Copy)]
 pub struct Round {
     pub half: Half,
     pub merges: usize,

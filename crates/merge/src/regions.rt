@@ -54,7 +54,7 @@ fn number_in(ids: &mut [u16], ws: &mut [u16], end: usize, m: usize) -> Regions
 }
 
 // What became of one record: its id after the filter, the count of the group with which it was removed; how many merges there were; and the regions.
-#[derive(Drop)]
+#[derive(Clone, Copy)]
 pub struct Told {
     pub id: u16,
     pub group: usize,

@@ -12,7 +12,7 @@ use crate::merge::{Round, first_half, merge_one};
 use pool::Half;
 
 // A round under way, and how many merges are noted.
-#[derive(Drop)]
+#[derive(Clone, Copy)]
 pub struct Noted {
     pub round: Round,
     pub count: usize,

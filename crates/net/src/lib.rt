@@ -1,4 +1,7 @@
 // The net of a field in the workspace: four neighbours a span, from the table's place on.
+
+#![tactic(auto)]
+
 pub mod fill;
 
 ghost use Rattle.std.specs.Prelude.{◌≡◌, ◌+◌, ◌*◌, ◌<◌, ◌≤◌, length, get_or};
@@ -9,7 +12,7 @@ use field::read::at16;
 
 // Where the sections begin that flood and expansion share in the workspace: the changes of an expansion, three numbers each; the flood's stack, which
 // is where an expansion has its flags; the table of neighbours. Source distances begin at 0.
-#[derive(Drop)]
+#[derive(Clone, Copy)]
 pub struct Sections {
     pub changes: usize,
     pub stack: usize,

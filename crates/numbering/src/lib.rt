@@ -1,4 +1,7 @@
 // Numbering: live ids are numbered from 1 by lowest record.
+
+#![tactic(auto)]
+
 ghost use Rattle.std.specs.Prelude.{◌≡◌, List, [], map, ℕ, ◌+◌, ◌*◌, ◌≤◌, ◌<◌, length, get_or, take};
 ghost use Rattle.space.specs.Space.{Frame};
 ghost use Rattle.rules.specs.Numbering.{numbered};
@@ -77,7 +80,7 @@ fn nonzero(l: &[u16]) -> u16
 }
 
 // The last number given, how many records have overlap set, and how many bear the mark of a contour cut short.
-#[derive(Drop)]
+#[derive(Clone, Copy)]
 pub struct Regions {
     pub max_region: u16,
     pub overlaps: u16,

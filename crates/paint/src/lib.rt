@@ -1,4 +1,7 @@
 // The border's painting (flood and expansion rule 1).
+
+#![tactic(auto)]
+
 ghost use Rattle.std.specs.Prelude.{◌≡◌, ◌+◌, ◌*◌, ◌<◌, ◌≤◌, min, length, get_or, replicate};
 ghost use Rattle.rules.specs.Field.{Field};
 ghost use Rattle.rules.specs.Growth.{painted, first_id};

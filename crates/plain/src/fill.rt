@@ -10,7 +10,7 @@ use field::read::at16;
 use net::neighbour;
 
 // What all spans of a room have.
-#[derive(Drop)]
+#[derive(Clone, Copy)]
 pub struct Room {
     pub area: u8,
     pub id: u16,

@@ -1,4 +1,7 @@
 // Plain rooms: one id for each set of walkable spans of one area that connections join, numbered in scan order of the first span.
+
+#![tactic(auto)]
+
 mod fill;
 
 ghost use Rattle.std.specs.Prelude.{◌≡◌, [], ◌∷◌, ◌+◌, ◌≤◌, length, replicate};
@@ -16,7 +19,7 @@ use paint::paint_border;
 use space::{clear, copy, copy_part};
 
 // What the entry gives: the refusal, or max_region.
-#[derive(Drop)]
+#[derive(Clone, Copy)]
 pub enum RoomsAnswer {
     Refused(Refusal),
     Done(u16),

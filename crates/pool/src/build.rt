@@ -10,7 +10,7 @@ use crate::lists::{remove_adjacent_neighbours, swap};
 use table::place;
 
 // A list, from `from` up to `end`, as a circle without one entry: it is read from the entry after that one round to the one before it.
-#[derive(Drop)]
+#[derive(Clone, Copy)]
 pub struct Around {
     pub from: usize,
     pub end: usize,

@@ -1,4 +1,7 @@
 // The pool of neighbour lists, and one merge over it.
+
+#![tactic(auto)]
+
 mod absorb;
 mod bearers;
 mod build;
@@ -17,7 +20,7 @@ pub use crate::relist::len_of;
 
 // Where the lists are in the pool: the half that has them, the other one, how many numbers a half has, where the lists end; and where the links of
 // their places are, past all that the records have.
-#[derive(Drop)]
+#[derive(Clone, Copy)]
 pub struct Half {
     pub now: usize,
     pub other: usize,
@@ -28,7 +31,7 @@ pub struct Half {
 
 // The record that absorbs, and which entry of its list is the absorbed one's id; the record that is absorbed, and which entry of its list is
 // the absorber's.
-#[derive(Drop)]
+#[derive(Clone, Copy)]
 pub struct Pair {
     pub absorber: usize,
     pub entry: usize,
@@ -37,7 +40,7 @@ pub struct Pair {
 }
 
 // An id, and the one that it becomes.
-#[derive(Drop)]
+#[derive(Clone, Copy)]
 pub struct Renaming {
     pub old: u16,
     pub new: u16,

@@ -106,7 +106,7 @@ fn spans_of(index: &[u32], count: &[u8], c: usize) -> Spans
 }
 
 // The pool's end, and the last cell with several spans.
-#[derive(Drop)]
+#[derive(Clone, Copy)]
 pub struct SoFar {
     pub top: usize,
     pub last: Spans,

@@ -12,7 +12,7 @@ use region::RegionId;
 use table::place;
 
 // The spans of a cell: size of them, from `from` on. Two numbers of one size: bytes that no field has would be copied with each cell (docs/PERFORMANCE.md).
-#[derive(Drop)]
+#[derive(Clone, Copy)]
 pub struct Spans {
     pub from: usize,
     pub size: usize,
@@ -56,7 +56,7 @@ fn alike(ids: &[u16], last: Spans, cell: Spans) -> bool
 
 // The last cell with several spans, and where the one begins from which the records of this one's have something; NO_SPAN where that is none. A cell that
 // begins where this one does has as many spans as this one: it is this one, and they have all.
-#[derive(Drop)]
+#[derive(Clone, Copy)]
 pub struct Looked {
     pub last: Spans,
     pub prior: usize,
@@ -108,7 +108,7 @@ fn met(ids: &[u16], other: SpanIx, span: SpanIx, own: u16, before: bool) -> bool
 }
 
 // Of a floor list: its length, and the place after that of the id that joined last, where the next one is looked for first.
-#[derive(Drop)]
+#[derive(Clone, Copy)]
 pub struct Listed {
     pub len: usize,
     pub next: usize,
@@ -210,7 +210,7 @@ fn join_changed(
 }
 
 // What a span takes from its cell: the length of its record's floor list, and whether another span has its id.
-#[derive(Drop)]
+#[derive(Clone, Copy)]
 pub struct Taken {
     pub len: usize,
     pub twin: bool,

@@ -81,7 +81,7 @@ fn trace(con: &[u8], ids: &[u16], ws: &mut [u16], pool: Pool, span: SpanIx, top:
 }
 
 // How many records there are, and where the table of neighbours begins.
-#[derive(Drop)]
+#[derive(Clone, Copy)]
 pub struct Plan {
     pub records: usize,
     pub table: usize,

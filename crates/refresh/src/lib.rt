@@ -1,5 +1,8 @@
 // A door in an editor: area codes change in one rectangle, and the rows that may come out otherwise are redone. With it the build that writes the
 // three lists that a refresh takes.
+
+#![tactic(auto)]
+
 pub mod into;
 mod redo;
 mod rows;
@@ -24,14 +27,14 @@ use distance::pass::{pass1 as pass1_whole, pass2 as pass2_whole};
 use table::any_above;
 
 // What the build gives: the refusal, or max_distance.
-#[derive(Drop)]
+#[derive(Clone, Copy)]
 pub enum StagesAnswer {
     Refused(Refusal),
     Done(u16),
 }
 
 // max_distance, and the first and the last row redone in each stage.
-#[derive(Drop)]
+#[derive(Clone, Copy)]
 pub struct Refreshed {
     pub max_distance: u16,
     pub pass1_first: u16,
@@ -43,7 +46,7 @@ pub struct Refreshed {
 }
 
 // What the refresh gives: one of refusals 1 to 6; 11, a rectangle that is empty or not in the field; 31, a stored value above 510; or what was redone.
-#[derive(Drop)]
+#[derive(Clone, Copy)]
 pub enum RefreshAnswer {
     Refused(Refusal),
     WrongRect,
@@ -52,7 +55,7 @@ pub enum RefreshAnswer {
 }
 
 // The same before anything is redone.
-#[derive(Drop)]
+#[derive(Clone, Copy)]
 enum RefreshVerdict {
     Fine,
     Refused(Refusal),
@@ -61,7 +64,7 @@ enum RefreshVerdict {
 }
 
 // The rows that the passes redo: pass 1 from first to last, pass 2 from last back to top.
-#[derive(Drop)]
+#[derive(Clone, Copy)]
 struct Passes {
     first: usize,
     last: usize,

@@ -6,7 +6,7 @@ ghost use Rattle.refresh.specs.Part.{FirstCell, LastCell, RowPart, part_to, same
 use field::read::{at8, at32};
 
 // Spans from number `from` on, up to number `to`, which is not among them.
-#[derive(Drop)]
+#[derive(Clone, Copy)]
 pub(crate) struct Part {
     pub from: usize,
     pub to: usize,

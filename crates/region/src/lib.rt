@@ -1,9 +1,12 @@
 // A region's id, and the constants of `region.rs`.
+
+#![tactic(auto)]
+
 ghost use Rattle.std.specs.Prelude.{◌≡◌, ◌+◌, ◌<◌};
 ghost use Rattle.rules.specs.Growth.{flagged};
 
 // A region of a field.
-#[derive(Drop)]
+#[derive(Clone, Copy)]
 pub struct RegionId(pub u16);
 
 impl RegionId {

@@ -1,4 +1,7 @@
 // Floor sizes in metres: the record of one id of a finished result.
+
+#![tactic(auto)]
+
 pub mod into;
 pub mod metres;
 pub mod walk;
@@ -16,7 +19,7 @@ use checker::{Refusal, Verdict, check};
 use region::RegionId;
 
 // What the entry gives: one of refusals 1 to 6; 9, a scale of 0 or above 256; 10, a wrong list of ids; or the record.
-#[derive(Drop)]
+#[derive(Clone, Copy)]
 pub enum RoomAnswer {
     Refused(Refusal),
     WrongScale,

@@ -12,7 +12,7 @@ const CELLS_IN_A_SQUARE: f64 = 4096.0;
 const CELLS_IN_A_METRE: f64 = 64.0;
 
 // The floor size in square metres, and the edges in metres.
-#[derive(Drop)]
+#[derive(Clone, Copy)]
 pub struct Size {
     pub floor: f64,
     pub x_least: f64,
@@ -22,7 +22,7 @@ pub struct Size {
 }
 
 // The record of one id.
-#[derive(Drop)]
+#[derive(Clone, Copy)]
 pub struct Room {
     pub size: Size,
     pub area: u8,

@@ -8,7 +8,7 @@ ghost use Rattle.sizes.specs.Walk.{extent_at, note_at};
 use field::read::at8;
 
 // What is known of an id after some of its spans: its first span's area, and its edges in cells.
-#[derive(Drop)]
+#[derive(Clone, Copy)]
 pub struct Extent {
     pub count: u32,
     pub area: u8,

@@ -15,7 +15,7 @@ const NUMBER_PLACE: usize = 321;
 const STRETCH_RECORDS: usize = 65;
 
 // A refusal, or the span's id; with the stretch that was read.
-#[derive(Drop)]
+#[derive(Clone, Copy)]
 pub enum IdAnswer {
     Refused(StoredRefusal, u32),
     Beyond(u32),

@@ -1,4 +1,7 @@
 // Stored results: the conversion of a file of one record a span into one of runs, and back. Each way checks the whole file, then the room, then writes.
+
+#![tactic(auto)]
+
 mod bytes;
 pub mod id;
 pub mod ids;
@@ -14,7 +17,7 @@ use crate::old::{marks_fit, old_fine, pack_fits, write_runs};
 use crate::runs::{longest_runs, new_fine, numbers_right, unpack_fits, write_spans};
 
 // The refusals of a stored result, 22 to 25.
-#[derive(Drop)]
+#[derive(Clone, Copy)]
 pub enum StoredRefusal {
     Malformed,
     NotLongest,
@@ -23,7 +26,7 @@ pub enum StoredRefusal {
 }
 
 // A refusal, or how many bytes were written.
-#[derive(Drop)]
+#[derive(Clone, Copy)]
 pub enum StoredAnswer {
     Refused(StoredRefusal),
     Done(u64),
@@ -47,7 +50,7 @@ pub fn pack(old: &[u8], out: &mut [u8]) -> StoredAnswer
 }
 
 // What a full read refuses.
-#[derive(Drop)]
+#[derive(Clone, Copy)]
 pub enum Checked {
     Fine,
     Refused(StoredRefusal),

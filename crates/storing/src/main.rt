@@ -2,6 +2,9 @@
 // a span's number: reads a stored result from standard input and prints that span's id. Or `refused` and the number, from either.
 // On standard error it tells where a field file is refused 20 or 21: `position` and the place, counted from 0.
 // Of a field file the first 4,096 bytes are enough: `first_bytes_decide` and `first_bytes_place` (crates/file/proofs/FirstBytes.antt).
+
+#![tactic(auto)]
+
 mod read;
 mod whole;
 

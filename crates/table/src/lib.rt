@@ -1,4 +1,7 @@
 // The records in the workspace: what is read of them, and their tables of parts.
+
+#![tactic(auto)]
+
 pub mod map;
 mod search;
 

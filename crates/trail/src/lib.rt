@@ -1,11 +1,14 @@
 // "The trail of merges from the flood's id to the last", from the merges as they were noted.
+
+#![tactic(auto)]
+
 ghost use Rattle.std.specs.Prelude.{◌≡◌, ◌++◌, ◌+◌, ◌*◌, ◌≤◌, length, take, drop};
 ghost use Rattle.rules.specs.Reasons.{trail};
 ghost use Rattle.trail.specs.Noted.{mergings_from};
 ghost use Rattle.trail.specs.Steps.{Follows, Followed};
 
 // What an id has become so far, and the place past the ids that it was before.
-#[derive(Drop)]
+#[derive(Clone, Copy)]
 pub struct Step {
     pub id: u16,
     pub place: usize,

@@ -1,5 +1,8 @@
 // Reads field files one after the other from standard input, each after its length (4 bytes, little-endian, at most 4,096), and prints what is
 // printed for each. Its `stdin` and `stdout` are the stored vectors with the oracle's answers.
+
+#![tactic(auto)]
+
 ghost use Rattle.std.specs.Prelude.{◌≤◌, length};
 
 use answer::reply;

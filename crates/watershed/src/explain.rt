@@ -25,7 +25,7 @@ use trail::write_trail;
 use wipe::wipe;
 
 // What is told of a span: 0 or the refusal number, and the reason. Numbers that a reason does not have are 0.
-#[derive(Drop)]
+#[derive(Clone, Copy)]
 pub struct Explanation {
     pub refusal: u16,
     pub reason: u16,

@@ -8,7 +8,7 @@ use numbering::Regions;
 use region::RegionId;
 
 // Dense: the ids in use are 1 to max_region. Compared: as the Rust numbers them, which counts records without spans, too.
-#[derive(Drop)]
+#[derive(Clone, Copy)]
 pub enum Form {
     Dense,
     Compared,

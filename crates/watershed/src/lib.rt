@@ -1,4 +1,7 @@
 // The public entries.
+
+#![tactic(auto)]
+
 mod explain;
 mod form;
 pub mod into;
@@ -15,7 +18,7 @@ use distance::blur::{box_blur, greatest};
 use distance::distances::calculate_distance_field;
 
 // What the distance entry gives: the refusal, or max_distance.
-#[derive(Drop)]
+#[derive(Clone, Copy)]
 pub enum DistanceAnswer {
     Refused(Refusal),
     Done(u16),

@@ -31,7 +31,7 @@ use table::any_above;
 use wipe::wipe;
 
 // What the region entry gives: the refusal, or max_region, the overlap count, and the number of records cut short.
-#[derive(Drop)]
+#[derive(Clone, Copy)]
 pub enum RegionAnswer {
     Refused(Refusal),
     Done(u16, u16, u16),
@@ -174,7 +174,7 @@ pub(crate) fn ready_records(ws: &mut [u16], m: usize, n: usize)
 }
 
 // What growth and the stages after it find: the refusal that stops growth, and the regions.
-#[derive(Drop)]
+#[derive(Clone, Copy)]
 pub struct Found {
     pub stop: u16,
     pub regions: Regions,

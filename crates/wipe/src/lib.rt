@@ -1,4 +1,7 @@
 // "The workspace holds zeros after": most of it holds them before, and what is zero already is looked at and not written.
+
+#![tactic(auto)]
+
 ghost use Rattle.std.specs.Prelude.{◌≡◌, ◌≤◌, length, replicate};
 ghost use Rattle.space.specs.Space.{Clear, Frame};
 

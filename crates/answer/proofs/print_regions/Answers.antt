@@ -1,0 +1,13 @@
+-- `answer::print_regions` meets its contract: the two arms are the two cases of the region entry's outcome.
+use Rattle.answer.proofs.Printed.{listable, second_refused, second_done}
+use borrow.Author.Rules.{rules}
+use Rattle.answer.proofs.print_regions.Goals as goal
+
+pub write_listing-requires : goal.write_listing-requires
+write_listing-requires c = listable _ _ _ _ _ _ _ _ _ _ _ _ _ _ c.build_regions.result _ _ _ c.requires c.build_regions.ensures.fact c.m-1.given.1 c.build_regions.auto.ids
+
+pub returns-in-Refused : goal.returns-in-Refused
+returns-in-Refused c = search (rules, second_refused)
+
+pub returns-in-Done : goal.returns-in-Done
+returns-in-Done c = search (rules, second_done)

@@ -1,0 +1,16 @@
+-- A block without spans passes, since each of its cells has none.
+use Rattle.checker.proofs.Answered.{block_row_fits, block_fits, block_in, columns_none}
+use borrow.Author.Rules.{rules}
+use Rattle.checker.proofs.links.block_ok.Goals as goal
+
+pub overflow_mul-w : goal.overflow_mul-w
+overflow_mul-w c = search (rules, block_row_fits)
+
+pub overflow_add-w : goal.overflow_add-w
+overflow_add-w c = search (rules, block_fits)
+
+pub is_empty-requires : goal.is_empty-requires
+is_empty-requires c = search (rules, block_in)
+
+pub returns-then-is_empty : goal.returns-then-is_empty
+returns-then-is_empty c = search (rules, columns_none)

@@ -1,0 +1,23 @@
+-- The answers that the check does not find alone.
+use Prim.Native.Nat.{◌≤◌, ◌-◌}
+use mathlib.Core.Path.{◌≡◌}
+use mathlib.Core.Bool.{true}
+use Rattle.rules.specs.Base.{every}
+use Rattle.field.specs.Lent.{lent}
+use Rattle.checker.specs.Links.{half_at, in_columns}
+use Rattle.checker.proofs.Answered.{blocks_go, blocks_halt, blocks_end}
+use borrow.Author.Rules.{rules}
+use Rattle.checker.proofs.links.row_ok.Goals as goal
+
+pub loop-x-init : goal.loop-x-init
+unfolding in_columns every
+loop-x-init c = search rules
+
+pub loop-x-preserved : goal.loop-x-preserved
+loop-x-preserved c = (search rules, search (rules, blocks_go))
+
+pub returns-else-block_ok : goal.returns-else-block_ok
+returns-else-block_ok c = search (rules, blocks_halt)
+
+pub returns : goal.returns
+returns c = search (rules, blocks_end)

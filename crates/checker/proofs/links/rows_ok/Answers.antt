@@ -1,0 +1,24 @@
+-- The answers that the check does not find alone.
+use Prim.Native.Nat.{◌≤◌, ◌-◌}
+use mathlib.Core.Path.{◌≡◌}
+use mathlib.Core.Bool.{true}
+use Rattle.rules.specs.Base.{every}
+use Rattle.field.specs.Lent.{lent}
+use Rattle.checker.specs.Links.{half_at, in_row}
+use Rattle.field.proofs.Loops.{every_go}
+use Rattle.checker.proofs.Answered.{rows_halt, rows_end}
+use borrow.Author.Rules.{rules}
+use Rattle.checker.proofs.links.rows_ok.Goals as goal
+
+pub loop-z-init : goal.loop-z-init
+unfolding every
+loop-z-init c = search rules
+
+pub returns-else-row_ok : goal.returns-else-row_ok
+returns-else-row_ok c = search (rules, rows_halt)
+
+pub loop-z-preserved : goal.loop-z-preserved
+loop-z-preserved c = (search rules, search (rules, every_go))
+
+pub returns : goal.returns
+returns c = search (rules, rows_end)

@@ -1,0 +1,17 @@
+-- Invariant: the rows below z pass. The rows in order are all cells in order, and their spans all spans.
+use Prim.Native.Nat.{◌≤◌, ◌-◌}
+use mathlib.Core.Path.{◌≡◌}
+use mathlib.Core.Bool.{true}
+use Rattle.rules.specs.Base.{every}
+use Rattle.field.specs.Lent.{lent}
+use Rattle.checker.specs.Links.{half_at, in_row}
+use Rattle.field.proofs.Loops.{every_go}
+use Rattle.checker.proofs.Answered.{rows_halt, rows_end}
+use borrow.Author.Rules.{rules}
+use Rattle.checker.proofs.links.rows_ok.Given as goal
+
+abbrev pub invariant-loop-z : goal.invariant-loop-z
+invariant-loop-z l = (l.z ≤ l.h) × (every l.z (in_row (lent l.w l.h l.index l.count l.area l.con) (half_at (lent l.w l.h l.index l.count l.area l.con))) ≡ true)
+
+abbrev pub decreases-loop-z : goal.decreases-loop-z
+decreases-loop-z l = l.h - l.z

@@ -1,0 +1,17 @@
+-- Invariant: the layers below j pass, each of which is the span i + j of cell c. The test of the four connections read is the rule's test of the span.
+use Prim.Native.Nat.{◌≤◌, ◌-◌, ◌+◌}
+use mathlib.Core.Path.{◌≡◌}
+use mathlib.Core.Bool.{true}
+use Rattle.rules.specs.Base.{every}
+use Rattle.field.specs.Lent.{lent}
+use Rattle.checker.specs.Links.{reach_at}
+use Rattle.field.proofs.Loops.{every_go}
+use Rattle.checker.proofs.Checks.{layers_halt, layers_end, layer_reach, con_room}
+use borrow.Author.Rules.{rules}
+use Rattle.checker.proofs.reach.cell_ok.Given as goal
+
+abbrev pub invariant-loop-j : goal.invariant-loop-j
+invariant-loop-j l = (l.j ≤ l.k) × (every l.j (λ l. reach_at (lent l.w l.h l.index l.count l.area l.con) (l.i + l)) ≡ true)
+
+abbrev pub decreases-loop-j : goal.decreases-loop-j
+decreases-loop-j l = l.k - l.j

@@ -1,0 +1,25 @@
+-- The answers that the check does not find alone.
+use Prim.Native.Nat.{◌≤◌, ◌-◌}
+use mathlib.Core.Path.{◌≡◌}
+use mathlib.Core.Bool.{true}
+use lib.ListN.{length}
+use Rattle.rules.specs.Base.{every}
+use Rattle.field.specs.Lent.{lent}
+use Rattle.checker.specs.Links.{reach_at, in_cell}
+use Rattle.field.proofs.Loops.{every_go}
+use Rattle.checker.proofs.Checks.{cells_halt, cells_end}
+use borrow.Author.Rules.{rules}
+use Rattle.checker.proofs.reach.reach_ok.Goals as goal
+
+pub loop-c-init : goal.loop-c-init
+unfolding every
+loop-c-init c = search rules
+
+pub returns-else-cell_ok : goal.returns-else-cell_ok
+returns-else-cell_ok c = search (rules, cells_halt)
+
+pub loop-c-preserved : goal.loop-c-preserved
+loop-c-preserved c = (search rules, search rules, search (rules, every_go))
+
+pub returns : goal.returns
+returns c = search (rules, cells_end)

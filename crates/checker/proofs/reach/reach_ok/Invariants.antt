@@ -1,0 +1,18 @@
+-- Invariant: the cells below c pass. The spans of the cells in order are all spans in order, since refusal 4 has been ruled out.
+use Prim.Native.Nat.{◌≤◌, ◌-◌}
+use mathlib.Core.Path.{◌≡◌}
+use mathlib.Core.Bool.{true}
+use lib.ListN.{length}
+use Rattle.rules.specs.Base.{every}
+use Rattle.field.specs.Lent.{lent}
+use Rattle.checker.specs.Links.{reach_at, in_cell}
+use Rattle.field.proofs.Loops.{every_go}
+use Rattle.checker.proofs.Checks.{cells_halt, cells_end}
+use borrow.Author.Rules.{rules}
+use Rattle.checker.proofs.reach.reach_ok.Given as goal
+
+abbrev pub invariant-loop-c : goal.invariant-loop-c
+invariant-loop-c l = (l.c ≤ length l.count) × (l.c-end ≡ length l.count) × (every l.c (in_cell (lent l.w l.h l.index l.count l.area l.con) (reach_at (lent l.w l.h l.index l.count l.area l.con))) ≡ true)
+
+abbrev pub decreases-loop-c : goal.decreases-loop-c
+decreases-loop-c l = length l.count - l.c

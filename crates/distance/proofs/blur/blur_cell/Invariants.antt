@@ -1,0 +1,18 @@
+-- Invariant: the layers below j are blurred. Layer j is span i + j, which stands in cell c.
+use Prim.Native.Nat.{◌≤◌, ◌-◌, ◌+◌}
+use mathlib.Core.Path.{◌≡◌}
+use lib.ListN.{length}
+use Rattle.rules.specs.Base.{upto}
+use Rattle.field.specs.Lent.{lent}
+use Rattle.rules.specs.Rows.{blur_to}
+use Rattle.distance.proofs.Walks.{cell-end}
+use Rattle.distance.proofs.Values.{layer_sized, layer_in}
+use Rattle.distance.proofs.Blurs.{blur_go}
+use borrow.Author.Rules.{rules}
+use Rattle.distance.proofs.blur.blur_cell.Given as goal
+
+abbrev pub invariant-loop-j : goal.invariant-loop-j
+invariant-loop-j l = (l.j ≤ l.k) × (length l.blurred ≡ length l.area) × (l.blurred ≡ upto l.j (λ t. blur_to (lent l.w l.h l.index l.count l.area l.con) l.raw (l.i + t)) l.initial.blurred)
+
+abbrev pub decreases-loop-j : goal.decreases-loop-j
+decreases-loop-j l = l.k - l.j

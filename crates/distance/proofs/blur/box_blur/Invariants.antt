@@ -1,0 +1,18 @@
+-- Invariant: the spans below s are blurred, and the others still have their cells.
+-- A list stored to at each place is the rule's list.
+use Prim.Native.Nat.{◌≤◌, ◌-◌}
+use mathlib.Core.Path.{◌≡◌}
+use lib.ListN.{length}
+use Rattle.rules.specs.Base.{upto}
+use Rattle.rules.specs.Rows.{blur_to}
+use Rattle.field.specs.Lent.{lent}
+use Rattle.distance.proofs.Walks.{blur_stands, cells_sized, blur-end}
+use Rattle.distance.proofs.Blurs.{blur-sized, blur_next}
+use borrow.Author.Rules.{rules}
+use Rattle.distance.proofs.blur.box_blur.Given as goal
+
+abbrev pub invariant-loop-s : goal.invariant-loop-s
+invariant-loop-s l = (l.s ≤ length l.area) × (l.s-end ≡ length l.area) × (length l.blurred ≡ length l.area) × (l.blurred ≡ upto l.s (blur_to (lent l.w l.h l.index l.count l.area l.con) l.raw) l.initial.blurred) × (length l.blurred ≡ length l.initial.blurred)
+
+abbrev pub decreases-loop-s : goal.decreases-loop-s
+decreases-loop-s l = length l.area - l.s

@@ -1,0 +1,14 @@
+-- The answers that the check does not find alone.
+use Prim.Native.Nat.{◌≤◌, ◌-◌, max}
+use mathlib.Core.Path.{◌≡◌}
+use lib.ListN.{length, drop}
+use Rattle.rules.specs.Distance.{greatest}
+use Rattle.distance.proofs.Blurs.{greatest_go, greatest-end}
+use borrow.Author.Rules.{rules}
+use Rattle.distance.proofs.blur.greatest.Goals as goal
+
+pub loop-i-preserved : goal.loop-i-preserved
+loop-i-preserved c = (search rules, search rules, search (rules, greatest_go))
+
+pub returns : goal.returns
+returns c = search (rules, greatest-end)

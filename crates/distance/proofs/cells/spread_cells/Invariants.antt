@@ -1,0 +1,16 @@
+-- Invariant: the spans of the cells from c to c + j - 1 have their cell.
+use Prim.Native.Nat.{◌≤◌, ◌-◌}
+use mathlib.Core.Path.{◌≡◌}
+use lib.ListN.{length}
+use Rattle.rules.specs.Base.{upto}
+use Rattle.field.specs.Lent.{lent}
+use Rattle.distance.specs.Walk.{note_cell, cells_up}
+use Rattle.distance.proofs.Walks.{cells_go, cells_end}
+use borrow.Author.Rules.{rules}
+use Rattle.distance.proofs.cells.spread_cells.Given as goal
+
+abbrev pub invariant-loop-j : goal.invariant-loop-j
+invariant-loop-j l = (l.j ≤ l.k) × (length l.cells ≡ length l.area) × (l.cells ≡ cells_up (lent l.w l.h l.index l.count l.area l.con) (note_cell (lent l.w l.h l.index l.count l.area l.con)) l.c l.j l.initial.cells)
+
+abbrev pub decreases-loop-j : goal.decreases-loop-j
+decreases-loop-j l = l.k - l.j

@@ -1,0 +1,29 @@
+-- The answers that the check does not find alone.
+use Prim.Native.Nat.{◌≤◌, ◌-◌}
+use native.Mathlib.Omega.{arith}
+use mathlib.Core.Path.{◌≡◌}
+use lib.ListN.{length}
+use Rattle.rules.specs.Rows.{from_start}
+use Rattle.field.specs.Lent.{lent}
+use Rattle.distance.specs.Value.{PassedTo}
+use Rattle.distance.specs.Walk.{spans_up}
+use Rattle.distance.proofs.Values.{span_layers, goes_on, goes_off}
+use Rattle.distance.proofs.Walks.{run-first}
+use Rattle.distance.proofs.Bounds.{edge_run, edge_go}
+use borrow.Author.Rules.{rules}
+use Rattle.distance.proofs.pass.edges.Goals as goal
+
+pub loop-k-init : goal.loop-k-init
+loop-k-init c = (search rules, search rules, search (rules, run-first), search rules)
+
+pub surrounded-requires : goal.surrounded-requires
+surrounded-requires c = search (rules, span_layers)
+
+pub returns-then-surrounded : goal.returns-then-surrounded
+returns-then-surrounded c = (search rules, search rules, search rules, goes_on _ _ _ _ _ c.connections-cons.ensures c.surrounded.ensures c.if-surrounded.true c.loop-k-test.true)
+
+pub loop-k-preserved : goal.loop-k-preserved
+loop-k-preserved c = (search rules, search rules, edge_run _ _ _ _ _ _ _ _ c.requires.0 c.loop-k.invariant.3 c.loop-k-test.true _ c.connections-cons.ensures _ c.surrounded.ensures c.if-surrounded.false (λ r. omega (arith, c.shared_slice_known-3-1.given r)) _ _ c.loop-k.invariant.0 c.loop-k.invariant.2, edge_go _ _ _ _ _ _ _ _ c.requires.0 c.loop-k.invariant.3 c.loop-k-test.true _ c.connections-cons.ensures _ c.surrounded.ensures c.if-surrounded.false (λ r. omega (arith, c.shared_slice_known-3-1.given r)))
+
+pub returns : goal.returns
+returns c = (search rules, search rules, search rules, goes_off _ _ _ c.loop-k.invariant.1 c.loop-k-test.false)

@@ -1,0 +1,20 @@
+-- Invariant: pass 1 has gone through the layers below j, each of which came to at most twice its column; the columns before x and the rows before y did
+-- before. What a span reads stands in cells before its own, so it is at most 510.
+use Prim.Native.Nat.{ℕ, ◌≤◌, ◌<◌, ◌-◌, ◌+◌, ◌*◌}
+use mathlib.Core.Path.{◌≡◌}
+use Rattle.rules.specs.Base.{upto}
+use Rattle.rules.specs.Distance.{far}
+use Rattle.rules.specs.Rows.{from_start}
+use Rattle.field.specs.Lent.{lent}
+use Rattle.distance.specs.Value.{Passing}
+use Rattle.distance.proofs.Walks.{row_fits, column_fits, column_in, column_indexed, cell-end}
+use Rattle.distance.proofs.Bounds.{layer_stood, room_left, room_up, passing_in, start_go, passing_go, layers_go, passing_end}
+use borrow.Author.Rules.{rules}
+use native.Mathlib.Omega.{arith}
+use Rattle.distance.proofs.pass.pass1_cell.Given as goal
+
+abbrev pub invariant-loop-j : goal.invariant-loop-j
+invariant-loop-j l = (l.j ≤ l.k) × (l.c ≡ l.w * l.y + l.x) × (l.raw ≡ upto l.j (λ t. from_start (lent l.w l.h l.index l.count l.area l.con) (l.i + t)) l.initial.raw) × Passing (lent l.w l.h l.index l.count l.area l.con) l.y l.x l.raw × ((t : ℕ) → t < l.j → far l.raw (l.i + t) ≤ 2 * l.x)
+
+abbrev pub decreases-loop-j : goal.decreases-loop-j
+decreases-loop-j l = l.k - l.j

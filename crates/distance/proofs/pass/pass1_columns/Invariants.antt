@@ -1,0 +1,18 @@
+-- Invariant: pass 1 has gone through the columns from x to x + j - 1 of row y.
+use Prim.Native.Nat.{◌≤◌, ◌-◌, ◌+◌}
+use mathlib.Core.Path.{◌≡◌}
+use Rattle.rules.specs.Base.{upto}
+use Rattle.rules.specs.Rows.{from_start}
+use Rattle.field.specs.Lent.{lent}
+use Rattle.distance.specs.Value.{Passing}
+use Rattle.distance.specs.Walk.{columns_up}
+use Rattle.distance.proofs.Walks.{columns_go, columns_end}
+use Rattle.distance.proofs.Bounds.{columns_first, columns_next, columns_last}
+use borrow.Author.Rules.{rules}
+use Rattle.distance.proofs.pass.pass1_columns.Given as goal
+
+abbrev pub invariant-loop-j : goal.invariant-loop-j
+invariant-loop-j l = (l.j ≤ l.k) × (l.raw ≡ columns_up (lent l.w l.h l.index l.count l.area l.con) (from_start (lent l.w l.h l.index l.count l.area l.con)) l.y l.x l.j l.initial.raw) × Passing (lent l.w l.h l.index l.count l.area l.con) l.y (l.x + l.j) l.raw
+
+abbrev pub decreases-loop-j : goal.decreases-loop-j
+decreases-loop-j l = l.k - l.j

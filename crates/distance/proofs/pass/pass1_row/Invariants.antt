@@ -1,0 +1,17 @@
+-- Invariant: pass 1 has gone through the columns below x of row y, each of which came to at most twice its column, that is 510.
+use Prim.Native.Nat.{◌≤◌, ◌-◌}
+use mathlib.Core.Path.{◌≡◌}
+use Rattle.rules.specs.Base.{upto}
+use Rattle.rules.specs.Rows.{column, from_start}
+use Rattle.field.specs.Lent.{lent}
+use Rattle.distance.specs.Value.{Passing}
+use Rattle.distance.proofs.Walks.{block_go, pass1_row_end}
+use Rattle.distance.proofs.Bounds.{column-first, column-last}
+use borrow.Author.Rules.{rules}
+use Rattle.distance.proofs.pass.pass1_row.Given as goal
+
+abbrev pub invariant-loop-x : goal.invariant-loop-x
+invariant-loop-x l = (l.x ≤ l.w) × (l.raw ≡ upto l.x (column (lent l.w l.h l.index l.count l.area l.con) (from_start (lent l.w l.h l.index l.count l.area l.con)) l.y) l.initial.raw) × Passing (lent l.w l.h l.index l.count l.area l.con) l.y l.x l.raw
+
+abbrev pub decreases-loop-x : goal.decreases-loop-x
+decreases-loop-x l = l.w - l.x

@@ -1,0 +1,16 @@
+-- A block without spans stays as it is, since each of its cells has none.
+use Rattle.distance.proofs.Walks.{row_fits, block_fits, block_in, columns_down_none}
+use borrow.Author.Rules.{rules}
+use Rattle.distance.proofs.pass.pass2_block.Goals as goal
+
+pub overflow_mul-w : goal.overflow_mul-w
+overflow_mul-w c = search (rules, row_fits)
+
+pub overflow_add-w : goal.overflow_add-w
+overflow_add-w c = search (rules, block_fits)
+
+pub is_empty-requires : goal.is_empty-requires
+is_empty-requires c = search (rules, block_in)
+
+pub returns-then-is_empty : goal.returns-then-is_empty
+returns-then-is_empty c = (search (rules, columns_down_none), search rules)

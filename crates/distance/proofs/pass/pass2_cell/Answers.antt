@@ -1,0 +1,27 @@
+-- The answers that the check does not find alone.
+use Prim.Native.Nat.{◌≤◌, ◌-◌, ◌+◌}
+use mathlib.Core.Path.{◌≡◌}
+use Rattle.rules.specs.Base.{upto}
+use Rattle.rules.specs.Distance.{lower}
+use Rattle.field.specs.Lent.{lent}
+use Rattle.distance.specs.Value.{Low}
+use Rattle.distance.proofs.Walks.{cell-end}
+use Rattle.distance.proofs.Bounds.{room_low, low_in, pass_go, low_go}
+use borrow.Author.Rules.{rules}
+use Rattle.distance.proofs.pass.pass2_cell.Goals as goal
+
+pub loop-j-init : goal.loop-j-init
+unfolding upto
+loop-j-init c = search rules
+
+pub lowered-requires : goal.lowered-requires
+lowered-requires c = (search (rules, room_low), search (rules, room_low))
+
+pub bounds-raw-s : goal.bounds-raw-s
+bounds-raw-s c = search (rules, low_in)
+
+pub loop-j-preserved : goal.loop-j-preserved
+loop-j-preserved c = (search rules, pass_go _ _ _ _ _ _ _ _ _ _ _ c.requires.0 c.at32-i.ensures.0 c.at8-k.ensures.0 c.loop-j-test.true _ _ _ _ _ c.lowered.ensures _ c.loop-j.invariant.1, low_go _ _ _ _ _ _ _ _ _ _ _ c.requires.0 c.at32-i.ensures.0 c.at8-k.ensures.0 c.loop-j-test.true _ _ _ _ _ c.lowered.ensures c.loop-j.invariant.2)
+
+pub returns : goal.returns
+returns c = (search (rules, cell-end), search rules)

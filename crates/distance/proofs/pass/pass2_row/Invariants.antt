@@ -1,0 +1,16 @@
+-- Invariant: the row as a whole equals the x columns that are to go, done to the list as it is. A turn does the last k of them.
+use Prim.Native.Nat.{◌≤◌}
+use mathlib.Core.Path.{◌≡◌}
+use Rattle.rules.specs.Distance.{lower}
+use Rattle.rules.specs.Rows.{column, downto}
+use Rattle.field.specs.Lent.{lent}
+use Rattle.distance.specs.Value.{Low}
+use Rattle.distance.proofs.Walks.{block_down, pass2_row_end}
+use borrow.Author.Rules.{rules}
+use Rattle.distance.proofs.pass.pass2_row.Given as goal
+
+abbrev pub invariant-loop-x : goal.invariant-loop-x
+invariant-loop-x l = (l.x ≤ l.w) × (downto l.w (column (lent l.w l.h l.index l.count l.area l.con) (lower (lent l.w l.h l.index l.count l.area l.con) 2 1 1 0) l.y) l.initial.raw ≡ downto l.x (column (lent l.w l.h l.index l.count l.area l.con) (lower (lent l.w l.h l.index l.count l.area l.con) 2 1 1 0) l.y) l.raw) × Low (lent l.w l.h l.index l.count l.area l.con) l.raw
+
+abbrev pub decreases-loop-x : goal.decreases-loop-x
+decreases-loop-x l = l.x

@@ -1,0 +1,25 @@
+-- An entry that is used stays; the flag of a span falls, and one with an id becomes used. The stack lies before the flags (Walks).
+use native.Mathlib.Omega.{arith}
+use lib.ListN.{length-set}
+use borrow.Author.Rules.{rules}
+use Rattle.expand.proofs.Halves.{entry_in}
+use Rattle.expand.proofs.Walks.{leave_used, leave_free, leave_held, flag_in}
+use Rattle.expand.proofs.flags.leave_one.Goals as goal
+
+pub returns-then-s-eq-NO_SPAN : goal.returns-then-s-eq-NO_SPAN
+returns-then-s-eq-NO_SPAN c = search (rules, leave_used)
+
+pub bounds-ws-flags : goal.bounds-ws-flags
+bounds-ws-flags c = search (rules, flag_in)
+
+pub at16-requires : goal.at16-requires
+at16-requires c = search (rules, entry_in)
+
+pub returns-then-at16-eq0 : goal.returns-then-at16-eq0
+returns-then-at16-eq0 c = search (rules, leave_free)
+
+pub bounds-ws-i : goal.bounds-ws-i
+bounds-ws-i c = simp length-set (omega (arith, c.requires.i_lt_flags.0, c.requires.ids_in_bounds.0))
+
+pub returns : goal.returns
+returns c = search (rules, leave_held)

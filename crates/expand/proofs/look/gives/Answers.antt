@@ -1,0 +1,42 @@
+-- Each way out is the rule's answer under what has been tested by then (Tellings); a neighbour that is there is a span.
+use native.Mathlib.Omega.{arith}
+use borrow.Author.Rules.{rules}
+use lib.ListN.{length}
+use Prim.Native.Nat.{◌<◌}
+use mathlib.Core.Bool.{false}
+use Rattle.expand.proofs.Looks.{sight_small, sight_slot, sight_inside}
+use Rattle.expand.proofs.Tellings.{gives_none, gives_area, gives_zero, gives_flag, gives_less, gives-sum}
+use Rattle.expand.proofs.look.gives.Goals as goal
+
+pub neighbour-a-requires : goal.neighbour-a-requires
+neighbour-a-requires c = (search rules, search (rules, sight_small), search rules, search (rules, sight_slot))
+
+pub returns-then-a-eq-NO_SPAN : goal.returns-then-a-eq-NO_SPAN
+returns-then-a-eq-NO_SPAN c = gives_none _ _ _ _ _ _ _ _ _ c.requires.0 c.requires.1 c.requires.2 c.neighbour-a.ensures c.if-a-eq-NO_SPAN.true c.requires.3
+
+pub at8-requires : goal.at8-requires
+at8-requires c = (sight_inside _ _ _ _ _ _ _ _ (record { id = 0; far = 0 }) false c.requires.0 c.requires.1 c.requires.2 c.neighbour-a.ensures c.if-a-eq-NO_SPAN.false)
+
+pub returns-then-at8-own : goal.returns-then-at8-own
+returns-then-at8-own c = gives_area _ _ _ _ _ _ _ _ _ c.requires.0 c.requires.1 c.requires.2 c.neighbour-a.ensures ((sight_inside _ _ _ _ _ _ _ _ (record { id = 0; far = 0 }) false c.requires.0 c.requires.1 c.requires.2 c.neighbour-a.ensures c.if-a-eq-NO_SPAN.false)) _ c.at8.ensures.0 c.if-at8-own.true
+
+pub id_at-id-requires : goal.id_at-id-requires
+id_at-id-requires c = omega (arith, (sight_inside _ _ _ _ _ _ _ _ (record { id = 0; far = 0 }) false c.requires.0 c.requires.1 c.requires.2 c.neighbour-a.ensures c.if-a-eq-NO_SPAN.false), c.requires.0.idents)
+
+pub returns-then-id : goal.returns-then-id
+returns-then-id c = gives_zero _ _ _ _ _ _ _ _ _ c.requires.0 c.requires.1 c.requires.2 c.neighbour-a.ensures ((sight_inside _ _ _ _ _ _ _ _ (record { id = 0; far = 0 }) false c.requires.0 c.requires.1 c.requires.2 c.neighbour-a.ensures c.if-a-eq-NO_SPAN.false)) _ c.id_at-id.ensures c.if-id.true
+
+pub returns-then-is_border : goal.returns-then-is_border
+returns-then-is_border c = gives_flag _ _ _ _ _ _ _ _ _ c.requires.0 c.requires.1 c.requires.2 c.neighbour-a.ensures ((sight_inside _ _ _ _ _ _ _ _ (record { id = 0; far = 0 }) false c.requires.0 c.requires.1 c.requires.2 c.neighbour-a.ensures c.if-a-eq-NO_SPAN.false)) _ c.id_at-id.ensures _ c.is_border.ensures c.if-is_border.true
+
+pub source_at-requires : goal.source_at-requires
+source_at-requires c = let v = c.requires.0 in
+    omega (arith, (sight_inside _ _ _ _ _ _ _ _ (record { id = 0; far = 0 }) false c.requires.0 c.requires.1 c.requires.2 c.neighbour-a.ensures c.if-a-eq-NO_SPAN.false), v.low, v.room)
+
+pub returns-then-source_at-far : goal.returns-then-source_at-far
+returns-then-source_at-far c = gives-sum _ _ _ _ _ _ _ _ _ c.requires.0 c.requires.1 c.requires.2 c.neighbour-a.ensures ((sight_inside _ _ _ _ _ _ _ _ (record { id = 0; far = 0 }) false c.requires.0 c.requires.1 c.requires.2 c.neighbour-a.ensures c.if-a-eq-NO_SPAN.false)) _ c.id_at-id.ensures _ c.is_border.ensures
+    _ c.source_at.ensures _ c.at8.ensures.0 c.if-at8-own.left c.if-id.left c.if-is_border.false c.if-source_at-far.true
+
+pub returns : goal.returns
+returns c = gives_less _ _ _ _ _ _ _ _ _ c.requires.0 c.requires.1 c.requires.2 c.neighbour-a.ensures ((sight_inside _ _ _ _ _ _ _ _ (record { id = 0; far = 0 }) false c.requires.0 c.requires.1 c.requires.2 c.neighbour-a.ensures c.if-a-eq-NO_SPAN.false)) _ c.id_at-id.ensures _ c.is_border.ensures
+    _ c.source_at.ensures c.if-source_at-far.false

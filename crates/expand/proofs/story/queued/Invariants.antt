@@ -1,0 +1,12 @@
+-- The loop's invariant: no change before i is of the span (`Seeking`). The measure is the changes left.
+use Prim.Native.Nat.{◌-◌}
+use native.Mathlib.Omega.{arith}
+use borrow.Author.Rules.{rules}
+use Rattle.expand.proofs.Tellings.{Seeking, seeking_start, seeking_next, seeking_found, seeking_end}
+use Rattle.expand.proofs.story.queued.Given as goal
+
+abbrev pub invariant-loop-i : goal.invariant-loop-i
+invariant-loop-i l = Seeking l.ws l.changes l.lo l.hi l.s l.i
+
+abbrev pub decreases-loop-i : goal.decreases-loop-i
+decreases-loop-i l = l.hi - l.i

@@ -1,0 +1,17 @@
+-- `write::write_listing` meets its contract: the first line and then the rows are the rule's listing.
+-- There is room for both, by `Bounds.antt`.
+use Rattle.file.proofs.Bounds.{listing-first, listing_rows, listing-filled, listing_done}
+use borrow.Author.Rules.{rules}
+use Rattle.file.proofs.write.write_listing.Goals as goal
+
+pub put_heading-next-requires : goal.put_heading-next-requires
+put_heading-next-requires c = search listing-first
+
+pub put_rows-requires : goal.put_rows-requires
+put_rows-requires c = record {
+  room = search listing_rows;
+  filled = search listing-filled;
+}
+
+pub returns : goal.returns
+returns c = search listing_done

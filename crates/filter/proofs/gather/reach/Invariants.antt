@@ -1,0 +1,20 @@
+-- `filter::gather::reach` meets its contract. The loop's invariant: to go on with the entries from k on gives what the whole list gives.
+-- The list lies past the columns, so the stores of a turn do not touch it.
+use Rattle.filter.proofs.GroupLaws.{reach-start, entry_in, entry_under, reach_go, reach_done, reach_from, reach_order}
+use lib.ListN.{length}
+use Prim.Native.Nat.{ℕ, ◌*◌, ◌-◌, ◌≤◌}
+use mathlib.Core.Path.{◌≡◌}
+use Rattle.rules.specs.Filter.{reach}
+use Rattle.space.specs.Space.{Frame}
+use Rattle.space.proofs.Laws.{frame_none, frame_then}
+use Rattle.table.specs.View.{part, start_of, list_at}
+use Rattle.filter.specs.Group.{group_at, Waiting}
+use borrow.Author.Rules.{rules}
+use Rattle.filter.proofs.gather.reach.Given as goal
+
+abbrev pub invariant-loop-k : goal.invariant-loop-k
+invariant-loop-k l = (start_of l.initial.ws l.m (7 * l.m) l.i ≤ l.k) × (l.k ≤ l.e) × (length l.ws ≡ length l.initial.ws) × Waiting l.m l.n l.ws × Frame (4 * l.m) (6 * l.m) l.initial.ws l.ws
+    × ((f : ℕ) → reach (list_at l.initial.ws l.m (7 * l.m) l.i) (group_at l.initial.ws l.m l.top f) ≡ reach (part l.k l.e l.ws) (group_at l.ws l.m l.n f))
+
+abbrev pub decreases-loop-k : goal.decreases-loop-k
+decreases-loop-k l = l.e - l.k

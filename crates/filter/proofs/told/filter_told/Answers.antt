@@ -1,0 +1,34 @@
+-- The answers that the check does not find alone.
+use Prim.Native.Nat.{◌*◌, ◌-◌, ◌≤◌}
+use mathlib.Core.Path.{◌≡◌}
+use lib.ListN.{length}
+use Rattle.rules.specs.Base.{upto}
+use Rattle.rules.specs.Filter.{filter_one}
+use Rattle.rules.specs.Reasons.{gone_with}
+use Rattle.space.specs.Space.{Frame}
+use Rattle.space.proofs.Laws.{frame_none, frame_then}
+use Rattle.table.specs.View.{recs_of}
+use Rattle.filter.specs.Group.{Calm}
+use Rattle.filter.proofs.FilterLaws.{filter-start, filter_go, filter_done, gone_start, gone_go, gone_done}
+use borrow.Author.Rules.{rules}
+use Rattle.filter.proofs.told.filter_told.Goals as goal
+
+pub loop-i-init : goal.loop-i-init
+loop-i-init c = (search rules, search rules, search rules, search frame_none, search filter-start, search gone_start)
+
+pub loop-i-preserved : goal.loop-i-preserved
+loop-i-preserved c = let v = c.loop-i.invariant in (
+  search rules,
+  search rules,
+  search rules,
+  search frame_then,
+  search filter_go,
+  gone_go _ _ _ _ _ _ _ _ _ _ c.requires.1 v.4 c.filter_one-count.ensures.m_after v.5 c.filter_one-count.ensures.value c.gone-told.ensures,
+)
+
+pub returns : goal.returns
+returns c = record {
+  m_after = search filter_done;
+  calm = (search rules, search rules);
+  value = search gone_done;
+}

@@ -1,0 +1,33 @@
+-- `filter::whole::filter_one` meets its contract. Straight line, by the rule's three tests.
+use Rattle.space.proofs.Laws.{frame_none}
+use Rattle.filter.proofs.FilterLaws.{one_dead, one_empty, one_visited, one_group, count_dead, count_empty, count_visited, count_group}
+use borrow.Author.Rules.{rules}
+use Rattle.filter.proofs.whole.filter_one.Goals as goal
+
+pub returns-then-ws-i-eq0 : goal.returns-then-ws-i-eq0
+returns-then-ws-i-eq0 c = record {
+  m_after = search one_dead;
+  calm = (search rules, search frame_none);
+  value = search count_dead;
+}
+
+pub returns-then-ws-m-eq0 : goal.returns-then-ws-m-eq0
+returns-then-ws-m-eq0 c = record {
+  m_after = search one_empty;
+  calm = (search rules, search frame_none);
+  value = search count_empty;
+}
+
+pub returns-then-ws-m-ne0 : goal.returns-then-ws-m-ne0
+returns-then-ws-m-ne0 c = record {
+  m_after = search one_visited;
+  calm = (search rules, search frame_none);
+  value = search count_visited;
+}
+
+pub returns : goal.returns
+returns c = record {
+  m_after = search one_group;
+  calm = (search rules, search rules);
+  value = search count_group;
+}

@@ -1,0 +1,26 @@
+-- The answers that the check does not find alone.
+use Prim.Native.Nat.{◌-◌}
+use native.Mathlib.Omega.{arith}
+use mathlib.Core.Path.{refl}
+use borrow.Author.Rules.{rules}
+use lib.ListN.{length}
+use Rattle.net.specs.Table.{net_at}
+use Rattle.flood.specs.Looks.{seed_of}
+use Rattle.flood.specs.Stack.{marks_at}
+use Rattle.flood.proofs.Sight.{Looking, looking_stops, looking_objects, looking_on, looking_done}
+use Rattle.flood.proofs.look.objects.Goals as goal
+
+pub loop-d-init : goal.loop-d-init
+loop-d-init c = record { few = omega arith; same = refl }
+
+pub returns-then-look-eq-THE_END : goal.returns-then-look-eq-THE_END
+returns-then-look-eq-THE_END c = search (rules, looking_stops)
+
+pub returns-then-look-eq-OBJECTION : goal.returns-then-look-eq-OBJECTION
+returns-then-look-eq-OBJECTION c = search (rules, looking_objects)
+
+pub loop-d-preserved : goal.loop-d-preserved
+loop-d-preserved c = search (rules, looking_on)
+
+pub returns : goal.returns
+returns c = search (rules, looking_done)

@@ -1,0 +1,69 @@
+-- The answers that the check does not find alone.
+use Prim.Native.Nat.{◌-◌, ◌≤◌}
+use mathlib.Core.Path.{◌∙◌}
+use native.Mathlib.Omega.{arith}
+use lib.ListN.{length}
+use Rattle.flood.specs.Stories.{story_of}
+use Rattle.flood.proofs.Pushes.{placed_kept}
+use Rattle.growth.proofs.FloodLaws.{FloodedTo, flooded_start, flooded_lent, flooded_at, flooded_entry, flag_not, flooded_next, flooded_out, flooded_end, blank_past, FloodsTold, told-start, told_next, told-end}
+use Rattle.growth.proofs.floods.flood_all.Goals as goal
+
+pub loop-j-init : goal.loop-j-init
+loop-j-init c = (flooded_start _ _ _ _ _ _ _ _ _ _ c.requires.lent.0 c.requires.entries_at ((omega (arith, c.requires.lent.1.low, c.requires.lent.1.apart))) c.requires.blank.1, told-start _ _ _ _ _ _ _ _ _ _ c.requires.lent.0 c.requires.entries_at ((omega (arith, c.requires.lent.1.low, c.requires.lent.1.apart))) _)
+
+pub overflow_add-stack : goal.overflow_add-stack
+overflow_add-stack c = omega (arith, c.loop-j-test.true, c.requires.entries_at.close, c.requires.entries_at.entries.filled, c.requires.lent.0.closed.few)
+
+pub at16-entry-requires : goal.at16-entry-requires
+at16-entry-requires c = flooded_at _ _ _ _ _ _ _ _ _ _ c.requires.lent.0 c.requires.entries_at ((omega (arith, c.requires.lent.1.low, c.requires.lent.1.apart))) _ _ _ _ c.loop-j.invariant.0 c.loop-j-test.true
+
+pub flood_one-f-requires : goal.flood_one-f-requires
+flood_one-f-requires c = let v = c.loop-j.invariant.0 in
+    record {
+      lent = (flooded_lent _ _ _ _ _ _ _ _ _ _ c.requires.lent.0 c.requires.entries_at ((omega (arith, c.requires.lent.1.low, c.requires.lent.1.apart))) _ _ _ _ v, placed_kept _ c.requires.lent.1 v.size₁);
+      blank = (blank_past _ _ _ _ _ c.requires.lent.1.low v.past c.requires.blank.0, v.ids_below);
+      span = flooded_entry _ _ _ _ _ _ _ _ _ _ c.requires.lent.0 c.requires.entries_at ((omega (arith, c.requires.lent.1.low, c.requires.lent.1.apart))) _ _ _ _ v _ c.loop-j-test.true c.at16-entry.ensures.0;
+    }
+
+pub overflow_add-j : goal.overflow_add-j
+overflow_add-j c = omega (arith, c.loop-j-test.true, c.requires.entries_at.entries.filled, c.requires.lent.0.closed.few)
+
+pub loop-j-smaller : goal.loop-j-smaller
+loop-j-smaller c = omega (arith, c.loop-j-test.true)
+
+pub loop-j-preserved : goal.loop-j-preserved
+loop-j-preserved c = let k = c.flood_one-f.auto in
+    let q = c.flood_one-f.ensures in
+    let v = c.loop-j.invariant in (
+      flooded_next _ _ _ _ _ _ _ _ _ _ c.requires.lent.0 c.requires.entries_at ((omega (arith, c.requires.lent.1.low, c.requires.lent.1.apart))) _ _ _ _ v.0 _ _ _ _ c.loop-j-test.true c.at16-entry.ensures.0
+          k.1.1.1.0 k.1.1.1.1.0 q.0 q.1.0.0 (q.1.0.2 (flag_not _ q.1.0.1 c.if-f.false)),
+      told_next _ _ _ _ _ _ _ _ _ _ c.requires.lent.0 c.requires.entries_at ((omega (arith, c.requires.lent.1.low, c.requires.lent.1.apart))) _ _ _ _ v.0 _ _ _ _ c.loop-j-test.true c.at16-entry.ensures.0
+          k.1.1.1.0 k.1.1.1.1.0 q.0 q.1.0.0 _ _ _ v.1 q.1.1,
+    )
+
+pub shape_of-ids-then-f : goal.shape_of-ids-then-f
+shape_of-ids-then-f c = c.flood_one-f.auto.ids ∙ c.loop-j.invariant.0.size₁
+
+pub shape_of-ws-then-f : goal.shape_of-ws-then-f
+shape_of-ws-then-f c = c.flood_one-f.auto.ws ∙ c.loop-j.invariant.0.size₂
+
+pub returns-then-f : goal.returns-then-f
+returns-then-f c = let k = c.flood_one-f.auto in
+    let q = c.flood_one-f.ensures in
+    record {
+      fact = flooded_out _ _ _ _ _ _ _ _ _ _ c.requires.lent.0 c.requires.entries_at ((omega (arith, c.requires.lent.1.low, c.requires.lent.1.apart))) _ _ _ _ c.loop-j.invariant.0 _ _ _ _ c.loop-j-test.true c.at16-entry.ensures.0
+          k.1.1.1.0 k.1.1.1.1.0 q.0 q.1.0.0 c.if-f.true;
+      story_value = λ z. absurd (z c.if-f.true);
+    }
+
+pub shape_of-ids : goal.shape_of-ids
+shape_of-ids c = c.loop-j.invariant.0.size₁
+
+pub shape_of-ws : goal.shape_of-ws
+shape_of-ws c = c.loop-j.invariant.0.size₂
+
+pub returns : goal.returns
+returns c = record {
+  fact = flooded_end _ _ _ _ _ _ _ _ _ _ c.requires.lent.0 c.requires.entries_at ((omega (arith, c.requires.lent.1.low, c.requires.lent.1.apart))) _ _ _ _ c.loop-j.invariant.0 c.loop-j-test.false;
+  story_value = λ _. told-end _ _ _ _ _ _ _ _ _ _ c.requires.lent.0 c.requires.entries_at ((omega (arith, c.requires.lent.1.low, c.requires.lent.1.apart))) _ _ _ _ c.loop-j.invariant.0 _ _ c.loop-j.invariant.1 c.loop-j-test.false;
+}

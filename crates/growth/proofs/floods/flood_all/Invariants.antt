@@ -1,0 +1,16 @@
+-- The loop's invariant: floods from the entries from j on give what floods from all give (`FloodedTo`). The measure is the entries left.
+use Prim.Native.Nat.{◌-◌, ◌≤◌}
+use mathlib.Core.Path.{◌∙◌}
+use native.Mathlib.Omega.{arith}
+use lib.ListN.{length}
+use Rattle.flood.specs.Stories.{story_of}
+use Rattle.flood.proofs.Pushes.{placed_kept}
+use Rattle.growth.proofs.FloodLaws.{FloodedTo, flooded_start, flooded_lent, flooded_at, flooded_entry, flag_not, flooded_next, flooded_out, flooded_end, blank_past, FloodsTold, told-start, told_next, told-end}
+use Rattle.growth.proofs.floods.flood_all.Given as goal
+
+abbrev pub invariant-loop-j : goal.invariant-loop-j
+invariant-loop-j l = FloodedTo l.area l.dist l.at.table l.stack.at l.stack.fill l.level l.next l.initial.ids l.initial.ws l.ids l.ws l.j l.f.next
+    × FloodsTold l.area l.dist l.at.table l.stack.at l.stack.fill l.level l.next l.initial.ids l.initial.ws (story_of l.initial.f.story) l.ids l.ws l.j l.f.next (story_of l.f.story)
+
+abbrev pub decreases-loop-j : goal.decreases-loop-j
+decreases-loop-j l = l.stack.fill - l.j

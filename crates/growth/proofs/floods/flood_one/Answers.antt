@@ -1,0 +1,54 @@
+-- A used entry and one with an id leave all as it is; else the flood gives what the rule's flood gives, and its id is advanced by success alone (FloodLaws).
+use mathlib.Core.Path.{refl}
+use Prim.Native.Nat.{◌<◌}
+use native.Mathlib.Omega.{arith}
+use borrow.Author.Rules.{rules}
+use lib.ListN.{length, get_or}
+use Rattle.growth.proofs.FloodLaws.{next_begins, one_used, one-has_id, failed_one, won_one, failed_below, won_below, tells_used, tells_has_id, tells_flood}
+use Rattle.growth.proofs.floods.flood_one.Goals as goal
+
+pub returns-then-entry-eq-NO_SPAN : goal.returns-then-entry-eq-NO_SPAN
+returns-then-entry-eq-NO_SPAN c = let b = c.requires.blank.1 in
+    record {
+      next_after = one_used _ _ _ _ _ _ c.if-entry-eq-NO_SPAN.true;
+      fact = (refl, omega (arith, b.plain), λ _. b);
+      story_value = tells_used _ _ _ _ _ _ _ c.if-entry-eq-NO_SPAN.true;
+    }
+
+pub offset_bounds-ids-entry : goal.offset_bounds-ids-entry
+offset_bounds-ids-entry c = omega (arith, (c.requires.span c.if-entry-eq-NO_SPAN.false))
+
+pub bounds-ids-entry : goal.bounds-ids-entry
+bounds-ids-entry c = omega (arith, (c.requires.span c.if-entry-eq-NO_SPAN.false), c.requires.lent.1.idents)
+
+pub returns-then-ids-entry : goal.returns-then-ids-entry
+returns-then-ids-entry c = record {
+  next_after = one-has_id _ _ _ _ _ _ c.if-entry-eq-NO_SPAN.false c.if-ids-entry.true;
+  fact = (refl, omega (arith, c.requires.blank.1.plain), λ _. c.requires.blank.1);
+  story_value = tells_has_id _ _ _ _ _ _ _ c.if-entry-eq-NO_SPAN.false c.if-ids-entry.true;
+}
+
+pub flood_region-f-requires : goal.flood_region-f-requires
+flood_region-f-requires c = record {
+  lent = c.requires.lent;
+  begins = (next_begins _ _ _ _ c.requires.blank.1 ((c.requires.span c.if-entry-eq-NO_SPAN.false)) c.if-ids-entry.false, c.requires.blank.0);
+}
+
+pub returns-then-f-eq0 : goal.returns-then-f-eq0
+returns-then-f-eq0 c = let q = c.flood_region-f.ensures in
+    record {
+      next_after = failed_one _ _ _ _ _ _ _ _ _ _ _ q.0 c.if-ids-entry.left c.if-entry-eq-NO_SPAN.left c.if-f-eq0.true;
+      fact = (q.1.0.0, omega (arith, c.requires.blank.1.plain), λ _. failed_below _ _ _ _ _ _ _ _ _ _ _ q.0 c.if-ids-entry.left c.requires.blank.1 ((c.requires.span c.if-entry-eq-NO_SPAN.false)) ((omega (arith, c.shared_slice_known-1.given c.args.entry))) c.if-f-eq0.true);
+      story_value = tells_flood _ _ _ _ _ _ _ c.if-entry-eq-NO_SPAN.left c.if-ids-entry.left _ q.1.1;
+    }
+
+pub overflow_add-result : goal.overflow_add-result
+overflow_add-result c = omega (arith, c.requires.blank.1.plain)
+
+pub returns : goal.returns
+returns c = let q = c.flood_region-f.ensures in
+    record {
+      next_after = won_one _ _ _ _ _ _ _ _ _ _ _ q.0 c.if-ids-entry.left c.if-entry-eq-NO_SPAN.left c.if-f-eq0.false;
+      fact = (q.1.0.0, omega (arith, c.requires.blank.1.plain), λ p. won_below _ _ _ _ _ _ _ _ _ _ _ q.0 c.if-ids-entry.left c.requires.blank.1 ((c.requires.span c.if-entry-eq-NO_SPAN.false)) ((omega (arith, c.shared_slice_known-1.given c.args.entry))) c.if-f-eq0.false p);
+      story_value = tells_flood _ _ _ _ _ _ _ c.if-entry-eq-NO_SPAN.left c.if-ids-entry.left _ q.1.1;
+    }

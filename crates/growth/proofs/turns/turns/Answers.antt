@@ -1,0 +1,61 @@
+-- The answers that the check does not find alone.
+use mathlib.Core.Path.{◌≡◌, ◌∙◌}
+use Prim.Native.Nat.{suc, ◌-◌, ◌*◌, ◌≤◌}
+use native.Mathlib.Omega.{arith}
+use borrow.Author.Rules.{rules}
+use lib.ListN.{length}
+use Rattle.rules.specs.Reasons.{turns_tell}
+use Rattle.net.specs.Table.{net_at}
+use Rattle.flood.specs.Stories.{story_of}
+use Rattle.growth.specs.Turns.{begun, SomeTurns}
+use Rattle.growth.proofs.TurnsLaws.{told-first, turns_start, turns_next, turns_told, turns_stopped, turns_end}
+use Rattle.growth.proofs.turns.turns.Goals as goal
+
+pub loop-left-init : goal.loop-left-init
+loop-left-init c = let e : c.args.count - c.args.count ≡ 0 = omega arith in
+    (omega arith, rw e (turns_start _ _ _ _ _ _ _ _ c.requires.between.0 _), rw e (told-first _ _ _ _ _ _ _ _ c.requires.between.0 _))
+
+pub overflow_mul-left : goal.overflow_mul-left
+overflow_mul-left c = omega (arith, c.loop-left.invariant.0, c.requires.count_bound, c.loop-left-test.true)
+
+pub turn-t-requires : goal.turn-t-requires
+turn-t-requires c = (c.loop-left.invariant.1.between, c.requires.between.1)
+
+pub shape_of-ids-then-t-ne-GOES_ON : goal.shape_of-ids-then-t-ne-GOES_ON
+shape_of-ids-then-t-ne-GOES_ON c = omega (arith, c.turn-t.auto.ids, c.loop-left.invariant.1.between.ids_below.size, c.requires.between.0.ids_below.size)
+
+pub shape_of-ws-then-t-ne-GOES_ON : goal.shape_of-ws-then-t-ne-GOES_ON
+shape_of-ws-then-t-ne-GOES_ON c = c.turn-t.auto.ws ∙ c.loop-left.invariant.1.size
+
+pub returns-then-t-ne-GOES_ON : goal.returns-then-t-ne-GOES_ON
+returns-then-t-ne-GOES_ON c = let h = c.loop-left-test.true in
+    record {
+      fact = turns_stopped _ _ _ _ _ _ _ _ c.requires.between.0 _ _ _ _ _ _ c.loop-left.invariant.1 _ (omega (arith, h, c.loop-left.invariant.0)) _ _ _ _ _ _ c.turn-t.ensures.fact
+          (omega (arith, h, c.loop-left.invariant.0)) c.if-t-ne-GOES_ON.true _;
+      story_value = λ z. absurd (c.if-t-ne-GOES_ON.true z);
+    }
+
+pub loop-left-smaller : goal.loop-left-smaller
+loop-left-smaller c = omega (arith, c.loop-left-test.true)
+
+pub loop-left-preserved : goal.loop-left-preserved
+loop-left-preserved c = let h = c.loop-left-test.true in
+    let e : c.args.count - (c.loop-left.left - 1) ≡ suc (c.args.count - c.loop-left.left) = omega (arith, h, c.loop-left.invariant.0) in (
+      omega (arith, c.loop-left.invariant.0),
+      rw e (turns_next _ _ _ _ _ _ _ _ c.requires.between.0 _ _ _ _ _ _ c.loop-left.invariant.1 _ (omega (arith, h, c.loop-left.invariant.0)) _ _ _ _ _ _ c.turn-t.ensures.fact c.if-t-ne-GOES_ON.false),
+      rw e (turns_told _ _ _ _ _ _ _ _ c.requires.between.0 _ _ _ _ _ _ c.loop-left.invariant.1 _ (omega (arith, h, c.loop-left.invariant.0)) _ _ _ _ _ _ c.turn-t.ensures.fact c.if-t-ne-GOES_ON.false
+          _ _ _ c.loop-left.invariant.2 c.turn-t.ensures.fact_2),
+    )
+
+pub shape_of-ids : goal.shape_of-ids
+shape_of-ids c = omega (arith, c.loop-left.invariant.1.between.ids_below.size, c.requires.between.0.ids_below.size)
+
+pub shape_of-ws : goal.shape_of-ws
+shape_of-ws c = c.loop-left.invariant.1.size
+
+pub returns : goal.returns
+returns c = let e : c.args.count - c.loop-left.left ≡ c.args.count = omega (arith, c.loop-left-test.false) in
+    record {
+      fact = turns_end _ _ _ _ _ _ _ _ c.requires.between.0 _ _ _ _ _ _ c.loop-left.invariant.1 e;
+      story_value = λ _. rw e at c.loop-left.invariant.2;
+    }

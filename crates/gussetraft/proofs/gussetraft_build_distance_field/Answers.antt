@@ -1,0 +1,12 @@
+-- The entry's answer is the outcome, and its numbers are taken apart unchanged; what they mean is read off the entry's promise.
+use Rattle.gussetraft.proofs.Apart.{gives_distances, leaves_distances}
+use borrow.Author.Rules.{rules}
+use Rattle.gussetraft.proofs.gussetraft_build_distance_field.Goals as goal
+
+pub returns : goal.returns
+returns c = let e = c.build_distance_field.ensures in
+    let n = c.numbers.ensures in
+    record {
+      fact = gives_distances _ _ _ _ _ e.0 n.0 n.1;
+      meaning = leaves_distances _ _ _ _ _ e.1 n.0 n.1;
+    }

@@ -1,0 +1,10 @@
+-- `bytes::headed` meets its contract: over the limit it is refused at its kind byte.
+use Rattle.load.proofs.Ways.{headed-over, headed_fits}
+use borrow.Author.Rules.{rules}
+use Rattle.load.proofs.bytes.headed.Goals as goal
+
+pub returns-then-l-product : goal.returns-then-l-product
+returns-then-l-product c = search headed-over
+
+pub returns : goal.returns
+returns c = search headed_fits

@@ -1,0 +1,11 @@
+-- The two tests say that x is above -1 and below 2 ^ 64, by the bits of each number, which are one value with what the call asks.
+use Rattle.std.proofs.Common.{T, sym, subst, rules}
+use lib.Ieee.{of_bits, neg}
+use Rattle.measuring.proofs.print.whole_part_or_zero.Goals as goal
+
+pub truncating_f64_to_u64-requires : goal.truncating_f64_to_u64-requires
+unfolding of_bits neg
+truncating_f64_to_u64-requires c = record {
+  lower_bound = subst T (sym c.if-x.true) tt;
+  upper_bound = subst T (sym c.if-x-2.true) tt;
+}

@@ -1,0 +1,15 @@
+-- Invariant: the walk over the directions below d. What a walk needs is there for the rest of it, since it keeps lengths and finds one change a step at most.
+use lib.ListN.{length}
+use Rattle.mend.proofs.WalkLaws.{ready_link, walk_none, walk-one, walk_end}
+use Prim.Native.Nat.{◌≤◌, ◌-◌, ◌*◌}
+use mathlib.Core.Path.{◌≡◌}
+use Rattle.mend.specs.Walk.{state, ground, walk}
+use borrow.Author.Rules.{rules}
+use Rattle.mend.proofs.mend_span.Given as goal
+
+abbrev pub invariant-loop-d : goal.invariant-loop-d
+invariant-loop-d l = (l.d ≤ 4) × (length l.con ≡ length l.initial.con) × (length l.changes ≡ length l.initial.changes)
+    × (state l.con l.changes l.found ≡ walk (ground l.w l.h l.index l.count l.area) l.room (4 * l.s.0) l.d (state l.initial.con l.initial.changes l.k))
+
+abbrev pub decreases-loop-d : goal.decreases-loop-d
+decreases-loop-d l = 4 - l.d

@@ -1,0 +1,27 @@
+-- The answers that the check does not find alone.
+use lib.ListN.{length, drop, get_or}
+use Rattle.pool.specs.Fixed.{picked_f}
+use Rattle.table.specs.View.{view, rec_at}
+use Rattle.merge.proofs.PickLaws.{pick-listed, picked_go, picked-end, own_id}
+use Prim.Native.Nat.{◌≤◌, ◌-◌, ◌<◌, ◌*◌}
+use mathlib.Core.Path.{◌≡◌, refl}
+use borrow.Author.Rules.{rules}
+use Rattle.merge.proofs.pick.pick.Goals as goal
+
+pub loop-k-init : goal.loop-k-init
+loop-k-init c = (search rules, search own_id, refl)
+
+pub pick_one-best-requires : goal.pick_one-best-requires
+pick_one-best-requires c = record {
+  records_in = search rules;
+  names = (search pick-listed, search rules);
+}
+
+pub loop-k-preserved : goal.loop-k-preserved
+loop-k-preserved c = (search rules, search rules, search picked_go)
+
+pub returns : goal.returns
+returns c = record {
+  id_value = search picked-end;
+  id_lt_m = search rules;
+}

@@ -1,0 +1,21 @@
+-- The answers that the check does not find alone.
+use lib.ListN.{length, drop}
+use Rattle.pool.specs.Fixed.{floor_is}
+use Rattle.rules.specs.Base.{any}
+use Rattle.merge.proofs.SuitLaws.{any-end, floor_here, floor_next, floor_in_lem}
+use Prim.Native.Nat.{◌≤◌, ◌-◌}
+use mathlib.Core.Path.{◌≡◌, refl}
+use borrow.Author.Rules.{rules}
+use Rattle.merge.proofs.recs.any_floor.Goals as goal
+
+pub bounds-ws-at : goal.bounds-ws-at
+bounds-ws-at c = search (rules, floor_in_lem)
+
+pub returns-then-ws-at : goal.returns-then-ws-at
+returns-then-ws-at c = search (rules, floor_here)
+
+pub loop-i-preserved : goal.loop-i-preserved
+loop-i-preserved c = (search rules, search (rules, floor_next))
+
+pub returns : goal.returns
+returns c = search (rules, any-end)

@@ -1,0 +1,21 @@
+-- `merge::regions::merge_and_filter_regions` meets its contract. Three stages in a row. The filter leaves the pool in order (`filtered_pool`), the merge the numbering's column (`AtRest`),
+-- and the merge with floors that stay gives the rule's numbers (`numbered_top`).
+use Rattle.merge.proofs.TopLaws.{filtered_pool, filtered_laid, filtered-joined, numbered_top, rest_column, rest_blank}
+use borrow.Author.Rules.{rules}
+use native.Mathlib.Omega.{arith}
+use Rattle.merge.proofs.regions.merge_and_filter_regions.Goals as goal
+
+pub merge_all-requires : goal.merge_all-requires
+merge_all-requires c = let f = c.filter in (
+  filtered_pool _ _ _ _ c.requires _ _ f.ensures.0 f.ensures.1.0 f.ensures.1.1 f.auto.0,
+  filtered_laid _ _ _ _ c.requires _ _ f.ensures.0 f.ensures.1.0 f.ensures.1.1 f.auto.0,
+  filtered-joined _ _ _ _ c.requires _ _ f.ensures.0 f.ensures.1.0 f.ensures.1.1 f.auto.0,
+)
+
+pub number-requires : goal.number-requires
+number-requires c = let p = c.requires in
+    (search rest_column, search rest_blank, p.named, omega (arith, p.room, c.filter.auto.ws, c.merge_all.auto.ws))
+
+pub returns : goal.returns
+returns c = let f = c.filter in
+    numbered_top _ _ _ _ c.requires _ _ f.ensures.0 f.ensures.1.0 f.ensures.1.1 f.auto.0 _ _ _ _ _ _ c.merge_all.ensures.m_after c.number.ensures.cut_value

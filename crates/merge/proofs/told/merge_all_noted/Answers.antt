@@ -1,0 +1,31 @@
+-- The answers that the check does not find alone.
+use mathlib.Core.Path.{◌∙◌}
+use native.Mathlib.Omega.{arith}
+use borrow.Author.Rules.{rules}
+use lib.ListN.{take}
+use Rattle.table.specs.View.{recs_of}
+use Rattle.pool.proofs.MergeLaws.{owners}
+use Rattle.merge.proofs.ToldLaws.{AllNoted, all_start, all_next, all_falls, all_done}
+use Rattle.merge.proofs.told.merge_all_noted.Goals as goal
+
+pub loop-round-init : goal.loop-round-init
+loop-round-init c = all_start _ _ _ _ _ _ c.first_half-half.ensures c.requires.1 c.requires.2 c.requires.3
+
+pub merge_round_noted-noted-requires : goal.merge_round_noted-noted-requires
+merge_round_noted-noted-requires c = let v = c.loop-round.invariant in
+    record {
+      m_in_bounds = (omega (arith, v.size, c.requires.0), v.pool, v.laid);
+      joined = (v.rounds.joined, v.few);
+    }
+
+pub shape_of-ws-then-round-eq0 : goal.shape_of-ws-then-round-eq0
+shape_of-ws-then-round-eq0 c = c.merge_round_noted-noted.auto.ws ∙ c.loop-round.invariant.size
+
+pub returns-then-round-eq0 : goal.returns-then-round-eq0
+returns-then-round-eq0 c = all_done _ _ _ _ _ _ _ c.loop-round.invariant _ _ c.merge_round_noted-noted.ensures c.merge_round_noted-noted.auto.ws c.if-round-eq0.true
+
+pub loop-round-smaller : goal.loop-round-smaller
+loop-round-smaller c = all_falls _ _ _ _ _ _ _ c.loop-round.invariant _ _ c.merge_round_noted-noted.ensures c.merge_round_noted-noted.auto.ws c.if-round-eq0.false
+
+pub loop-round-preserved : goal.loop-round-preserved
+loop-round-preserved c = all_next _ _ _ _ _ _ _ c.loop-round.invariant _ _ c.merge_round_noted-noted.ensures c.merge_round_noted-noted.auto.ws c.if-round-eq0.false

@@ -1,0 +1,28 @@
+-- The answers that the check does not find alone.
+use Prim.Native.Nat.{◌-◌, ◌≤◌}
+use mathlib.Core.Path.{◌≡◌, refl, ◌∙◌}
+use native.Mathlib.Omega.{arith}
+use borrow.Author.Rules.{rules}
+use lib.ListN.{length}
+use Rattle.merge.specs.Told.{NotedRound}
+use Rattle.merge.proofs.ToldLaws.{round-start, round-joined, round_next, round_done}
+use Rattle.merge.proofs.told.merge_round_noted.Goals as goal
+
+pub loop-i-init : goal.loop-i-init
+loop-i-init c = (omega arith, refl, round-start _ _ _ _ _ _ c.requires.m_in_bounds.1 c.requires.m_in_bounds.2 c.requires.joined.1)
+
+pub merge_one_noted-noted-requires : goal.merge_one_noted-noted-requires
+merge_one_noted-noted-requires c = let v = c.loop-i.invariant.2 in
+    record {
+      m_in_bounds = (omega (arith, c.loop-i.invariant.1, c.requires.m_in_bounds.0), v.pool, v.laid);
+      joined = (round-joined _ _ _ _ _ _ _ _ _ v c.requires.joined.0, c.loop-i-test.true, omega (arith, v.less, c.loop-i-test.true, v.pool.held.few), v.few);
+    }
+
+pub loop-i-preserved : goal.loop-i-preserved
+loop-i-preserved c = (omega (arith, c.loop-i-test.true), c.merge_one_noted-noted.auto.ws ∙ c.loop-i.invariant.1, round_next _ _ _ _ _ _ _ _ _ c.loop-i.invariant.2 _ _ c.merge_one_noted-noted.ensures)
+
+pub shape_of-ws : goal.shape_of-ws
+shape_of-ws c = c.loop-i.invariant.1
+
+pub returns : goal.returns
+returns c = round_done _ _ _ _ _ _ _ _ _ c.loop-i.invariant.2 c.loop-i.invariant.0 c.loop-i-test.false

@@ -1,0 +1,17 @@
+-- The answers that the check does not find alone.
+use Prim.Native.Nat.{◌+◌, ◌≤◌, ◌-◌}
+use mathlib.Core.Path.{◌≡◌, refl}
+use lib.ListN.{length}
+use Rattle.paint.specs.Paint.{put_if, walk_in, in_rect}
+use Rattle.paint.proofs.CellLaws.{columns_none, columns_more, columns_done}
+use borrow.Author.Rules.{rules}
+use Rattle.paint.proofs.paint_row.Goals as goal
+
+pub loop-x-init : goal.loop-x-init
+loop-x-init c = (search rules, search rules, refl, search columns_none)
+
+pub loop-x-preserved : goal.loop-x-preserved
+loop-x-preserved c = (search rules, search rules, search rules, columns_more _ _ _ _ _ _ _ _ _ _ _ c.loop-x.invariant.0 c.loop-x-test.true c.requires.1 c.loop-x.invariant.3 c.paint_cell.ensures)
+
+pub returns : goal.returns
+returns c = search columns_done

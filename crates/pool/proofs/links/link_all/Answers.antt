@@ -1,0 +1,22 @@
+-- The answers that the check does not find alone.
+use Prim.Native.Nat.{◌-◌, ◌≤◌}
+use mathlib.Core.Path.{◌≡◌}
+use lib.ListN.{length}
+use Rattle.pool.proofs.LinkLaws.{Linking, linking_none, room_same, linking_go, linking_all, linking_kept}
+use borrow.Author.Rules.{rules}
+use Rattle.pool.proofs.links.link_all.Goals as goal
+
+pub loop-q-init : goal.loop-q-init
+loop-q-init c = (search rules, search rules, search linking_none)
+
+pub link_one-requires : goal.link_one-requires
+link_one-requires c = (search room_same, search rules)
+
+pub loop-q-preserved : goal.loop-q-preserved
+loop-q-preserved c = (search rules, search rules, search linking_go)
+
+pub returns : goal.returns
+returns c = record {
+  linked = search linking_all;
+  frame = search linking_kept;
+}

@@ -1,0 +1,15 @@
+-- `pool::lists::squeeze` meets its contract. The loop's invariant: the kept entries, and the rest squeezed, are the whole squeezed; w never passes i.
+use Prim.Native.Nat.{◌≤◌, ◌-◌, ◌+◌}
+use mathlib.Core.Path.{◌≡◌, refl}
+use mathlib.Core.List.{◌++◌}
+use lib.ListN.{length, drop, take}
+use Rattle.laws.specs.Squeeze.{squeeze}
+use Rattle.pool.proofs.ListLaws.{squeeze_go, squeeze_done}
+use borrow.Author.Rules.{rules}
+use Rattle.pool.proofs.lists.squeeze.Given as goal
+
+abbrev pub invariant-loop-i : goal.invariant-loop-i
+invariant-loop-i l = (l.i ≤ length l.initial.l) × (l.w ≤ l.i) × (length l.l ≡ length l.initial.l) × (take l.w l.l ++ squeeze (drop l.i l.l) ≡ squeeze l.initial.l)
+
+abbrev pub decreases-loop-i : goal.decreases-loop-i
+decreases-loop-i l = length l.initial.l - l.i

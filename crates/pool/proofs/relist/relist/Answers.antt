@@ -1,0 +1,25 @@
+-- `pool::relist::relist` meets its contract. By cases: both lists fit past the top, or not.
+use mathlib.Core.Logic.{inl, inr}
+use Rattle.pool.proofs.RelistLaws.{both_fit}
+use borrow.Author.Rules.{rules}
+use Rattle.pool.proofs.relist.relist.Goals as goal
+
+pub relist_here-requires : goal.relist_here-requires
+relist_here-requires c = record {
+  pool_in = (search rules, search rules, search rules, search rules, (search rules, search rules));
+  absorbed_bound = both_fit _ _ _ _ _ _ _ c.len_of.ensures.0 c.len_of-2.ensures.0 c.if-both-half.true;
+}
+
+pub returns-then-both-half : goal.returns-then-both-half
+returns-then-both-half c = let r = c.relist_here.ensures in
+    record {
+      size_value = (r.0.0, r.0.1, inl (r.0.2, r.0.3));
+      relisted_in = r.1;
+    }
+
+pub returns : goal.returns
+returns c = let r = c.relist_there.ensures in
+    record {
+      size_value = (r.0.0, r.0.1, inr (r.0.2, r.0.3));
+      relisted_in = r.1;
+    }

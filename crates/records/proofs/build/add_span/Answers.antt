@@ -1,0 +1,20 @@
+-- `add_span` is the rule's `add_span`: ids 0 and flagged ids pass, any other is counted.
+-- The three ways out are the rule's test for a plain id.
+use lib.ListN.{get_or}
+use Rattle.laws.proofs.Plain.{plain_zero}
+use Rattle.records.proofs.CellLaws.{border-not, region_yes}
+use Rattle.records.proofs.BuildLaws.{added_none}
+use borrow.Author.Rules.{rules}
+use Rattle.records.proofs.build.add_span.Goals as goal
+
+pub returns-then-r : goal.returns-then-r
+returns-then-r c = added_none _ _ _ _ _ _ _ _ c.requires.standing (plain_zero _ c.if-r.true)
+
+pub returns-then-is_border : goal.returns-then-is_border
+returns-then-is_border c = added_none _ _ _ _ _ _ _ _ c.requires.standing (border-not (get_or c.args.ids.now c.args.span.0 0) _ c.is_border.ensures c.if-is_border.true)
+
+pub count_span-requires : goal.count_span-requires
+count_span-requires c = record {
+  standing = (c.requires.standing, region_yes _ _ c.is_border.ensures c.if-r.false c.if-is_border.false);
+  knowing_from = c.requires.knowing_from;
+}

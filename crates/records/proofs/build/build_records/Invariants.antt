@@ -1,0 +1,20 @@
+-- The invariant `Running`: after the cells before c the records are the rule's after those cells' spans, and what is past them is as it was; and
+-- `Knowing`: those of the last cell's spans have what they take from it.
+-- It starts with new records; the measure is what is left of the cells.
+use Prim.Native.Nat.{◌+◌, ◌-◌, ◌*◌, ◌≤◌}
+use mathlib.Core.Path.{refl, ◌∙◌}
+use Rattle.rules.specs.Field.{Field}
+use Rattle.field.specs.Lent.{lent}
+use Rattle.field.proofs.Passed.{sound_reached}
+use Rattle.records.specs.Build.{spans_at, Knowing}
+use Rattle.records.specs.declared.grow.Plan.{Plan}
+use Rattle.records.proofs.BuildLaws.{Running, run-start, know_start, cell_in, run_enter, run_next, built}
+use borrow.Author.Rules.{rules}
+use native.Mathlib.Omega.{arith}
+use Rattle.records.proofs.build.build_records.Given as goal
+
+abbrev pub invariant-loop-c : goal.invariant-loop-c
+invariant-loop-c l = Running (lent l.w l.h l.index l.count l.area l.con) l.ids (l.next + 1) l.t.top l.c l.initial.ws l.ws × Knowing l.ids (l.next + 1) l.t.last l.ws
+
+abbrev pub decreases-loop-c : goal.decreases-loop-c
+decreases-loop-c l = l.w * l.h - l.c

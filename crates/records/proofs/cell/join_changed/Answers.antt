@@ -1,0 +1,20 @@
+-- No loop: a layer that has the prior cell's id joins to no effect (JoinLaws), since that id is listed, or is none that joins; any other is `join_one`'s.
+use native.Mathlib.Omega.{arith}
+use borrow.Author.Rules.{rules}
+use mathlib.Core.Path.{refl}
+use Rattle.records.proofs.JoinLaws.{join_listed}
+use Rattle.records.proofs.cell.join_changed.Goals as goal
+
+pub offset_bounds-ids-before : goal.offset_bounds-ids-before
+offset_bounds-ids-before c = let u = c.requires.unchanged c.if-near.true in
+    omega (arith, u.inside, u.spans)
+
+pub bounds-ids-before : goal.bounds-ids-before
+bounds-ids-before c = (c.requires.unchanged c.if-near.true).inside
+
+pub returns-then-ids-t : goal.returns-then-ids-t
+returns-then-ids-t c = let p = c.requires in
+    record {
+      fact = join_listed _ _ _ _ _ _ p.1.0 (p.1.1.1 c.if-near.true) c.if-ids-t.true;
+      len_value = λ _. refl;
+    }

@@ -1,0 +1,44 @@
+-- Record i is renewed: its number, count 0, an empty list, and its floors' room where the rooms before it end.
+-- Each store is in a column or table of its own, so what was renewed before stays.
+use Prim.Native.Nat.{◌+◌, ◌≤◌}
+use mathlib.Core.Path.{◌≡◌, refl, ◌∙◌}
+use lib.ListN.{length, set, length-set}
+use Rattle.rules.specs.Refusals.{most_spans}
+use Rattle.records.proofs.CountLaws.{slot_room}
+use Rattle.records.proofs.FreshLaws.{floors_fit, renewed_one}
+use native.Mathlib.Omega.{arith}
+use borrow.Author.Rules.{rules}
+use Rattle.records.proofs.fresh.renew_one.Goals as goal
+
+pub overflow_mul-floors-3 : goal.overflow_mul-floors-3
+overflow_mul-floors-3 c = omega (arith, (omega (arith, c.requires.renewed.2, c.requires.m_le_border.1, slot_room c.args.ids.now c.args.i)))
+
+pub overflow_add-floors-2 : goal.overflow_add-floors-2
+overflow_add-floors-2 c = omega (arith, (omega (arith, c.requires.renewed.2, c.requires.m_le_border.1, slot_room c.args.ids.now c.args.i)), c.requires.m_le_border.0, c.requires.m_le_border.1)
+
+pub bounds-ws-m : goal.bounds-ws-m
+bounds-ws-m c = simp length-set (omega (arith, c.requires.m_le_border.2, c.requires.renewed.1))
+
+pub set_part-requires : goal.set_part-requires
+set_part-requires c = let p = c.requires in
+    record {
+      m_in_bounds = simp length-set (omega (arith, p.1.2));
+      r_lt_m = p.0.1;
+      a_lt_wide_end = (omega (arith, p.1.0), omega (arith, p.1.0));
+    }
+
+pub set_part-requires-2 : goal.set_part-requires-2
+set_part-requires-2 c = let p = c.requires in
+    let q = floors_fit _ _ _ _ p.0.0 p.0.1 _ _ p.0.2 refl p.1.0 p.1.1 p.1.2 in
+    record {
+      m_in_bounds = omega (arith, c.set_part.auto.ws, (simp length-set), p.1.2);
+      r_lt_m = p.0.1;
+      a_lt_wide_end = (q, q);
+    }
+
+pub shape_of-ws : goal.shape_of-ws
+shape_of-ws c = c.set_part-2.auto.ws ∙ c.set_part.auto.ws ∙ (simp length-set)
+
+pub returns : goal.returns
+returns c = let p = c.requires in
+    (renewed_one _ _ _ _ p.0.0 p.0.1 _ _ p.0.2 refl p.1.0 p.1.1 p.1.2 _ _ _ refl c.set_part.ensures c.set_part.auto.ws c.set_part-2.ensures c.set_part-2.auto.ws, c.at-spans.ensures.0 ∙ p.0.0.counts _ (omega arith) p.0.1)

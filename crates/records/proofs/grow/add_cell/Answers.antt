@@ -1,0 +1,57 @@
+-- `add_cell` is the rule's `celled`: one more span, then floors, then overlap, each a step on record r.
+-- Counting first gives the floors of this span their room; what the record has already, all or from a prior cell (KnownLaws), is not looked for.
+use lib.ListN.{length-set}
+use Prim.Native.Nat.{◌<◌}
+use mathlib.Core.Path.{refl, ◌∙◌}
+use lib.ListN.{length}
+use Rattle.records.proofs.ContourLaws.{own_in, count_fits, counted_keeping, counted_slack, counted_prior, took_known, cell_known, cell-step}
+use native.Mathlib.Omega.{arith}
+use Rattle.records.proofs.grow.add_cell.Goals as goal
+
+pub overflow_add-ws : goal.overflow_add-ws
+overflow_add-ws c = let p = c.requires in omega (arith, own_in _ _ _ _ _ p.0.0 _ 0 0 p.1.0.0 p.1.0.1 (omega (arith, p.0.1.inside, p.0.1.upper)), p.0.0.few)
+
+pub offset_bounds-ws-m : goal.offset_bounds-ws-m
+offset_bounds-ws-m c = let p = c.requires in omega (arith, own_in _ _ _ _ _ p.0.0 _ 0 0 p.1.0.0 p.1.0.1 (omega (arith, p.0.1.inside, p.0.1.upper)), p.0.0.few)
+
+pub bounds-ws-m : goal.bounds-ws-m
+bounds-ws-m c = let p = c.requires in omega (arith, own_in _ _ _ _ _ p.0.0 _ 0 0 p.1.0.0 p.1.0.1 ((omega (arith, c.requires.keeping.1.inside, c.requires.keeping.1.upper))), p.0.0.room)
+
+pub overflow_add-ws-2 : goal.overflow_add-ws-2
+overflow_add-ws-2 c = let p = c.requires in omega (arith, count_fits _ _ _ _ _ p.0.0 _ 0 0 p.1.0.0 p.1.0.1 ((omega (arith, c.requires.keeping.1.inside, c.requires.keeping.1.upper))))
+
+pub bounds-ws-m-2 : goal.bounds-ws-m-2
+bounds-ws-m-2 c = let p = c.requires in omega (arith, own_in _ _ _ _ _ p.0.0 _ 0 0 p.1.0.0 p.1.0.1 ((omega (arith, c.requires.keeping.1.inside, c.requires.keeping.1.upper))), p.0.0.room)
+
+pub shape_of-ws-then-prior-cell : goal.shape_of-ws-then-prior-cell
+shape_of-ws-then-prior-cell c = simp length-set
+
+pub returns-then-prior-cell : goal.returns-then-prior-cell
+returns-then-prior-cell c = let p = c.requires in
+    let k = took_known _ _ _ _ _ p.0.0 _ 0 0 p.1.0.0 p.1.0.1 ((omega (arith, c.requires.keeping.1.inside, c.requires.keeping.1.upper))) _ _ p.0.1 p.1.1 c.if-prior-cell.true in
+    cell_known _ _ _ _ _ p.0.0 _ _ _ p.1.0.0 p.1.0.1 ((omega (arith, c.requires.keeping.1.inside, c.requires.keeping.1.upper))) k
+
+pub add_floors-twin-requires : goal.add_floors-twin-requires
+add_floors-twin-requires c = let p = c.requires in
+    let k = p.1.1 in
+    record {
+      keeping = (
+        counted_keeping _ _ _ _ _ p.0.0 _ 0 0 p.1.0.0 p.1.0.1 ((omega (arith, c.requires.keeping.1.inside, c.requires.keeping.1.upper))) _ refl,
+        own_in _ _ _ _ _ p.0.0 _ 0 0 p.1.0.0 p.1.0.1 ((omega (arith, c.requires.keeping.1.inside, c.requires.keeping.1.upper))),
+        counted_slack _ _ _ _ _ p.0.0 _ 0 0 p.1.0.0 p.1.0.1 ((omega (arith, c.requires.keeping.1.inside, c.requires.keeping.1.upper))) _ refl,
+        p.0.1,
+      );
+      lies = (λ n. (k.knowing n).lies);
+      prior = ((λ n. counted_prior _ _ _ _ _ p.0.0 _ 0 0 p.1.0.0 p.1.0.1 ((omega (arith, c.requires.keeping.1.inside, c.requires.keeping.1.upper))) _ refl _ _ p.0.1 (k.knowing n)), k.place);
+    }
+
+pub add_overlap-requires : goal.add_overlap-requires
+add_overlap-requires c = let p = c.requires in
+    (own_in _ _ _ _ _ p.0.0 _ 0 0 p.1.0.0 p.1.0.1 ((omega (arith, c.requires.keeping.1.inside, c.requires.keeping.1.upper))), omega (arith, c.add_floors-twin.ensures.fact.keeping.room))
+
+pub shape_of-ws : goal.shape_of-ws
+shape_of-ws c = c.add_overlap.auto.ws ∙ c.add_floors-twin.auto.ws ∙ simp length-set
+
+pub returns : goal.returns
+returns c = let p = c.requires in
+    cell-step _ _ _ _ _ p.0.0 _ _ _ p.1.0.0 p.1.0.1 ((omega (arith, c.requires.keeping.1.inside, c.requires.keeping.1.upper))) _ refl _ _ _ c.add_floors-twin.ensures.fact c.add_floors-twin.ensures.result_value c.add_overlap.ensures

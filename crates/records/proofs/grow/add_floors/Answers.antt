@@ -1,0 +1,56 @@
+-- The others' ids join record r's floors in its own room, and then the list's end is stored, if it is a new one.
+-- The room is 62 numbers for each span counted, and this span, counted already, has at most 62 others.
+use Prim.Native.Nat.{ℕ, ◌+◌, ◌*◌}
+use Rattle.table.specs.View.{start_of, end_of}
+use mathlib.Core.Path.{◌≡◌, refl, ap}
+use lib.ListN.{get_or}
+use Rattle.records.proofs.RowLaws.{floor_parts}
+use Rattle.records.proofs.FloorLaws.{room_order, room_inside, room_roomy, room_prior, put_room, end_fits, step_floors, step_stays}
+use native.Mathlib.Omega.{arith}
+use borrow.Author.Rules.{rules}
+use Rattle.records.proofs.grow.add_floors.Goals as goal
+
+pub start_of-start-requires : goal.start_of-start-requires
+start_of-start-requires c = (floor_parts _ _ _ _ _ c.requires.keeping.0, c.requires.keeping.1)
+
+pub end_of-end-requires : goal.end_of-end-requires
+end_of-end-requires c = (floor_parts _ _ _ _ _ c.requires.keeping.0, c.requires.keeping.1)
+
+pub overflow_sub-len : goal.overflow_sub-len
+overflow_sub-len c = room_order _ _ _ _ _ c.requires.keeping.0 _ c.requires.keeping.1 _ _ _ ((c.start_of-start.ensures.0)) ((c.end_of-end.ensures.0)) ((ap (λ (x : ℕ). c.start_of-start.result + 62 * x) c.at.ensures.0))
+
+pub slice_bounds-join-end : goal.slice_bounds-join-end
+slice_bounds-join-end c = omega (arith, room_inside _ _ _ _ _ c.requires.keeping.0 _ c.requires.keeping.1 _ _ _ ((c.start_of-start.ensures.0)) ((c.end_of-end.ensures.0)) ((ap (λ (x : ℕ). c.start_of-start.result + 62 * x) c.at.ensures.0)), c.requires.keeping.0.room)
+
+pub join-taken-requires : goal.join-taken-requires
+join-taken-requires c = let q = c.requires in
+    let p = q.0 in
+    let w = p.3 in
+    record {
+      roomy = room_roomy _ _ _ _ _ p.0 _ p.1 _ _ _ ((c.start_of-start.ensures.0)) ((c.end_of-end.ensures.0)) ((ap (λ (x : ℕ). c.start_of-start.result + 62 * x) c.at.ensures.0)) _ _ _ (omega (arith, p.2.slack, (c.start_of-start.ensures.0), (c.end_of-end.ensures.0), (ap (λ (x : ℕ). c.start_of-start.result + 62 * x) c.at.ensures.0))) w.few w.inside w.lower w.upper;
+      lies = q.1.0;
+      prior = ((λ n. room_prior _ _ _ _ _ p.0 _ p.1 _ _ _ ((c.start_of-start.ensures.0)) ((c.end_of-end.ensures.0)) ((ap (λ (x : ℕ). c.start_of-start.result + 62 * x) c.at.ensures.0)) _ _ _ (q.1.1.0 n)), q.1.1.1);
+    }
+
+pub returns-then-listed-len : goal.returns-then-listed-len
+returns-then-listed-len c = let p = c.requires.keeping in
+    record {
+      fact = step_stays _ _ _ _ _ p.0 _ p.1 _ _ _ ((c.start_of-start.ensures.0)) ((c.end_of-end.ensures.0)) ((ap (λ (x : ℕ). c.start_of-start.result + 62 * x) c.at.ensures.0)) _ _ _ _ c.join-taken.auto.part c.join-taken.ensures.fact refl c.if-listed-len.true;
+      result_value = c.join-taken.ensures.twin_value;
+    }
+
+pub set_part-requires : goal.set_part-requires
+set_part-requires c = let p = c.requires.keeping in
+    let f = end_fits _ _ _ _ _ p.0 _ p.1 _ _ _ ((c.start_of-start.ensures.0)) ((c.end_of-end.ensures.0)) ((ap (λ (x : ℕ). c.start_of-start.result + 62 * x) c.at.ensures.0)) _ _ _ c.join-taken.auto.part c.join-taken.ensures.fact in
+    record {
+      m_in_bounds = put_room _ _ _ _ _ p.0 _ p.1 _ _ _ ((c.start_of-start.ensures.0)) ((c.end_of-end.ensures.0)) ((ap (λ (x : ℕ). c.start_of-start.result + 62 * x) c.at.ensures.0)) c.join-taken.last.1.0 c.join-taken.auto.part;
+      r_lt_m = p.1;
+      a_lt_wide_end = f;
+    }
+
+pub returns : goal.returns
+returns c = let p = c.requires.keeping in
+    record {
+      fact = step_floors _ _ _ _ _ p.0 _ p.1 _ _ _ ((c.start_of-start.ensures.0)) ((c.end_of-end.ensures.0)) ((ap (λ (x : ℕ). c.start_of-start.result + 62 * x) c.at.ensures.0)) _ _ _ _ c.join-taken.auto.part c.join-taken.ensures.fact refl _ c.set_part.ensures c.set_part.auto.ws;
+      result_value = c.join-taken.ensures.twin_value;
+    }

@@ -1,0 +1,33 @@
+-- `trace` leaves the rule's traced list in the pool: the contour from the first solid direction, or nothing.
+-- The pool has zeros from top on. No contour is not cut short.
+use Rattle.contour.proofs.PoolLaws.{start_con, start-at}
+use Rattle.records.proofs.TraceLaws.{trace_dir, trace_at, trace_cut_at, trace_none, trace_cut_none}
+use borrow.Author.Rules.{rules}
+use Rattle.records.proofs.grow.trace.Goals as goal
+
+pub connections-cons-requires : goal.connections-cons-requires
+connections-cons-requires c = search (rules, start_con)
+
+pub first_solid-requires : goal.first_solid-requires
+first_solid-requires c = start-at _ _ _ _ _ _ c.requires _ c.connections-cons.ensures
+
+pub walk_contour-requires : goal.walk_contour-requires
+walk_contour-requires c = let e = c.first_solid.ensures in
+    let p = c.requires in
+    (p, trace_dir _ _ _ _ _ _ p _ e.0 e.1 _ c.d-1.given.1)
+
+pub returns-in-At : goal.returns-in-At
+returns-in-At c = let e = c.first_solid.ensures in
+    let p = c.requires in
+    let w = c.walk_contour.ensures in
+    record {
+      fact = trace_at _ _ _ _ _ _ p _ e.0 e.1 _ c.d-1.given.1 _ _ w.0 w.1.0;
+      cut_value = trace_cut_at _ _ _ _ _ _ p _ e.0 e.1 _ c.d-1.given.1 _ w.1.1;
+    }
+
+pub returns-in-Nowhere : goal.returns-in-Nowhere
+returns-in-Nowhere c = let p = c.requires in
+    record {
+      fact = trace_none _ _ _ _ _ _ p _ c.first_solid.ensures.result_value c.enum_told-1.given.1;
+      cut_value = trace_cut_none _ _ _ _ _ _ p _ c.first_solid.ensures.result_value c.enum_told-1.given.1;
+    }

@@ -1,0 +1,22 @@
+-- The answers that the check does not find alone.
+use Prim.Native.Nat.{◌≤◌, ◌-◌, ◌+◌}
+use mathlib.Core.Path.{◌≡◌}
+use lib.ListN.{length}
+use Rattle.field.specs.Lent.{lent}
+use Rattle.field.proofs.Passed.{sound_reached}
+use Rattle.refresh.specs.Redo.{blur_till}
+use Rattle.refresh.proofs.Turns.{blur_go, blur-first, blur-last}
+use borrow.Author.Rules.{rules}
+use Rattle.refresh.proofs.redo.blur_rows.Goals as goal
+
+pub loop-y-init : goal.loop-y-init
+loop-y-init c = (search rules, search rules, search (rules, blur-first), search rules)
+
+pub blur_row-requires : goal.blur_row-requires
+blur_row-requires c = (search (rules, sound_reached), search rules, search rules, search rules)
+
+pub loop-y-preserved : goal.loop-y-preserved
+loop-y-preserved c = (search rules, search rules, search (rules, blur_go), search rules)
+
+pub returns : goal.returns
+returns c = search (rules, blur-last)

@@ -1,0 +1,23 @@
+-- The answers that the check does not find alone.
+use Prim.Native.Nat.{◌≤◌, ◌-◌, ◌+◌}
+use mathlib.Core.Path.{◌≡◌}
+use lib.ListN.{length}
+use Rattle.rules.specs.Refresh.{onward}
+use Rattle.field.specs.Lent.{lent}
+use Rattle.distance.specs.Value.{Low}
+use Rattle.refresh.specs.Redo.{Kept}
+use Rattle.refresh.proofs.Turns.{onward_go, onward_stop, onward-end, kept_up, kept_none, kept_all, kept_size}
+use borrow.Author.Rules.{rules}
+use Rattle.refresh.proofs.redo.settle1.Goals as goal
+
+pub loop-y-init : goal.loop-y-init
+loop-y-init c = (search rules, search rules, search rules, search rules, search (rules, kept_none), search rules)
+
+pub returns-then-redo1_row : goal.returns-then-redo1_row
+returns-then-redo1_row c = (search (rules, onward_stop), search rules, search rules, search rules, search (rules, kept_up))
+
+pub loop-y-preserved : goal.loop-y-preserved
+loop-y-preserved c = (search rules, search rules, search (rules, onward_go), search rules, search (rules, kept_up), search (rules, kept_size))
+
+pub returns : goal.returns
+returns c = (search (rules, onward-end), search rules, search rules, search rules, search (rules, kept_all))

@@ -1,0 +1,18 @@
+-- The answers that the check does not find alone.
+use Prim.Native.Nat.{◌≤◌, ◌-◌}
+use Rattle.refresh.proofs.Parts.{Empty_from, last_go, last_found, last_none}
+use borrow.Author.Rules.{rules}
+use native.Mathlib.Omega.{arith}
+use Rattle.refresh.proofs.rows.last_cell.Goals as goal
+
+pub loop-x-init : goal.loop-x-init
+loop-x-init c = (search rules, λ t h g. absurd (omega arith))
+
+pub returns-then-at8-ne0 : goal.returns-then-at8-ne0
+returns-then-at8-ne0 c = search (rules, last_found)
+
+pub loop-x-preserved : goal.loop-x-preserved
+loop-x-preserved c = (search rules, search (rules, last_go))
+
+pub returns : goal.returns
+returns c = search (rules, last_none)

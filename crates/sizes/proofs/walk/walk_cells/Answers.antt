@@ -1,0 +1,45 @@
+-- The answers that the check does not find alone.
+use Prim.Native.Nat.{◌-◌}
+use Rattle.sizes.specs.Walk.{extent_at}
+use mathlib.Core.Path.{refl}
+use Rattle.field.specs.Lent.{lent}
+use Rattle.laws.proofs.Passes.{wide_pos}
+use Rattle.sizes.proofs.WalkLaws.{rest_le, part_le, Walked, walked_none, walked_next, walked_fits, walked_all}
+use borrow.Author.Rules.{rules}
+use native.Mathlib.Omega.{arith}
+use Rattle.sizes.proofs.walk.walk_cells.Goals as goal
+
+pub loop-c-init : goal.loop-c-init
+loop-c-init c = walked_none _ _ _ _ _ _ _ _ c.requires.0 _ c.no_extent-seen.ensures
+
+pub at8-spans-requires : goal.at8-spans-requires
+at8-spans-requires c = omega (arith, c.loop-c-test.true, c.requires.0.counted)
+
+pub nonzero_rem-x : goal.nonzero_rem-x
+nonzero_rem-x c = omega (arith, wide_pos c.args.w c.args.h c.loop-c.c c.loop-c-test.true)
+
+pub overflow_cast-x : goal.overflow_cast-x
+overflow_cast-x c = omega (arith, c.loop-c-test.true, c.requires.0.grid, rest_le c.loop-c.c c.args.w)
+
+pub nonzero_div-z : goal.nonzero_div-z
+nonzero_div-z c = omega (arith, wide_pos c.args.w c.args.h c.loop-c.c c.loop-c-test.true)
+
+pub overflow_cast-z : goal.overflow_cast-z
+overflow_cast-z c = omega (arith, c.loop-c-test.true, c.requires.0.grid, part_le c.loop-c.c c.args.w)
+
+pub walk_cell-seen-requires : goal.walk_cell-seen-requires
+walk_cell-seen-requires c = let v = c.loop-c.invariant in
+    let i = c.loop-c-test.true in
+    record {
+      spans_in_bounds = (walked_fits _ _ _ _ _ _ _ _ c.requires.0 _ _ _ v i _ c.at8-spans.ensures.0, c.requires.1, c.requires.0.few);
+      count_le_first = (v.low, omega (arith, i, c.requires.0.grid, rest_le c.loop-c.c c.args.w), omega (arith, i, c.requires.0.grid, part_le c.loop-c.c c.args.w));
+    }
+
+pub overflow_add-first : goal.overflow_add-first
+overflow_add-first c = omega (arith, walked_fits _ _ _ _ _ _ _ _ c.requires.0 _ _ _ c.loop-c.invariant c.loop-c-test.true _ c.at8-spans.ensures.0, c.requires.0.few)
+
+pub loop-c-preserved : goal.loop-c-preserved
+loop-c-preserved c = walked_next _ _ _ _ _ _ _ _ c.requires.0 _ _ _ c.loop-c.invariant c.loop-c-test.true _ _ _ c.at8-spans.ensures.0 refl refl _ c.walk_cell-seen.ensures
+
+pub returns : goal.returns
+returns c = walked_all _ _ _ _ _ _ _ _ c.requires.0 _ _ _ c.loop-c.invariant c.loop-c-test.false

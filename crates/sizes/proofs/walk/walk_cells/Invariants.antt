@@ -1,0 +1,16 @@
+-- The loop's invariant: the spans of c cells are noted (`Walked`). The measure is the cells left.
+use Prim.Native.Nat.{◌-◌}
+use Rattle.sizes.specs.Walk.{extent_at}
+use mathlib.Core.Path.{refl}
+use Rattle.field.specs.Lent.{lent}
+use Rattle.laws.proofs.Passes.{wide_pos}
+use Rattle.sizes.proofs.WalkLaws.{rest_le, part_le, Walked, walked_none, walked_next, walked_fits, walked_all}
+use borrow.Author.Rules.{rules}
+use native.Mathlib.Omega.{arith}
+use Rattle.sizes.proofs.walk.walk_cells.Given as goal
+
+abbrev pub invariant-loop-c : goal.invariant-loop-c
+invariant-loop-c l = Walked (lent l.w l.h l.index l.count l.area l.con) l.ids l.id (extent_at l.seen) l.first l.c
+
+abbrev pub decreases-loop-c : goal.decreases-loop-c
+decreases-loop-c l = l.cells - l.c

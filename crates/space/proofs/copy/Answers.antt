@@ -1,0 +1,24 @@
+-- The answers that the check does not find alone.
+use borrow.Author.Rules.{rules}
+use Prim.Native.Nat.{◌-◌}
+use lib.ListN.{length}
+use Rattle.space.proofs.Laws.{Copied, copied_none, copied_size, copied_next, copied_all}
+use Rattle.space.proofs.copy.Goals as goal
+
+pub loop-i-init : goal.loop-i-init
+loop-i-init c = search (rules, copied_none)
+
+pub bounds-from-i : goal.bounds-from-i
+bounds-from-i c = search (rules, copied_size)
+
+pub loop-i-smaller : goal.loop-i-smaller
+loop-i-smaller c = search (rules, copied_size)
+
+pub loop-i-preserved : goal.loop-i-preserved
+loop-i-preserved c = search (rules, copied_next)
+
+pub shape_of-to : goal.shape_of-to
+shape_of-to c = search (rules, copied_size)
+
+pub returns : goal.returns
+returns c = search (rules, copied_all)

@@ -1,0 +1,16 @@
+-- `space::fill` meets its contract. The loop's invariant: v up to i, then the list as it was. At the end i is the length.
+use lib.Seq.{drop-length}
+use borrow.Author.Fill.{fill_none, fill_more}
+use lib.ListN.{length, set, length-set, drop, replicate}
+use mathlib.Core.List.{List, ◌++◌, append-nil}
+use mathlib.Core.Path.{◌≡◌, refl, ap, ◌∙◌}
+use Prim.Native.Nat.{ℕ, ◌-◌, ◌≤◌}
+use borrow.Author.Rules.{rules}
+use native.Mathlib.Omega.{arith}
+use Rattle.space.proofs.fill.Given as goal
+
+abbrev pub invariant-loop-i : goal.invariant-loop-i
+invariant-loop-i l = (l.i ≤ length l.initial.l) × (length l.l ≡ length l.initial.l) × (l.l ≡ replicate l.i l.v ++ drop l.i l.initial.l)
+
+abbrev pub decreases-loop-i : goal.decreases-loop-i
+decreases-loop-i l = length l.l - l.i

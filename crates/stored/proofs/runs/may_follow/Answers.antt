@@ -1,0 +1,10 @@
+-- By cases on whether the ids are the same.
+use Rattle.stored.proofs.NewCalls.{follow_same, follow_other}
+use borrow.Author.Rules.{rules}
+use Rattle.stored.proofs.runs.may_follow.Goals as goal
+
+pub returns-then-x-y : goal.returns-then-x-y
+returns-then-x-y c = search (rules, follow_same)
+
+pub returns : goal.returns
+returns c = search (rules, follow_other)

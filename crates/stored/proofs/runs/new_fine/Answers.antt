@@ -1,0 +1,25 @@
+-- The answers that the check does not find alone.
+use Prim.Native.Nat.{◌≤◌, ◌-◌, ◌/◌, ◌%◌}
+use mathlib.Core.Path.{◌≡◌}
+use lib.ListN.{length}
+use Rattle.stored.proofs.NewPlaces.{new_odd, At, at_first, at_next, at-not, at_full, at-end}
+use borrow.Author.Rules.{rules}
+use Rattle.stored.proofs.runs.new_fine.Goals as goal
+
+pub returns-then-new-ne1 : goal.returns-then-new-ne1
+returns-then-new-ne1 c = search (rules, new_odd)
+
+pub loop-j-init : goal.loop-j-init
+loop-j-init c = (search rules, search rules, search (rules, at_first))
+
+pub returns-else-record_fine : goal.returns-else-record_fine
+returns-else-record_fine c = search (rules, at-not)
+
+pub loop-j-preserved : goal.loop-j-preserved
+loop-j-preserved c = (search rules, search rules, search (rules, at_next))
+
+pub returns-then-t-eq-STRETCH : goal.returns-then-t-eq-STRETCH
+returns-then-t-eq-STRETCH c = search (rules, at_full)
+
+pub returns : goal.returns
+returns c = search (rules, at-end)

@@ -1,0 +1,10 @@
+-- By cases on what is due.
+use Rattle.stored.proofs.NewCalls.{after_zero, after_more}
+use borrow.Author.Rules.{rules}
+use Rattle.stored.proofs.runs.runs_after.Goals as goal
+
+pub returns-then-t-eq-STRETCH : goal.returns-then-t-eq-STRETCH
+returns-then-t-eq-STRETCH c = search (rules, after_zero)
+
+pub returns : goal.returns
+returns c = search (rules, after_more)

@@ -1,0 +1,18 @@
+-- The loop's invariant: what is still to be written, written from here on, gives what the whole gives.
+-- Each turn writes the spans of a run.
+use Prim.Native.Nat.{◌≤◌, ◌-◌, ◌/◌, ◌%◌}
+use mathlib.Core.Path.{◌≡◌}
+use lib.ListN.{length}
+use Rattle.rules.specs.Stored.{unpacked}
+use Rattle.forms.proofs.Bytes.{new_length}
+use Rattle.stored.proofs.NewPlaces.{runs_below, spans_left}
+use Rattle.stored.proofs.Fits.{Writes}
+use Rattle.stored.proofs.NewCalls.{all_first, all_room, all_next, all_end_room, all_done}
+use borrow.Author.Rules.{rules}
+use Rattle.stored.proofs.runs.write_spans.Given as goal
+
+abbrev pub invariant-loop-j : goal.invariant-loop-j
+invariant-loop-j l = (length l.new % 5 ≡ 1) × (l.j ≤ length l.new / 5) × (l.t ≤ 64) × Writes l.initial.out (unpacked l.new) l.at (spans_left l.new l.j l.t) l.out
+
+abbrev pub decreases-loop-j : goal.decreases-loop-j
+decreases-loop-j l = length l.new / 5 - l.j

@@ -158,7 +158,7 @@ module _ (N : Net) (dist : List ℕ) (m₀ : Marks) (s : ℕ) where
                 let q = h.same g in
                 let i = source_in l _ _ h.heard.from g in
                 (stays ∙ q.0, round_keeps N p w y.from (λ x. omega arith) (λ x. omega (arith, q.1)) ∙ q.1);
-            room = λ g q. rw stays (inr (h.room (rw stays at g) q));
+            room = λ g q. subst (λ k. Once (Counts N dist s k) (rounded p ∷ l)) (sym stays) (inr (h.room (rw stays at g) q));
             counted = λ k q. let x = h.counted k (later (Counts N dist s k) (rounded p) l (λ y. y) q) in (x.0, stays ∙ x.1);
             alone = λ g k q. h.alone g k (later (Counts N dist s k) (rounded p) l (λ y. y) q);
             flag = λ k f q. h.flag k f (sym stays ∙ q);

@@ -9,16 +9,16 @@ use Rattle.levels.proofs.AppendLaws.{append_used, append-taken, append-put}
 use Rattle.levels.proofs.append_one.Goals as goal
 
 pub overflow_mul-e : goal.overflow_mul-e
-overflow_mul-e c = omega (arith, (slot _ _ _ _ (omega arith) c.requires.j_in_bounds.1))
+overflow_mul-e c = omega (arith, slot (c.args.j - 1) 8 (length c.args.ids.now) c.args.i (omega (arith, c.requires.stack_part)) c.requires.j_in_bounds.1)
 
 pub overflow_add-e : goal.overflow_add-e
-overflow_add-e c = omega (arith, (slot _ _ _ _ (omega arith) c.requires.j_in_bounds.1))
+overflow_add-e c = omega (arith, slot (c.args.j - 1) 8 (length c.args.ids.now) c.args.i (omega (arith, c.requires.stack_part)) c.requires.j_in_bounds.1)
 
 pub offset_bounds-stacks-j : goal.offset_bounds-stacks-j
-offset_bounds-stacks-j c = omega (arith, (slot _ _ _ _ (omega arith) c.requires.j_in_bounds.1))
+offset_bounds-stacks-j c = omega (arith, slot (c.args.j - 1) 8 (length c.args.ids.now) c.args.i (omega (arith, c.requires.stack_part)) c.requires.j_in_bounds.1)
 
 pub bounds-stacks-j : goal.bounds-stacks-j
-bounds-stacks-j c = omega (arith, (slot _ _ _ _ (omega arith) c.requires.j_in_bounds.1))
+bounds-stacks-j c = omega (arith, slot (c.args.j - 1) 8 (length c.args.ids.now) c.args.i (omega (arith, c.requires.stack_part)) c.requires.j_in_bounds.1)
 
 pub returns-then-e : goal.returns-then-e
 returns-then-e c = search append_used

@@ -11,7 +11,7 @@ use borrow.Author.Rules.{rules}
 use Rattle.checker.proofs.links.cell_ok.Given as goal
 
 abbrev pub invariant-loop-j : goal.invariant-loop-j
-invariant-loop-j l = (l.j ≤ l.k) × (every l.j (λ l. half_at (lent l.w l.h l.index l.count l.area l.con) (l.i + l)) ≡ true)
+invariant-loop-j l = (l.j ≤ l.k) × (every l.j (λ t. half_at (lent l.w l.h l.index l.count l.area l.con) (l.i + t)) ≡ true)
 
 abbrev pub decreases-loop-j : goal.decreases-loop-j
 decreases-loop-j l = l.k - l.j

@@ -4,9 +4,7 @@ use borrow.Author.Rules.{rules}
 use Rattle.gussetraft.proofs.gussetraft_build_distance_field.Goals as goal
 
 pub returns : goal.returns
-returns c = let e = c.build_distance_field.ensures in
-    let n = c.numbers.ensures in
-    record {
-      fact = gives_distances _ _ _ _ _ e.0 n.0 n.1;
-      meaning = leaves_distances _ _ _ _ _ e.1 n.0 n.1;
-    }
+returns c = record {
+  fact = gives_distances _ _ _ _ _ c.build_distance_field.ensures.fact c.numbers.ensures.0 c.numbers.ensures.1;
+  meaning = leaves_distances _ _ _ _ _ c.build_distance_field.ensures.meaning c.numbers.ensures.0 c.numbers.ensures.1;
+}

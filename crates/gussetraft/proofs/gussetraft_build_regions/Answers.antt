@@ -4,9 +4,7 @@ use borrow.Author.Rules.{rules}
 use Rattle.gussetraft.proofs.gussetraft_build_regions.Goals as goal
 
 pub returns : goal.returns
-returns c = let e = c.build_regions-answer.ensures in
-    let n = c.region_numbers.ensures in
-    record {
-      fact = gives-regions _ _ _ _ _ e.0 n.0 n.1 n.2 n.3;
-      rooms = leaves_rooms _ _ _ _ _ _ e.1 n.0 n.1;
-    }
+returns c = record {
+  fact = gives-regions _ _ _ _ _ c.build_regions-answer.ensures.fact c.region_numbers.ensures.0 c.region_numbers.ensures.1 c.region_numbers.ensures.2 c.region_numbers.ensures.3;
+  rooms = leaves_rooms _ _ _ _ _ _ c.build_regions-answer.ensures.rooms c.region_numbers.ensures.0 c.region_numbers.ensures.1;
+}

@@ -29,6 +29,5 @@ pub note-requires : goal.note-requires
 note-requires c = (search (rules, place_in), search rules, search (rules, link_small), search rules)
 
 pub returns : goal.returns
-returns c = let p = c.requires in
-    step_made _ _ _ _ _ _ _ _ _ _ p.0.0 _ _ _ _ p.0.1 p.1.0 p.1.1 _ c.link_stays.ensures
+returns c = step_made _ _ _ _ _ _ _ _ _ _ c.requires.ready.0 _ _ _ _ c.requires.ready.1 c.requires.s_value.0 c.requires.s_value.1 _ c.link_stays.ensures
     c.if-link_stays.false c.if-room-k.false _ _ refl c.note.ensures

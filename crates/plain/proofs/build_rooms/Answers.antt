@@ -27,11 +27,9 @@ returns-in-Refused c = record {
 }
 
 pub returns-else-most-gt-MOST_ROOMS : goal.returns-else-most-gt-MOST_ROOMS
-returns-else-most-gt-MOST_ROOMS c = let ws = c.args.workspace.now in
-    let ids = c.args.ids.now in
-    let done = rooms_done _ _ ws ids c.check_rooms.result c.check_rooms.ensures c.enum_told-1.given.1 _ _ c.find_rooms-most.ensures _
+returns-else-most-gt-MOST_ROOMS c = let done = rooms_done _ _ c.args.workspace.now c.args.ids.now c.check_rooms.result c.check_rooms.ensures c.enum_told-1.given.1 _ _ c.find_rooms-most.ensures _
     (c.clear.ensures ∙ ap (λ (n : ℕ). replicate n 0) c.find_rooms-most.auto.ws) c.if-most-gt-MOST_ROOMS.false in
     record {
       ids_after = done;
-      rooms = call_gives-plain_rooms _ _ ws ids _ _ _ done (lent_bytes _ _ _ _ c.args.area.now _ (λ i. omega (arith, c.shared_slice_known-3-1.given i)));
+      rooms = call_gives-plain_rooms _ _ c.args.workspace.now c.args.ids.now _ _ _ done (lent_bytes _ _ _ _ c.args.area.now _ (λ i. omega (arith, c.shared_slice_known-3-1.given i)));
     }

@@ -9,50 +9,43 @@ pub copy_part-requires : goal.copy_part-requires
 copy_part-requires c = omega (arith, c.requires.idents, c.requires.room)
 
 pub paint_border-requires : goal.paint_border-requires
-paint_border-requires c = let a = c.requires in (
-  cells_are _ _ _ _ _ _ _ _ a,
-  zeros_long _ _ _ _ _ _ _ _ a _ c.clear.ensures,
-  zeros_are _ _ _ _ _ _ _ _ a _ c.clear.ensures,
-  plot_of _ _ _ _ _ _ _ _ a,
+paint_border-requires c = (
+  cells_are _ _ _ _ _ _ _ _ c.requires,
+  zeros_long _ _ _ _ _ _ _ _ c.requires _ c.clear.ensures,
+  zeros_are _ _ _ _ _ _ _ _ c.requires _ c.clear.ensures,
+  plot_of _ _ _ _ _ _ _ _ c.requires,
 )
 
 pub fill_neighbours-requires : goal.fill_neighbours-requires
-fill_neighbours-requires c = let a = c.requires in
-    record {
-      reached = field_reached _ _ _ _ _ _ _ _ a;
-      table_le_last_place = (omega (arith, field_few _ _ _ _ _ _ _ _ a), omega (arith, a.room, c.copy_part.auto.ws));
-    }
+fill_neighbours-requires c = record {
+  reached = field_reached _ _ _ _ _ _ _ _ c.requires;
+  table_le_last_place = (omega (arith, field_few _ _ _ _ _ _ _ _ c.requires), omega (arith, c.requires.room, c.copy_part.auto.ws));
+}
 
 pub number_rooms-most-requires : goal.number_rooms-most-requires
-number_rooms-most-requires c = let a = c.requires in
-    let f = c.fill_neighbours in (
-      held _ _ _ _ _ _ _ _ a _ _ c.paint_border.ensures.ids_after _ _ c.copy_part.auto.ws f.kept.1.1.1.1.1.1.0 f.ensures.0 f.ensures.1,
-      painted_long _ _ _ _ _ _ _ _ a _ _ c.paint_border.ensures.ids_after _ _ c.copy_part.auto.ws f.kept.1.1.1.1.1.1.0 f.ensures.0 f.ensures.1,
-    )
+number_rooms-most-requires c = (
+  held _ _ _ _ _ _ _ _ c.requires _ _ c.paint_border.ensures.ids_after _ _ c.copy_part.auto.ws c.fill_neighbours.auto.ws c.fill_neighbours.ensures.ws_after c.fill_neighbours.ensures.frame,
+  painted_long _ _ _ _ _ _ _ _ c.requires _ _ c.paint_border.ensures.ids_after _ _ c.copy_part.auto.ws c.fill_neighbours.auto.ws c.fill_neighbours.ensures.ws_after c.fill_neighbours.ensures.frame,
+)
 
 pub put_back-requires : goal.put_back-requires
-put_back-requires c = let a = c.requires in
-    omega (
-      arith,
-      a.room,
-      a.idents,
-      c.number_rooms-most.auto.ids,
-      c.number_rooms-most.auto.ws,
-      c.fill_neighbours.auto.ws,
-      c.paint_border.auto.ids,
-      c.clear.auto.s,
-      c.copy_part.auto.ws,
-    )
+put_back-requires c = omega (
+  arith,
+  c.requires.room,
+  c.requires.idents,
+  c.number_rooms-most.auto.ids,
+  c.number_rooms-most.auto.ws,
+  c.fill_neighbours.auto.ws,
+  c.paint_border.auto.ids,
+  c.clear.auto.s,
+  c.copy_part.auto.ws,
+)
 
 pub returns-then-most-gt-MOST_ROOMS : goal.returns-then-most-gt-MOST_ROOMS
-returns-then-most-gt-MOST_ROOMS c = let a = c.requires in
-    let f = c.fill_neighbours in
-    let size = c.number_rooms-most.auto.ids ∙ c.paint_border.auto.ids ∙ c.clear.auto.s in
-    finds-none _ _ _ _ _ _ _ _ a _ _ c.paint_border.ensures.ids_after _ _ c.copy_part.auto.ws f.kept.1.1.1.1.1.1.0 f.ensures.0 f.ensures.1
+returns-then-most-gt-MOST_ROOMS c = let size = c.number_rooms-most.auto.ids ∙ c.paint_border.auto.ids ∙ c.clear.auto.s in
+    finds-none _ _ _ _ _ _ _ _ c.requires _ _ c.paint_border.ensures.ids_after _ _ c.copy_part.auto.ws c.fill_neighbours.auto.ws c.fill_neighbours.ensures.ws_after c.fill_neighbours.ensures.frame
     c.copy_part.ensures.0 _ _ _ c.number_rooms-most.ensures.ws_unchanged c.number_rooms-most.ensures.result_after _ _ size c.put_back.ensures c.if-most-gt-MOST_ROOMS.true
 
 pub returns-else-most-gt-MOST_ROOMS : goal.returns-else-most-gt-MOST_ROOMS
-returns-else-most-gt-MOST_ROOMS c = let a = c.requires in
-    let f = c.fill_neighbours in
-    finds_rooms _ _ _ _ _ _ _ _ a _ _ c.paint_border.ensures.ids_after _ _ c.copy_part.auto.ws f.kept.1.1.1.1.1.1.0 f.ensures.0 f.ensures.1
+returns-else-most-gt-MOST_ROOMS c = finds_rooms _ _ _ _ _ _ _ _ c.requires _ _ c.paint_border.ensures.ids_after _ _ c.copy_part.auto.ws c.fill_neighbours.auto.ws c.fill_neighbours.ensures.ws_after c.fill_neighbours.ensures.frame
     c.copy_part.ensures.0 _ _ _ c.number_rooms-most.ensures.ws_unchanged c.number_rooms-most.ensures.result_after c.if-most-gt-MOST_ROOMS.false

@@ -4,8 +4,7 @@ use borrow.Author.Rules.{rules}
 use Rattle.refresh.proofs.refresh_distance_field.Goals as goal
 
 pub refresh_rows-r-requires : goal.refresh_rows-r-requires
-refresh_rows-r-requires c = let v = c.check_refresh.result in let e = c.check_refresh.ensures in let bl = c.args.blurred.now in let z = c.enum_told-in-Fine-1.given.1 in
-    (fine_sound _ _ _ _ _ _ _ _ bl _ _ _ _ v e z, fine_order _ _ _ _ _ _ _ _ bl _ _ _ _ v e z, fine_in _ _ _ _ _ _ _ _ bl _ _ _ _ v e z, fine_low1 _ _ _ _ _ _ _ _ bl _ _ _ _ v e z, fine_low2 _ _ _ _ _ _ _ _ bl _ _ _ _ v e z, fine_blurred _ _ _ _ _ _ _ _ bl _ _ _ _ v e z)
+refresh_rows-r-requires c = (fine_sound _ _ _ _ _ _ _ _ c.args.blurred.now _ _ _ _ c.check_refresh.result c.check_refresh.ensures c.enum_told-in-Fine-1.given.1, fine_order _ _ _ _ _ _ _ _ c.args.blurred.now _ _ _ _ c.check_refresh.result c.check_refresh.ensures c.enum_told-in-Fine-1.given.1, fine_in _ _ _ _ _ _ _ _ c.args.blurred.now _ _ _ _ c.check_refresh.result c.check_refresh.ensures c.enum_told-in-Fine-1.given.1, fine_low1 _ _ _ _ _ _ _ _ c.args.blurred.now _ _ _ _ c.check_refresh.result c.check_refresh.ensures c.enum_told-in-Fine-1.given.1, fine_low2 _ _ _ _ _ _ _ _ c.args.blurred.now _ _ _ _ c.check_refresh.result c.check_refresh.ensures c.enum_told-in-Fine-1.given.1, fine_blurred _ _ _ _ _ _ _ _ c.args.blurred.now _ _ _ _ c.check_refresh.result c.check_refresh.ensures c.enum_told-in-Fine-1.given.1)
 
 pub returns-in-Refused : goal.returns-in-Refused
 returns-in-Refused c = search (rules, out_refused c.args.w c.args.h c.args.index.now c.args.count.now c.args.area.now c.args.con.now c.args.pass1.now c.args.raw.now c.args.blurred.now c.args.x0 c.args.z0 c.args.x1 c.args.z1 c.check_refresh.result c.check_refresh.ensures)

@@ -10,5 +10,4 @@ pub returns-then-is_shown : goal.returns-then-is_shown
 returns-then-is_shown c = (extent-shown _ _ _ _ _ c.is_shown.ensures c.if-is_shown.true _ c.walk_cells.ensures.0, c.walk_cells.ensures.1)
 
 pub returns : goal.returns
-returns c = let n = c.no_extent.ensures in
-    (extent-none _ _ _ _ _ c.is_shown.ensures c.if-is_shown.false _ n, omega (arith, ap (λ (e : Extent). e.count) n))
+returns c = (extent-none _ _ _ _ _ c.is_shown.ensures c.if-is_shown.false _ c.no_extent.ensures, omega (arith, ap (λ (e : Extent). e.count) c.no_extent.ensures))

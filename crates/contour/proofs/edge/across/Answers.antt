@@ -12,8 +12,7 @@ pub returns-then-cons-d : goal.returns-then-cons-d
 returns-then-cons-d c = search (rules, across-none)
 
 pub neighbour-t-requires : goal.neighbour-t-requires
-neighbour-t-requires c = let v = c.requires.0 in
-    (v.place, omega (arith, v.span, net_few _ _ _ v.closed), c.requires.1, slot_in _ _ _ _ _ _ 0 v c.requires.1)
+neighbour-t-requires c = (c.requires.0.place, omega (arith, c.requires.0.span, net_few _ _ _ c.requires.0.closed), c.requires.1, slot_in _ _ _ _ _ _ 0 c.requires.0 c.requires.1)
 
 pub offset_bounds-ids-t : goal.offset_bounds-ids-t
 offset_bounds-ids-t c = omega (arith, (leads_inside _ _ _ _ _ _ _ c.requires.0 c.requires.1 c.neighbour-t.ensures c.if-cons-d.false))

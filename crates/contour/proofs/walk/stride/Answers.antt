@@ -45,9 +45,8 @@ returns-then-is_solid_edge c = stride_note _ _ _ _ _ _ c.requires c.connections-
     (c.turn-then-is_solid_edge.ensures ∙ ap turned c.note.ensures)
 
 pub neighbour-to-requires : goal.neighbour-to-requires
-neighbour-to-requires c = let p = c.requires in
-    let v = stand_at _ _ _ _ _ _ p c.connections-cons.ensures in
-    (v.place, omega (arith, v.span, net_few _ _ _ v.closed), p.dir, slot_in _ _ _ _ _ _ 0 v p.dir)
+neighbour-to-requires c = let v = stand_at _ _ _ _ _ _ c.requires c.connections-cons.ensures in
+    (v.place, omega (arith, v.span, net_few _ _ _ v.closed), c.requires.dir, slot_in _ _ _ _ _ _ 0 v c.requires.dir)
 
 pub step-requires : goal.step-requires
 step-requires c = c.requires.dir

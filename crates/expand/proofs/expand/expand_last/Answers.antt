@@ -10,13 +10,9 @@ expand_regions-r-requires c = record {
 }
 
 pub returns : goal.returns
-returns c = let q = c.expand_regions-r.ensures in
-    let v = c.fill_stack-fill.ensures in
-    let z = c.clear_part.auto.ws in
-    let k = c.clear_part.ensures in
-    record {
-      ws_after = last_view _ _ _ _ _ _ _ v c.requires.last _ _ q.1.1.0 _ z k.0 k.1 q.0;
-      strays_value = last-strays _ _ _ _ _ _ _ v c.requires.last _ q.1.0;
-      ws_unchanged = last_kept _ _ _ _ _ _ _ v c.requires.last c.expand_regions-r.new.ids _ q.1.1.0 _ z k.0 k.1;
-      story_value = last-told _ _ _ _ _ _ _ v c.requires.last _ _ q.1.1.1.1;
-    }
+returns c = record {
+  ws_after = last_view _ _ _ _ _ _ _ c.fill_stack-fill.ensures c.requires.last _ _ c.expand_regions-r.ensures.kept _ c.clear_part.auto.ws c.clear_part.ensures.0 c.clear_part.ensures.1 c.expand_regions-r.ensures.ws_after;
+  strays_value = last-strays _ _ _ _ _ _ _ c.fill_stack-fill.ensures c.requires.last _ c.expand_regions-r.ensures.strays_value;
+  ws_unchanged = last_kept _ _ _ _ _ _ _ c.fill_stack-fill.ensures c.requires.last c.expand_regions-r.new.ids _ c.expand_regions-r.ensures.kept _ c.clear_part.auto.ws c.clear_part.ensures.0 c.clear_part.ensures.1;
+  story_value = last-told _ _ _ _ _ _ _ c.fill_stack-fill.ensures c.requires.last _ _ c.expand_regions-r.ensures.story_value;
+}

@@ -30,8 +30,7 @@ pub returns-then-is_border : goal.returns-then-is_border
 returns-then-is_border c = gives_flag _ _ _ _ _ _ _ _ _ c.requires.0 c.requires.1 c.requires.2 c.neighbour-a.ensures ((sight_inside _ _ _ _ _ _ _ _ (record { id = 0; far = 0 }) false c.requires.0 c.requires.1 c.requires.2 c.neighbour-a.ensures c.if-a-eq-NO_SPAN.false)) _ c.id_at-id.ensures _ c.is_border.ensures c.if-is_border.true
 
 pub source_at-requires : goal.source_at-requires
-source_at-requires c = let v = c.requires.0 in
-    omega (arith, (sight_inside _ _ _ _ _ _ _ _ (record { id = 0; far = 0 }) false c.requires.0 c.requires.1 c.requires.2 c.neighbour-a.ensures c.if-a-eq-NO_SPAN.false), v.low, v.room)
+source_at-requires c = omega (arith, (sight_inside _ _ _ _ _ _ _ _ (record { id = 0; far = 0 }) false c.requires.0 c.requires.1 c.requires.2 c.neighbour-a.ensures c.if-a-eq-NO_SPAN.false), c.requires.0.low, c.requires.0.room)
 
 pub returns-then-source_at-far : goal.returns-then-source_at-far
 returns-then-source_at-far c = gives-sum _ _ _ _ _ _ _ _ _ c.requires.0 c.requires.1 c.requires.2 c.neighbour-a.ensures ((sight_inside _ _ _ _ _ _ _ _ (record { id = 0; far = 0 }) false c.requires.0 c.requires.1 c.requires.2 c.neighbour-a.ensures c.if-a-eq-NO_SPAN.false)) _ c.id_at-id.ensures _ c.is_border.ensures

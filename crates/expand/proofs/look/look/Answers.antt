@@ -31,8 +31,7 @@ pub returns-then-is_border : goal.returns-then-is_border
 returns-then-is_border c = look_flag _ _ _ _ _ _ _ _ _ _ c.requires.sight.0 c.requires.sight.1 c.requires.sight.2 c.neighbour-a.ensures ((sight_inside _ _ _ _ _ _ _ _ (record { id = 0; far = 0 }) false c.requires.sight.0 c.requires.sight.1 c.requires.sight.2 c.neighbour-a.ensures c.if-a-eq-NO_SPAN.false)) _ c.id_at-r.ensures _ c.is_border.ensures c.if-is_border.true
 
 pub source_at-f-requires : goal.source_at-f-requires
-source_at-f-requires c = let v = c.requires.sight.0 in
-    omega (arith, (sight_inside _ _ _ _ _ _ _ _ (record { id = 0; far = 0 }) false c.requires.sight.0 c.requires.sight.1 c.requires.sight.2 c.neighbour-a.ensures c.if-a-eq-NO_SPAN.false), v.low, v.room)
+source_at-f-requires c = omega (arith, (sight_inside _ _ _ _ _ _ _ _ (record { id = 0; far = 0 }) false c.requires.sight.0 c.requires.sight.1 c.requires.sight.2 c.neighbour-a.ensures c.if-a-eq-NO_SPAN.false), c.requires.sight.0.low, c.requires.sight.0.room)
 
 pub returns-then-f-gt-MOST_SOURCE : goal.returns-then-f-gt-MOST_SOURCE
 returns-then-f-gt-MOST_SOURCE c = look_stray _ _ _ _ _ _ _ _ _ _ c.requires.sight.0 c.requires.sight.1 c.requires.sight.2 c.neighbour-a.ensures ((sight_inside _ _ _ _ _ _ _ _ (record { id = 0; far = 0 }) false c.requires.sight.0 c.requires.sight.1 c.requires.sight.2 c.neighbour-a.ensures c.if-a-eq-NO_SPAN.false)) _ c.id_at-r.ensures _ c.is_border.ensures

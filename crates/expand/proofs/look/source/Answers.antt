@@ -12,20 +12,20 @@ pub returns-then-gives : goal.returns-then-gives
 returns-then-gives c = source_0 _ _ _ _ _ c.gives.ensures c.if-gives.true _ (side_is _ _ _ _ _ c.requires 0 (omega arith) _ c.neighbour.ensures)
 
 pub neighbour-requires-then-gives-2 : goal.neighbour-requires-then-gives-2
-neighbour-requires-then-gives-2 c = let v = c.requires in (v.close, sight_small _ _ _ _ _ v, omega arith, sight_slot _ _ _ _ _ v 1 (omega arith))
+neighbour-requires-then-gives-2 c = (c.requires.close, sight_small _ _ _ _ _ c.requires, omega arith, sight_slot _ _ _ _ _ c.requires 1 (omega arith))
 
 pub returns-then-gives-2 : goal.returns-then-gives-2
 returns-then-gives-2 c = source_1 _ _ _ _ _ c.gives.ensures c.if-gives.false _ c.gives-2.ensures c.if-gives-2.true _ (side_is _ _ _ _ _ c.requires 1 (omega arith) _ c.neighbour-then-gives-2.ensures)
 
 pub neighbour-requires-then-gives-3 : goal.neighbour-requires-then-gives-3
-neighbour-requires-then-gives-3 c = let v = c.requires in (v.close, sight_small _ _ _ _ _ v, omega arith, sight_slot _ _ _ _ _ v 2 (omega arith))
+neighbour-requires-then-gives-3 c = (c.requires.close, sight_small _ _ _ _ _ c.requires, omega arith, sight_slot _ _ _ _ _ c.requires 2 (omega arith))
 
 pub returns-then-gives-3 : goal.returns-then-gives-3
 returns-then-gives-3 c = source_2 _ _ _ _ _ c.gives.ensures c.if-gives.left _ c.gives-2.ensures c.if-gives-2.false _ c.gives-3.ensures c.if-gives-3.true _
     (side_is _ _ _ _ _ c.requires 2 (omega arith) _ c.neighbour-then-gives-3.ensures)
 
 pub neighbour-requires-2 : goal.neighbour-requires-2
-neighbour-requires-2 c = let v = c.requires in (v.close, sight_small _ _ _ _ _ v, omega arith, sight_slot _ _ _ _ _ v 3 (omega arith))
+neighbour-requires-2 c = (c.requires.close, sight_small _ _ _ _ _ c.requires, omega arith, sight_slot _ _ _ _ _ c.requires 3 (omega arith))
 
 pub returns : goal.returns
 returns c = source_3 _ _ _ _ _ c.gives.ensures c.if-gives.left _ c.gives-2.ensures c.if-gives-2.false _ c.gives-3.ensures c.if-gives-3.false _

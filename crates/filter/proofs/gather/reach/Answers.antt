@@ -27,8 +27,7 @@ loop-k-preserved c = (
   search rules,
   search rules,
   search frame_then,
-  (let v = c.loop-k.invariant in
-      reach_go _ _ _ _ _ _ _ v.4 v.2 c.loop-k-test.true c.end_of-e.ensures.0 v.0 c.requires.1 c.requires.0 _ _ _ v.5 c.reach_one-n.ensures.by_index c.reach_one-n.ensures.waiting.1),
+  (reach_go _ _ _ _ _ _ _ c.loop-k.invariant.4 c.loop-k.invariant.2 c.loop-k-test.true c.end_of-e.ensures.0 c.loop-k.invariant.0 c.requires.1 c.requires.0 _ _ _ c.loop-k.invariant.5 c.reach_one-n.ensures.by_index c.reach_one-n.ensures.waiting.1),
 )
 
 pub returns : goal.returns

@@ -17,13 +17,13 @@ pub loop-i-init : goal.loop-i-init
 loop-i-init c = (search rules, search rules, search rules, search frame_none, search filter-start, search gone_start)
 
 pub loop-i-preserved : goal.loop-i-preserved
-loop-i-preserved c = let v = c.loop-i.invariant in (
+loop-i-preserved c = (
   search rules,
   search rules,
   search rules,
   search frame_then,
   search filter_go,
-  gone_go _ _ _ _ _ _ _ _ _ _ c.requires.1 v.4 c.filter_one-count.ensures.m_after v.5 c.filter_one-count.ensures.value c.gone-told.ensures,
+  gone_go _ _ _ _ _ _ _ _ _ _ c.requires.1 c.loop-i.invariant.4 c.filter_one-count.ensures.m_after c.loop-i.invariant.5 c.filter_one-count.ensures.value c.gone-told.ensures,
 )
 
 pub returns : goal.returns

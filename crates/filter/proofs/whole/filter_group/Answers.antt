@@ -5,19 +5,14 @@ use borrow.Author.Rules.{rules}
 use Rattle.filter.proofs.whole.filter_group.Goals as goal
 
 pub forget-requires : goal.forget-requires
-forget-requires c = let g = c.gather-f in
-    record {
-      gathered = (search rules, found_after _ _ _ _ g.ensures.1.0.2 c.remove_small.ensures.records_in.1, search rules);
-      by_index = blank-after _ _ _ c.remove_small.ensures.records_in.1 g.ensures.1.0.1;
-    }
+forget-requires c = record {
+  gathered = (search rules, found_after _ _ _ _ c.gather-f.ensures.upper_bound.2 c.remove_small.ensures.records_in.1, search rules);
+  by_index = blank-after _ _ _ c.remove_small.ensures.records_in.1 c.gather-f.ensures.upper_bound.1;
+}
 
 pub returns : goal.returns
-returns c = let e = c.enter in
-    let g = c.gather-f in
-    let r = c.remove_small in
-    let f = c.forget in
-    record {
-      m_after = group_done _ _ _ _ _ _ _ _ _ c.requires.0 e.kept.0 g.kept.0 e.ensures.1.1 g.ensures.1.1 e.ensures.1.0 g.ensures.0 r.ensures.0 f.ensures.0;
-      calm = (search rules, turn_frame _ _ _ _ _ _ c.requires.0 f.ensures.1.0 e.kept.0 g.kept.0 r.kept.0 f.auto.0 e.ensures.1.1 g.ensures.1.1 r.ensures.1.1 f.ensures.1.1);
-      value = group_count_lem _ _ _ _ _ _ _ _ _ c.requires.0 e.kept.0 g.kept.0 e.ensures.1.1 g.ensures.1.1 e.ensures.1.0 g.ensures.0 r.ensures.0 f.ensures.0 _ c.total-count.ensures;
-    }
+returns c = record {
+  m_after = group_done _ _ _ _ _ _ _ _ _ c.requires.0 c.enter.auto.ws c.gather-f.auto.ws c.enter.ensures.frame c.gather-f.ensures.frame c.enter.ensures.m_after c.gather-f.ensures.result_after c.remove_small.ensures.m_after c.forget.ensures.m_unchanged;
+  calm = (search rules, turn_frame _ _ _ _ _ _ c.requires.0 c.forget.ensures.calm.0 c.enter.auto.ws c.gather-f.auto.ws c.remove_small.auto.ws c.forget.auto.ws c.enter.ensures.frame c.gather-f.ensures.frame c.remove_small.ensures.records_in.1 c.forget.ensures.calm.1);
+  value = group_count_lem _ _ _ _ _ _ _ _ _ c.requires.0 c.enter.auto.ws c.gather-f.auto.ws c.enter.ensures.frame c.gather-f.ensures.frame c.enter.ensures.m_after c.gather-f.ensures.result_after c.remove_small.ensures.m_after c.forget.ensures.m_unchanged _ c.total-count.ensures;
+}

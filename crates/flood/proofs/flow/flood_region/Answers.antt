@@ -41,17 +41,15 @@ pub bounds-ws-stack : goal.bounds-ws-stack
 bounds-ws-stack c = simp length-set (omega (arith, (omega (arith, c.requires.begins.0.within, c.requires.lent.1.idents)), (lent_stack_in c.requires.lent.1 c.requires.lent.0)))
 
 pub loop-height-init : goal.loop-height-init
-loop-height-init c = let p = c.requires.lent.1 in
-    telling_start _ _ _ _ _ _ _ _ (lent_same _ _ _ _ _ ((start_kept _ _ _ _ _ _ c.requires.lent.1.idents c.requires.lent.1.low ((lent_stack_in c.requires.lent.1 c.requires.lent.0)) c.requires.begins.0)).size ((net_kept _ c.requires.lent.1 c.requires.lent.0.room ((start_kept _ _ _ _ _ _ c.requires.lent.1.idents c.requires.lent.1.low ((lent_stack_in c.requires.lent.1 c.requires.lent.0)) c.requires.begins.0)))) c.requires.lent.0) (placed_kept _ p (simp length-set))
-    (start_flooding _ _ _ _ _ _ p.idents p.low ((lent_stack_in c.requires.lent.1 c.requires.lent.0)) c.requires.begins.0 c.requires.begins.1)
+loop-height-init c = telling_start _ _ _ _ _ _ _ _ (lent_same _ _ _ _ _ ((start_kept _ _ _ _ _ _ c.requires.lent.1.idents c.requires.lent.1.low ((lent_stack_in c.requires.lent.1 c.requires.lent.0)) c.requires.begins.0)).size ((net_kept _ c.requires.lent.1 c.requires.lent.0.room ((start_kept _ _ _ _ _ _ c.requires.lent.1.idents c.requires.lent.1.low ((lent_stack_in c.requires.lent.1 c.requires.lent.0)) c.requires.begins.0)))) c.requires.lent.0) (placed_kept _ c.requires.lent.1 (simp length-set))
+    (start_flooding _ _ _ _ _ _ c.requires.lent.1.idents c.requires.lent.1.low ((lent_stack_in c.requires.lent.1 c.requires.lent.0)) c.requires.begins.0 c.requires.begins.1)
 
 pub visit-v-requires : goal.visit-v-requires
-visit-v-requires c = let v = c.loop-height.invariant.running in
-    record {
-      lent = (v.lent, v.placed);
-      flooding = (v.flooding, c.loop-height-test.true);
-      id_nonzero = (c.requires.begins.0.some, (omega (arith, c.shared_slice_known-4-1.given c.args.from.0)));
-    }
+visit-v-requires c = record {
+  lent = (c.loop-height.invariant.running.lent, c.loop-height.invariant.running.placed);
+  flooding = (c.loop-height.invariant.running.flooding, c.loop-height-test.true);
+  id_nonzero = (c.requires.begins.0.some, (omega (arith, c.shared_slice_known-4-1.given c.args.from.0)));
+}
 
 pub loop-height-smaller : goal.loop-height-smaller
 loop-height-smaller c = running_falls _ _ _ _ _ _ _ _ _ _ c.loop-height.invariant.running c.requires.begins.0.some ((omega (arith, c.shared_slice_known-4-1.given c.args.from.0))) c.loop-height-test.true _ _ _ c.visit-v.ensures.height_after
@@ -67,14 +65,12 @@ pub shape_of-ws : goal.shape_of-ws
 shape_of-ws c = c.loop-height.invariant.running.kept.size ∙ simp length-set
 
 pub returns : goal.returns
-returns c = let p = c.requires.lent.1 in
-    let v = c.loop-height.invariant.running in
-    let z : c.loop-height.height.top ≡ 0 = omega (arith, c.loop-height-test.false) in
+returns c = let z : c.loop-height.height.top ≡ 0 = omega (arith, c.loop-height-test.false) in
     record {
-      count_after = flooded_is _ _ c.args.at _ _ _ _ _ _ _ p.idents p.low ((lent_stack_in c.requires.lent.1 c.requires.lent.0)) c.requires.begins.0 c.below.ensures ((net_kept _ c.requires.lent.1 c.requires.lent.0.room ((start_kept _ _ _ _ _ _ c.requires.lent.1.idents c.requires.lent.1.low ((lent_stack_in c.requires.lent.1 c.requires.lent.0)) c.requires.begins.0)))) (running_done _ _ _ _ _ _ _ _ _ _ v z);
+      count_after = flooded_is _ _ c.args.at _ _ _ _ _ _ _ c.requires.lent.1.idents c.requires.lent.1.low ((lent_stack_in c.requires.lent.1 c.requires.lent.0)) c.requires.begins.0 c.below.ensures ((net_kept _ c.requires.lent.1 c.requires.lent.0.room ((start_kept _ _ _ _ _ _ c.requires.lent.1.idents c.requires.lent.1.low ((lent_stack_in c.requires.lent.1 c.requires.lent.0)) c.requires.begins.0)))) (running_done _ _ _ _ _ _ _ _ _ _ c.loop-height.invariant.running z);
       fact = (
-        flooded_past _ _ _ _ p.low (kept_then ((start_kept _ _ _ _ _ _ c.requires.lent.1.idents c.requires.lent.1.low ((lent_stack_in c.requires.lent.1 c.requires.lent.0)) c.requires.begins.0)) v.kept) c.requires.begins.1 (rw z at v.flooding.blank),
-        omega (arith, (good-held _ _ _ _ _ _ v.flooding.good).0),
+        flooded_past _ _ _ _ c.requires.lent.1.low (kept_then ((start_kept _ _ _ _ _ _ c.requires.lent.1.idents c.requires.lent.1.low ((lent_stack_in c.requires.lent.1 c.requires.lent.0)) c.requires.begins.0)) c.loop-height.invariant.running.kept) c.requires.begins.1 (rw z at c.loop-height.invariant.running.flooding.blank),
+        omega (arith, (good-held _ _ _ _ _ _ c.loop-height.invariant.running.flooding.good).0),
       );
-      story_value = told_is _ _ c.args.at _ _ _ _ _ _ _ _ p.idents p.low ((lent_stack_in c.requires.lent.1 c.requires.lent.0)) c.requires.begins.0 c.below.ensures ((net_kept _ c.requires.lent.1 c.requires.lent.0.room ((start_kept _ _ _ _ _ _ c.requires.lent.1.idents c.requires.lent.1.low ((lent_stack_in c.requires.lent.1 c.requires.lent.0)) c.requires.begins.0)))) (telling_done _ _ _ _ _ _ _ _ _ _ _ _ c.loop-height.invariant z);
+      story_value = told_is _ _ c.args.at _ _ _ _ _ _ _ _ c.requires.lent.1.idents c.requires.lent.1.low ((lent_stack_in c.requires.lent.1 c.requires.lent.0)) c.requires.begins.0 c.below.ensures ((net_kept _ c.requires.lent.1 c.requires.lent.0.room ((start_kept _ _ _ _ _ _ c.requires.lent.1.idents c.requires.lent.1.low ((lent_stack_in c.requires.lent.1 c.requires.lent.0)) c.requires.begins.0)))) (telling_done _ _ _ _ _ _ _ _ _ _ _ _ c.loop-height.invariant z);
     }

@@ -16,8 +16,7 @@ returns-then-cons-d c = record {
 }
 
 pub neighbour-t-requires : goal.neighbour-t-requires
-neighbour-t-requires c = let v = c.requires.at_span.0 in
-    (v.place, omega (arith, v.span, net_few _ _ _ v.closed), c.requires.d_bound.0, slot_in _ _ _ _ _ _ 0 v c.requires.d_bound.0)
+neighbour-t-requires c = (c.requires.at_span.0.place, omega (arith, c.requires.at_span.0.span, net_few _ _ _ c.requires.at_span.0.closed), c.requires.d_bound.0, slot_in _ _ _ _ _ _ 0 c.requires.at_span.0 c.requires.d_bound.0)
 
 pub bounds-area-t : goal.bounds-area-t
 bounds-area-t c = (leads_inside _ _ _ _ _ _ _ c.requires.at_span.0 c.requires.d_bound.0 c.neighbour-t.ensures c.if-cons-d.false)
@@ -62,46 +61,22 @@ pub offset_bounds-ws-t : goal.offset_bounds-ws-t
 offset_bounds-ws-t c = omega (arith, (omega (arith, (leads_inside _ _ _ _ _ _ _ c.requires.at_span.0 c.requires.d_bound.0 c.neighbour-t.ensures c.if-cons-d.false), net_few _ _ _ c.requires.at_span.0.closed)))
 
 pub bounds-ws-t : goal.bounds-ws-t
-bounds-ws-t c = omega (
-  arith,
-  (leads_inside _ _ _ _ _ _ _ c.requires.at_span.0 c.requires.d_bound.0 c.neighbour-t.ensures c.if-cons-d.false),
-  (let p = c.requires.at_span.1 in
-      push_fits _ _ _ _ _ _ c.args.ws.now p.idents p.low (stack_in p c.requires.at_span.0) c.requires.d_bound.1 ((leads_inside _ _ _ _ _ _ _ c.requires.at_span.0 c.requires.d_bound.0 c.neighbour-t.ensures c.if-cons-d.false)) c.if-ids-t-ne0.false c.requires.d_bound.3),
-  c.requires.at_span.1.low,
-)
+bounds-ws-t c = omega (arith, (leads_inside _ _ _ _ _ _ _ c.requires.at_span.0 c.requires.d_bound.0 c.neighbour-t.ensures c.if-cons-d.false), (push_fits _ _ _ _ _ _ c.args.ws.now c.requires.at_span.1.idents c.requires.at_span.1.low (stack_in c.requires.at_span.1 c.requires.at_span.0) c.requires.d_bound.1 ((leads_inside _ _ _ _ _ _ _ c.requires.at_span.0 c.requires.d_bound.0 c.neighbour-t.ensures c.if-cons-d.false)) c.if-ids-t-ne0.false c.requires.d_bound.3), c.requires.at_span.1.low)
 
 pub overflow_cast-ws : goal.overflow_cast-ws
 overflow_cast-ws c = omega (arith, (omega (arith, (leads_inside _ _ _ _ _ _ _ c.requires.at_span.0 c.requires.d_bound.0 c.neighbour-t.ensures c.if-cons-d.false), net_few _ _ _ c.requires.at_span.0.closed)))
 
 pub overflow_add-ws : goal.overflow_add-ws
-overflow_add-ws c = omega (
-  arith,
-  (let p = c.requires.at_span.1 in
-      push_fits _ _ _ _ _ _ c.args.ws.now p.idents p.low (stack_in p c.requires.at_span.0) c.requires.d_bound.1 ((leads_inside _ _ _ _ _ _ _ c.requires.at_span.0 c.requires.d_bound.0 c.neighbour-t.ensures c.if-cons-d.false)) c.if-ids-t-ne0.false c.requires.d_bound.3),
-  c.requires.at_span.1.apart,
-  c.requires.at_span.0.place,
-)
+overflow_add-ws c = omega (arith, (push_fits _ _ _ _ _ _ c.args.ws.now c.requires.at_span.1.idents c.requires.at_span.1.low (stack_in c.requires.at_span.1 c.requires.at_span.0) c.requires.d_bound.1 ((leads_inside _ _ _ _ _ _ _ c.requires.at_span.0 c.requires.d_bound.0 c.neighbour-t.ensures c.if-cons-d.false)) c.if-ids-t-ne0.false c.requires.d_bound.3), c.requires.at_span.1.apart, c.requires.at_span.0.place)
 
 pub offset_bounds-ws-at : goal.offset_bounds-ws-at
-offset_bounds-ws-at c = omega (
-  arith,
-  (let p = c.requires.at_span.1 in
-      push_fits _ _ _ _ _ _ c.args.ws.now p.idents p.low (stack_in p c.requires.at_span.0) c.requires.d_bound.1 ((leads_inside _ _ _ _ _ _ _ c.requires.at_span.0 c.requires.d_bound.0 c.neighbour-t.ensures c.if-cons-d.false)) c.if-ids-t-ne0.false c.requires.d_bound.3),
-  c.requires.at_span.1.apart,
-  c.requires.at_span.0.place,
-)
+offset_bounds-ws-at c = omega (arith, (push_fits _ _ _ _ _ _ c.args.ws.now c.requires.at_span.1.idents c.requires.at_span.1.low (stack_in c.requires.at_span.1 c.requires.at_span.0) c.requires.d_bound.1 ((leads_inside _ _ _ _ _ _ _ c.requires.at_span.0 c.requires.d_bound.0 c.neighbour-t.ensures c.if-cons-d.false)) c.if-ids-t-ne0.false c.requires.d_bound.3), c.requires.at_span.1.apart, c.requires.at_span.0.place)
 
 pub bounds-ws-at : goal.bounds-ws-at
-bounds-ws-at c = simp length-set ((let p = c.requires.at_span.1 in
-    push_fits _ _ _ _ _ _ c.args.ws.now p.idents p.low (stack_in p c.requires.at_span.0) c.requires.d_bound.1 ((leads_inside _ _ _ _ _ _ _ c.requires.at_span.0 c.requires.d_bound.0 c.neighbour-t.ensures c.if-cons-d.false)) c.if-ids-t-ne0.false c.requires.d_bound.3)).1
+bounds-ws-at c = simp length-set ((push_fits _ _ _ _ _ _ c.args.ws.now c.requires.at_span.1.idents c.requires.at_span.1.low (stack_in c.requires.at_span.1 c.requires.at_span.0) c.requires.d_bound.1 ((leads_inside _ _ _ _ _ _ _ c.requires.at_span.0 c.requires.d_bound.0 c.neighbour-t.ensures c.if-cons-d.false)) c.if-ids-t-ne0.false c.requires.d_bound.3)).1
 
 pub overflow_add-result : goal.overflow_add-result
-overflow_add-result c = omega (
-  arith,
-  (let p = c.requires.at_span.1 in
-      push_fits _ _ _ _ _ _ c.args.ws.now p.idents p.low (stack_in p c.requires.at_span.0) c.requires.d_bound.1 ((leads_inside _ _ _ _ _ _ _ c.requires.at_span.0 c.requires.d_bound.0 c.neighbour-t.ensures c.if-cons-d.false)) c.if-ids-t-ne0.false c.requires.d_bound.3),
-  net_few _ _ _ c.requires.at_span.0.closed,
-)
+overflow_add-result c = omega (arith, (push_fits _ _ _ _ _ _ c.args.ws.now c.requires.at_span.1.idents c.requires.at_span.1.low (stack_in c.requires.at_span.1 c.requires.at_span.0) c.requires.d_bound.1 ((leads_inside _ _ _ _ _ _ _ c.requires.at_span.0 c.requires.d_bound.0 c.neighbour-t.ensures c.if-cons-d.false)) c.if-ids-t-ne0.false c.requires.d_bound.3), net_few _ _ _ c.requires.at_span.0.closed)
 
 pub shape_of-ids : goal.shape_of-ids
 shape_of-ids c = simp length-set
@@ -110,9 +85,7 @@ pub shape_of-ws : goal.shape_of-ws
 shape_of-ws c = simp length-set
 
 pub returns : goal.returns
-returns c = let p = c.requires.at_span.1 in
-    record {
-      result_after = push_flow _ _ _ _ _ _ _ _ _ _ _ c.requires.at_span.0 c.requires.d_bound.0 _ c.neighbour-t.ensures ((leads_inside _ _ _ _ _ _ _ c.requires.at_span.0 c.requires.d_bound.0 c.neighbour-t.ensures c.if-cons-d.false)) c.if-area-t.left c.if-ids-t-ne0.left c.if-dist-t.false p.low ((let p = c.requires.at_span.1 in
-          push_fits _ _ _ _ _ _ c.args.ws.now p.idents p.low (stack_in p c.requires.at_span.0) c.requires.d_bound.1 ((leads_inside _ _ _ _ _ _ _ c.requires.at_span.0 c.requires.d_bound.0 c.neighbour-t.ensures c.if-cons-d.false)) c.if-ids-t-ne0.false c.requires.d_bound.3)).1;
-      fact = push_pushed _ _ _ _ _ _ _ p.idents p.low (stack_in p c.requires.at_span.0) c.requires.d_bound.1 ((leads_inside _ _ _ _ _ _ _ c.requires.at_span.0 c.requires.d_bound.0 c.neighbour-t.ensures c.if-cons-d.false)) c.if-ids-t-ne0.left c.requires.d_bound.3;
-    }
+returns c = record {
+  result_after = push_flow _ _ _ _ _ _ _ _ _ _ _ c.requires.at_span.0 c.requires.d_bound.0 _ c.neighbour-t.ensures ((leads_inside _ _ _ _ _ _ _ c.requires.at_span.0 c.requires.d_bound.0 c.neighbour-t.ensures c.if-cons-d.false)) c.if-area-t.left c.if-ids-t-ne0.left c.if-dist-t.false c.requires.at_span.1.low ((push_fits _ _ _ _ _ _ c.args.ws.now c.requires.at_span.1.idents c.requires.at_span.1.low (stack_in c.requires.at_span.1 c.requires.at_span.0) c.requires.d_bound.1 ((leads_inside _ _ _ _ _ _ _ c.requires.at_span.0 c.requires.d_bound.0 c.neighbour-t.ensures c.if-cons-d.false)) c.if-ids-t-ne0.false c.requires.d_bound.3)).1;
+  fact = push_pushed _ _ _ _ _ _ _ c.requires.at_span.1.idents c.requires.at_span.1.low (stack_in c.requires.at_span.1 c.requires.at_span.0) c.requires.d_bound.1 ((leads_inside _ _ _ _ _ _ _ c.requires.at_span.0 c.requires.d_bound.0 c.neighbour-t.ensures c.if-cons-d.false)) c.if-ids-t-ne0.left c.requires.d_bound.3;
+}

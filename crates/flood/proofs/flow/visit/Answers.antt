@@ -26,21 +26,11 @@ pub connections-cons-requires : goal.connections-cons-requires
 connections-cons-requires c = omega (arith, (omega (arith, good_top _ _ _ _ _ _ c.requires.flooding.0.good c.requires.id_nonzero.0 c.requires.flooding.1, c.pop-s.ensures.0)), c.requires.lent.0.linked)
 
 pub objects-requires : goal.objects-requires
-objects-requires c = (
-  (let v = c.requires.lent.0 in
-      lent-span _ _ _ _ _ _ (lent_same _ _ _ _ _ ((popped_kept _ _ _ _ _ c.pop-s.ensures.1 ((omega (arith, (good-held _ _ _ _ _ _ c.requires.flooding.0.good).1, c.requires.flooding.1))))).size ((net_kept _ c.requires.lent.1 c.requires.lent.0.room ((popped_kept _ _ _ _ _ c.pop-s.ensures.1 ((omega (arith, (good-held _ _ _ _ _ _ c.requires.flooding.0.good).1, c.requires.flooding.1))))))) v) ((omega (arith, good_top _ _ _ _ _ _ c.requires.flooding.0.good c.requires.id_nonzero.0 c.requires.flooding.1, c.pop-s.ensures.0))) c.connections-cons.ensures),
-  c.requires.lent.1.idents,
-  c.requires.id_nonzero.1,
-)
+objects-requires c = ((lent-span _ _ _ _ _ _ (lent_same _ _ _ _ _ ((popped_kept _ _ _ _ _ c.pop-s.ensures.1 ((omega (arith, (good-held _ _ _ _ _ _ c.requires.flooding.0.good).1, c.requires.flooding.1))))).size ((net_kept _ c.requires.lent.1 c.requires.lent.0.room ((popped_kept _ _ _ _ _ c.pop-s.ensures.1 ((omega (arith, (good-held _ _ _ _ _ _ c.requires.flooding.0.good).1, c.requires.flooding.1))))))) c.requires.lent.0) ((omega (arith, good_top _ _ _ _ _ _ c.requires.flooding.0.good c.requires.id_nonzero.0 c.requires.flooding.1, c.pop-s.ensures.0))) c.connections-cons.ensures), c.requires.lent.1.idents, c.requires.id_nonzero.1)
 
 pub give_back-told-requires : goal.give_back-told-requires
 give_back-told-requires c = record {
-  at_span = (
-    (let v = c.requires.lent.0 in
-        lent-span _ _ _ _ _ _ (lent_same _ _ _ _ _ ((popped_kept _ _ _ _ _ c.pop-s.ensures.1 ((omega (arith, (good-held _ _ _ _ _ _ c.requires.flooding.0.good).1, c.requires.flooding.1))))).size ((net_kept _ c.requires.lent.1 c.requires.lent.0.room ((popped_kept _ _ _ _ _ c.pop-s.ensures.1 ((omega (arith, (good-held _ _ _ _ _ _ c.requires.flooding.0.good).1, c.requires.flooding.1))))))) v) ((omega (arith, good_top _ _ _ _ _ _ c.requires.flooding.0.good c.requires.id_nonzero.0 c.requires.flooding.1, c.pop-s.ensures.0))) c.connections-cons.ensures),
-    c.requires.lent.1.idents,
-    c.requires.id_nonzero.1,
-  );
+  at_span = ((lent-span _ _ _ _ _ _ (lent_same _ _ _ _ _ ((popped_kept _ _ _ _ _ c.pop-s.ensures.1 ((omega (arith, (good-held _ _ _ _ _ _ c.requires.flooding.0.good).1, c.requires.flooding.1))))).size ((net_kept _ c.requires.lent.1 c.requires.lent.0.room ((popped_kept _ _ _ _ _ c.pop-s.ensures.1 ((omega (arith, (good-held _ _ _ _ _ _ c.requires.flooding.0.good).1, c.requires.flooding.1))))))) c.requires.lent.0) ((omega (arith, good_top _ _ _ _ _ _ c.requires.flooding.0.good c.requires.id_nonzero.0 c.requires.flooding.1, c.pop-s.ensures.0))) c.connections-cons.ensures), c.requires.lent.1.idents, c.requires.id_nonzero.1);
   span_value = sym c.objects.ensures ∙ c.if-objects.true;
 }
 
@@ -68,11 +58,7 @@ overflow_add-counted c = omega (arith, (good-held _ _ _ _ _ _ c.requires.floodin
 
 pub push_all-requires : goal.push_all-requires
 push_all-requires c = record {
-  at_span = (
-    (let v = c.requires.lent.0 in
-        lent-span _ _ _ _ _ _ (lent_same _ _ _ _ _ ((popped_kept _ _ _ _ _ c.pop-s.ensures.1 ((omega (arith, (good-held _ _ _ _ _ _ c.requires.flooding.0.good).1, c.requires.flooding.1))))).size ((net_kept _ c.requires.lent.1 c.requires.lent.0.room ((popped_kept _ _ _ _ _ c.pop-s.ensures.1 ((omega (arith, (good-held _ _ _ _ _ _ c.requires.flooding.0.good).1, c.requires.flooding.1))))))) v) ((omega (arith, good_top _ _ _ _ _ _ c.requires.flooding.0.good c.requires.id_nonzero.0 c.requires.flooding.1, c.pop-s.ensures.0))) c.connections-cons.ensures),
-    c.requires.lent.1,
-  );
+  at_span = ((lent-span _ _ _ _ _ _ (lent_same _ _ _ _ _ ((popped_kept _ _ _ _ _ c.pop-s.ensures.1 ((omega (arith, (good-held _ _ _ _ _ _ c.requires.flooding.0.good).1, c.requires.flooding.1))))).size ((net_kept _ c.requires.lent.1 c.requires.lent.0.room ((popped_kept _ _ _ _ _ c.pop-s.ensures.1 ((omega (arith, (good-held _ _ _ _ _ _ c.requires.flooding.0.good).1, c.requires.flooding.1))))))) c.requires.lent.0) ((omega (arith, good_top _ _ _ _ _ _ c.requires.flooding.0.good c.requires.id_nonzero.0 c.requires.flooding.1, c.pop-s.ensures.0))) c.connections-cons.ensures), c.requires.lent.1);
   id_nonzero = (c.requires.id_nonzero.0, c.requires.id_nonzero.1, omega (arith, (good-held _ _ _ _ _ _ c.requires.flooding.0.good).0));
 }
 

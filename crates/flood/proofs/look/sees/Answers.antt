@@ -12,7 +12,7 @@ pub returns-then-cons-d : goal.returns-then-cons-d
 returns-then-cons-d c = search (rules, sees-none)
 
 pub neighbour-t-requires : goal.neighbour-t-requires
-neighbour-t-requires c = let v = c.requires.0 in (v.place, omega (arith, v.span, net_few _ _ _ v.closed), c.requires.2, slot_in _ _ _ _ _ _ 0 v c.requires.2)
+neighbour-t-requires c = (c.requires.0.place, omega (arith, c.requires.0.span, net_few _ _ _ c.requires.0.closed), c.requires.2, slot_in _ _ _ _ _ _ 0 c.requires.0 c.requires.2)
 
 pub bounds-area-t : goal.bounds-area-t
 bounds-area-t c = (leads_inside _ _ _ _ _ _ _ c.requires.0 c.requires.2 c.neighbour-t.ensures c.if-cons-d.false)
@@ -34,15 +34,13 @@ returns-then-other c = sees-other_id _ _ _ _ _ _ _ _ c.requires.0 c.requires.2 _
     _ c.other.ensures c.if-other.true
 
 pub neighbour-corner-requires : goal.neighbour-corner-requires
-neighbour-corner-requires c = let v = c.requires.0 in
-    (v.place, omega (arith, (leads_inside _ _ _ _ _ _ _ c.requires.0 c.requires.2 c.neighbour-t.ensures c.if-cons-d.false), net_few _ _ _ v.closed), turned _ _, omega (arith, (leads_inside _ _ _ _ _ _ _ c.requires.0 c.requires.2 c.neighbour-t.ensures c.if-cons-d.false), v.room, turned c.args.d 1))
+neighbour-corner-requires c = (c.requires.0.place, omega (arith, (leads_inside _ _ _ _ _ _ _ c.requires.0 c.requires.2 c.neighbour-t.ensures c.if-cons-d.false), net_few _ _ _ c.requires.0.closed), turned _ _, omega (arith, (leads_inside _ _ _ _ _ _ _ c.requires.0 c.requires.2 c.neighbour-t.ensures c.if-cons-d.false), c.requires.0.room, turned c.args.d 1))
 
 pub bears-requires : goal.bears-requires
-bears-requires c = let v = c.requires.0 in
-    record {
-      area_len_bound = (net_few _ _ _ v.closed, net_inside _ _ _ _ _ _ v.closed v.room ((leads_inside _ _ _ _ _ _ _ c.requires.0 c.requires.2 c.neighbour-t.ensures c.if-cons-d.false)) (turned _ _) c.neighbour-corner.ensures);
-      ids_len = (c.requires.1, c.requires.3);
-    }
+bears-requires c = record {
+  area_len_bound = (net_few _ _ _ c.requires.0.closed, net_inside _ _ _ _ _ _ c.requires.0.closed c.requires.0.room ((leads_inside _ _ _ _ _ _ _ c.requires.0 c.requires.2 c.neighbour-t.ensures c.if-cons-d.false)) (turned _ _) c.neighbour-corner.ensures);
+  ids_len = (c.requires.1, c.requires.3);
+}
 
 pub returns-then-bears : goal.returns-then-bears
 returns-then-bears c = sees-corner _ _ _ _ _ _ _ _ c.requires.0 c.requires.2 _ c.neighbour-t.ensures ((leads_inside _ _ _ _ _ _ _ c.requires.0 c.requires.2 c.neighbour-t.ensures c.if-cons-d.false)) c.if-area-t.left _ c.is_border.ensures c.if-is_border.left

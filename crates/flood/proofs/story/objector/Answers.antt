@@ -9,61 +9,28 @@ use Rattle.flood.proofs.Stories.{objector-none, objector-side, objector-corner}
 use Rattle.flood.proofs.story.objector.Goals as goal
 
 pub neighbour-t-requires : goal.neighbour-t-requires
-neighbour-t-requires c = let v = c.requires.0 in
-    (v.place, omega (arith, v.span, net_few _ _ _ v.closed), c.requires.2, slot_in _ _ _ _ _ _ 0 v c.requires.2)
+neighbour-t-requires c = (c.requires.0.place, omega (arith, c.requires.0.span, net_few _ _ _ c.requires.0.closed), c.requires.2, slot_in _ _ _ _ _ _ 0 c.requires.0 c.requires.2)
 
 pub returns-then-t-eq-NO_SPAN : goal.returns-then-t-eq-NO_SPAN
 returns-then-t-eq-NO_SPAN c = search (rules, objector-none)
 
 pub offset_bounds-ids-t : goal.offset_bounds-ids-t
-offset_bounds-ids-t c = omega (
-  arith,
-  (let v = c.requires.0 in
-      net_inside _ _ _ _ _ _ v.closed v.room v.span c.requires.2 c.neighbour-t.ensures c.if-t-eq-NO_SPAN.false),
-  net_few _ _ _ c.requires.0.closed,
-)
+offset_bounds-ids-t c = omega (arith, (net_inside _ _ _ _ _ _ c.requires.0.closed c.requires.0.room c.requires.0.span c.requires.2 c.neighbour-t.ensures c.if-t-eq-NO_SPAN.false), net_few _ _ _ c.requires.0.closed)
 
 pub bounds-ids-t : goal.bounds-ids-t
-bounds-ids-t c = omega (
-  arith,
-  (let v = c.requires.0 in
-      net_inside _ _ _ _ _ _ v.closed v.room v.span c.requires.2 c.neighbour-t.ensures c.if-t-eq-NO_SPAN.false),
-  c.requires.1,
-)
+bounds-ids-t c = omega (arith, (net_inside _ _ _ _ _ _ c.requires.0.closed c.requires.0.room c.requires.0.span c.requires.2 c.neighbour-t.ensures c.if-t-eq-NO_SPAN.false), c.requires.1)
 
 pub overflow_cast-result : goal.overflow_cast-result
-overflow_cast-result c = omega (
-  arith,
-  (let v = c.requires.0 in
-      net_inside _ _ _ _ _ _ v.closed v.room v.span c.requires.2 c.neighbour-t.ensures c.if-t-eq-NO_SPAN.false),
-  net_few _ _ _ c.requires.0.closed,
-)
+overflow_cast-result c = omega (arith, (net_inside _ _ _ _ _ _ c.requires.0.closed c.requires.0.room c.requires.0.span c.requires.2 c.neighbour-t.ensures c.if-t-eq-NO_SPAN.false), net_few _ _ _ c.requires.0.closed)
 
 pub returns-then-other : goal.returns-then-other
 returns-then-other c = search (rules, objector-side)
 
 pub neighbour-requires : goal.neighbour-requires
-neighbour-requires c = let v = c.requires.0 in (
-  v.place,
-  omega (
-    arith,
-    (let v = c.requires.0 in
-        net_inside _ _ _ _ _ _ v.closed v.room v.span c.requires.2 c.neighbour-t.ensures c.if-t-eq-NO_SPAN.false),
-    net_few _ _ _ v.closed,
-  ),
-  turned _ _,
-  omega (
-    arith,
-    (let v = c.requires.0 in
-        net_inside _ _ _ _ _ _ v.closed v.room v.span c.requires.2 c.neighbour-t.ensures c.if-t-eq-NO_SPAN.false),
-    v.room,
-    turned c.args.d 1,
-  ),
-)
+neighbour-requires c = (c.requires.0.place, omega (arith, (net_inside _ _ _ _ _ _ c.requires.0.closed c.requires.0.room c.requires.0.span c.requires.2 c.neighbour-t.ensures c.if-t-eq-NO_SPAN.false), net_few _ _ _ c.requires.0.closed), turned _ _, omega (arith, (net_inside _ _ _ _ _ _ c.requires.0.closed c.requires.0.room c.requires.0.span c.requires.2 c.neighbour-t.ensures c.if-t-eq-NO_SPAN.false), c.requires.0.room, turned c.args.d 1))
 
 pub overflow_cast-result-2 : goal.overflow_cast-result-2
 overflow_cast-result-2 c = omega (arith, c.neighbour.ensures, c.shared_slice_known-3-1.given (c.args.table + (4 * c.neighbour-t.result.0 + (c.args.d + 1) % 4)))
 
 pub returns : goal.returns
-returns c = objector-corner _ _ _ _ _ _ _ _ c.requires.0 c.requires.2 _ c.neighbour-t.ensures _ c.other.ensures c.if-other.false ((let v = c.requires.0 in
-    net_inside _ _ _ _ _ _ v.closed v.room v.span c.requires.2 c.neighbour-t.ensures c.if-t-eq-NO_SPAN.false)) _ c.neighbour.ensures
+returns c = objector-corner _ _ _ _ _ _ _ _ c.requires.0 c.requires.2 _ c.neighbour-t.ensures _ c.other.ensures c.if-other.false ((net_inside _ _ _ _ _ _ c.requires.0.closed c.requires.0.room c.requires.0.span c.requires.2 c.neighbour-t.ensures c.if-t-eq-NO_SPAN.false)) _ c.neighbour.ensures

@@ -18,12 +18,11 @@ pub at16-entry-requires : goal.at16-entry-requires
 at16-entry-requires c = flooded_at _ _ _ _ _ _ _ _ _ _ c.requires.lent.0 c.requires.entries_at ((omega (arith, c.requires.lent.1.low, c.requires.lent.1.apart))) _ _ _ _ c.loop-j.invariant.0 c.loop-j-test.true
 
 pub flood_one-f-requires : goal.flood_one-f-requires
-flood_one-f-requires c = let v = c.loop-j.invariant.0 in
-    record {
-      lent = (flooded_lent _ _ _ _ _ _ _ _ _ _ c.requires.lent.0 c.requires.entries_at ((omega (arith, c.requires.lent.1.low, c.requires.lent.1.apart))) _ _ _ _ v, placed_kept _ c.requires.lent.1 v.size₁);
-      blank = (blank_past _ _ _ _ _ c.requires.lent.1.low v.past c.requires.blank.0, v.ids_below);
-      span = flooded_entry _ _ _ _ _ _ _ _ _ _ c.requires.lent.0 c.requires.entries_at ((omega (arith, c.requires.lent.1.low, c.requires.lent.1.apart))) _ _ _ _ v _ c.loop-j-test.true c.at16-entry.ensures.0;
-    }
+flood_one-f-requires c = record {
+  lent = (flooded_lent _ _ _ _ _ _ _ _ _ _ c.requires.lent.0 c.requires.entries_at ((omega (arith, c.requires.lent.1.low, c.requires.lent.1.apart))) _ _ _ _ c.loop-j.invariant.0, placed_kept _ c.requires.lent.1 c.loop-j.invariant.0.size₁);
+  blank = (blank_past _ _ _ _ _ c.requires.lent.1.low c.loop-j.invariant.0.past c.requires.blank.0, c.loop-j.invariant.0.ids_below);
+  span = flooded_entry _ _ _ _ _ _ _ _ _ _ c.requires.lent.0 c.requires.entries_at ((omega (arith, c.requires.lent.1.low, c.requires.lent.1.apart))) _ _ _ _ c.loop-j.invariant.0 _ c.loop-j-test.true c.at16-entry.ensures.0;
+}
 
 pub overflow_add-j : goal.overflow_add-j
 overflow_add-j c = omega (arith, c.loop-j-test.true, c.requires.entries_at.entries.filled, c.requires.lent.0.closed.few)
@@ -32,14 +31,12 @@ pub loop-j-smaller : goal.loop-j-smaller
 loop-j-smaller c = omega (arith, c.loop-j-test.true)
 
 pub loop-j-preserved : goal.loop-j-preserved
-loop-j-preserved c = let k = c.flood_one-f.auto in
-    let q = c.flood_one-f.ensures in
-    let v = c.loop-j.invariant in (
-      flooded_next _ _ _ _ _ _ _ _ _ _ c.requires.lent.0 c.requires.entries_at ((omega (arith, c.requires.lent.1.low, c.requires.lent.1.apart))) _ _ _ _ v.0 _ _ _ _ c.loop-j-test.true c.at16-entry.ensures.0
-          k.1.1.1.0 k.1.1.1.1.0 q.0 q.1.0.0 (q.1.0.2 (flag_not _ q.1.0.1 c.if-f.false)),
-      told_next _ _ _ _ _ _ _ _ _ _ c.requires.lent.0 c.requires.entries_at ((omega (arith, c.requires.lent.1.low, c.requires.lent.1.apart))) _ _ _ _ v.0 _ _ _ _ c.loop-j-test.true c.at16-entry.ensures.0
-          k.1.1.1.0 k.1.1.1.1.0 q.0 q.1.0.0 _ _ _ v.1 q.1.1,
-    )
+loop-j-preserved c = (
+  flooded_next _ _ _ _ _ _ _ _ _ _ c.requires.lent.0 c.requires.entries_at ((omega (arith, c.requires.lent.1.low, c.requires.lent.1.apart))) _ _ _ _ c.loop-j.invariant.0 _ _ _ _ c.loop-j-test.true c.at16-entry.ensures.0
+      c.flood_one-f.auto.ids c.flood_one-f.auto.ws c.flood_one-f.ensures.next_after c.flood_one-f.ensures.fact.0 (c.flood_one-f.ensures.fact.2 (flag_not _ c.flood_one-f.ensures.fact.1 c.if-f.false)),
+  told_next _ _ _ _ _ _ _ _ _ _ c.requires.lent.0 c.requires.entries_at ((omega (arith, c.requires.lent.1.low, c.requires.lent.1.apart))) _ _ _ _ c.loop-j.invariant.0 _ _ _ _ c.loop-j-test.true c.at16-entry.ensures.0
+      c.flood_one-f.auto.ids c.flood_one-f.auto.ws c.flood_one-f.ensures.next_after c.flood_one-f.ensures.fact.0 _ _ _ c.loop-j.invariant.1 c.flood_one-f.ensures.story_value,
+)
 
 pub shape_of-ids-then-f : goal.shape_of-ids-then-f
 shape_of-ids-then-f c = c.flood_one-f.auto.ids ∙ c.loop-j.invariant.0.size₁
@@ -48,13 +45,11 @@ pub shape_of-ws-then-f : goal.shape_of-ws-then-f
 shape_of-ws-then-f c = c.flood_one-f.auto.ws ∙ c.loop-j.invariant.0.size₂
 
 pub returns-then-f : goal.returns-then-f
-returns-then-f c = let k = c.flood_one-f.auto in
-    let q = c.flood_one-f.ensures in
-    record {
-      fact = flooded_out _ _ _ _ _ _ _ _ _ _ c.requires.lent.0 c.requires.entries_at ((omega (arith, c.requires.lent.1.low, c.requires.lent.1.apart))) _ _ _ _ c.loop-j.invariant.0 _ _ _ _ c.loop-j-test.true c.at16-entry.ensures.0
-          k.1.1.1.0 k.1.1.1.1.0 q.0 q.1.0.0 c.if-f.true;
-      story_value = λ z. absurd (z c.if-f.true);
-    }
+returns-then-f c = record {
+  fact = flooded_out _ _ _ _ _ _ _ _ _ _ c.requires.lent.0 c.requires.entries_at ((omega (arith, c.requires.lent.1.low, c.requires.lent.1.apart))) _ _ _ _ c.loop-j.invariant.0 _ _ _ _ c.loop-j-test.true c.at16-entry.ensures.0
+      c.flood_one-f.auto.ids c.flood_one-f.auto.ws c.flood_one-f.ensures.next_after c.flood_one-f.ensures.fact.0 c.if-f.true;
+  story_value = λ z. absurd (z c.if-f.true);
+}
 
 pub shape_of-ids : goal.shape_of-ids
 shape_of-ids c = c.loop-j.invariant.0.size₁

@@ -8,12 +8,11 @@ use Rattle.growth.proofs.FloodLaws.{next_begins, one_used, one-has_id, failed_on
 use Rattle.growth.proofs.floods.flood_one.Goals as goal
 
 pub returns-then-entry-eq-NO_SPAN : goal.returns-then-entry-eq-NO_SPAN
-returns-then-entry-eq-NO_SPAN c = let b = c.requires.blank.1 in
-    record {
-      next_after = one_used _ _ _ _ _ _ c.if-entry-eq-NO_SPAN.true;
-      fact = (refl, omega (arith, b.plain), λ _. b);
-      story_value = tells_used _ _ _ _ _ _ _ c.if-entry-eq-NO_SPAN.true;
-    }
+returns-then-entry-eq-NO_SPAN c = record {
+  next_after = one_used _ _ _ _ _ _ c.if-entry-eq-NO_SPAN.true;
+  fact = (refl, omega (arith, c.requires.blank.1.plain), λ _. c.requires.blank.1);
+  story_value = tells_used _ _ _ _ _ _ _ c.if-entry-eq-NO_SPAN.true;
+}
 
 pub offset_bounds-ids-entry : goal.offset_bounds-ids-entry
 offset_bounds-ids-entry c = omega (arith, (c.requires.span c.if-entry-eq-NO_SPAN.false))
@@ -35,20 +34,18 @@ flood_region-f-requires c = record {
 }
 
 pub returns-then-f-eq0 : goal.returns-then-f-eq0
-returns-then-f-eq0 c = let q = c.flood_region-f.ensures in
-    record {
-      next_after = failed_one _ _ _ _ _ _ _ _ _ _ _ q.0 c.if-ids-entry.left c.if-entry-eq-NO_SPAN.left c.if-f-eq0.true;
-      fact = (q.1.0.0, omega (arith, c.requires.blank.1.plain), λ _. failed_below _ _ _ _ _ _ _ _ _ _ _ q.0 c.if-ids-entry.left c.requires.blank.1 ((c.requires.span c.if-entry-eq-NO_SPAN.false)) ((omega (arith, c.shared_slice_known-1.given c.args.entry))) c.if-f-eq0.true);
-      story_value = tells_flood _ _ _ _ _ _ _ c.if-entry-eq-NO_SPAN.left c.if-ids-entry.left _ q.1.1;
-    }
+returns-then-f-eq0 c = record {
+  next_after = failed_one _ _ _ _ _ _ _ _ _ _ _ c.flood_region-f.ensures.count_after c.if-ids-entry.left c.if-entry-eq-NO_SPAN.left c.if-f-eq0.true;
+  fact = (c.flood_region-f.ensures.fact.0, omega (arith, c.requires.blank.1.plain), λ _. failed_below _ _ _ _ _ _ _ _ _ _ _ c.flood_region-f.ensures.count_after c.if-ids-entry.left c.requires.blank.1 ((c.requires.span c.if-entry-eq-NO_SPAN.false)) ((omega (arith, c.shared_slice_known-1.given c.args.entry))) c.if-f-eq0.true);
+  story_value = tells_flood _ _ _ _ _ _ _ c.if-entry-eq-NO_SPAN.left c.if-ids-entry.left _ c.flood_region-f.ensures.story_value;
+}
 
 pub overflow_add-result : goal.overflow_add-result
 overflow_add-result c = omega (arith, c.requires.blank.1.plain)
 
 pub returns : goal.returns
-returns c = let q = c.flood_region-f.ensures in
-    record {
-      next_after = won_one _ _ _ _ _ _ _ _ _ _ _ q.0 c.if-ids-entry.left c.if-entry-eq-NO_SPAN.left c.if-f-eq0.false;
-      fact = (q.1.0.0, omega (arith, c.requires.blank.1.plain), λ p. won_below _ _ _ _ _ _ _ _ _ _ _ q.0 c.if-ids-entry.left c.requires.blank.1 ((c.requires.span c.if-entry-eq-NO_SPAN.false)) ((omega (arith, c.shared_slice_known-1.given c.args.entry))) c.if-f-eq0.false p);
-      story_value = tells_flood _ _ _ _ _ _ _ c.if-entry-eq-NO_SPAN.left c.if-ids-entry.left _ q.1.1;
-    }
+returns c = record {
+  next_after = won_one _ _ _ _ _ _ _ _ _ _ _ c.flood_region-f.ensures.count_after c.if-ids-entry.left c.if-entry-eq-NO_SPAN.left c.if-f-eq0.false;
+  fact = (c.flood_region-f.ensures.fact.0, omega (arith, c.requires.blank.1.plain), λ p. won_below _ _ _ _ _ _ _ _ _ _ _ c.flood_region-f.ensures.count_after c.if-ids-entry.left c.requires.blank.1 ((c.requires.span c.if-entry-eq-NO_SPAN.false)) ((omega (arith, c.shared_slice_known-1.given c.args.entry))) c.if-f-eq0.false p);
+  story_value = tells_flood _ _ _ _ _ _ _ c.if-entry-eq-NO_SPAN.left c.if-ids-entry.left _ c.flood_region-f.ensures.story_value;
+}

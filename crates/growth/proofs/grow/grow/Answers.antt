@@ -6,51 +6,45 @@ use Rattle.growth.proofs.FirstLaws.{reached-first, cells_first, few_first, size_
 use Rattle.growth.proofs.grow.grow.Goals as goal
 
 pub paint_border-first-requires : goal.paint_border-first-requires
-paint_border-first-requires c = let v = c.requires.0 in
-    (cells_first _ _ _ _ _ _ _ _ _ v, size_first _ _ _ _ _ _ _ _ _ v, v.none, plot_first _ _ _ _ _ _ _ _ _ v)
+paint_border-first-requires c = (cells_first _ _ _ _ _ _ _ _ _ c.requires.0, size_first _ _ _ _ _ _ _ _ _ c.requires.0, c.requires.0.none, plot_first _ _ _ _ _ _ _ _ _ c.requires.0)
 
 pub fill_neighbours-requires : goal.fill_neighbours-requires
-fill_neighbours-requires c = let v = c.requires.0 in
-    record {
-      reached = reached-first _ _ _ _ _ _ _ _ _ v;
-      table_le_last_place = (v.close, v.room);
-    }
+fill_neighbours-requires c = record {
+  reached = reached-first _ _ _ _ _ _ _ _ _ c.requires.0;
+  table_le_last_place = (c.requires.0.close, c.requires.0.room);
+}
 
 pub sections-requires : goal.sections-requires
-sections-requires c = let v = c.requires.0 in
-    (few_first _ _ _ _ _ _ _ _ _ v, v.past)
+sections-requires c = (few_first _ _ _ _ _ _ _ _ _ c.requires.0, c.requires.0.past)
 
 pub grow_painted-g-requires : goal.grow_painted-g-requires
-grow_painted-g-requires c = let f = c.fill_neighbours.ensures in (
+grow_painted-g-requires c = (
   between_first _ _ _ _ _ _ c.args.dist.now _ c.args.max_distance _ _ _ c.requires.0 _ c.paint_border-first.ensures.value _ c.paint_border-first.ensures.ids_after _
-      f.0 f.1 c.fill_neighbours.auto.ws _ c.sections.ensures.0 c.sections.ensures.1,
+      c.fill_neighbours.ensures.ws_after c.fill_neighbours.ensures.frame c.fill_neighbours.auto.ws _ c.sections.ensures.0 c.sections.ensures.1,
   c.requires.1,
 )
 
 pub settle-requires : goal.settle-requires
-settle-requires c = let v = c.requires.0 in
-    omega (
-      arith,
-      c.grow_painted-g.auto.ids,
-      c.grow_painted-g.auto.ws,
-      c.paint_border-first.auto.ids,
-      c.fill_neighbours.auto.ws,
-      v.room,
-      v.past,
-      size_first _ _ _ _ _ _ _ _ _ v,
-    )
+settle-requires c = omega (
+  arith,
+  c.grow_painted-g.auto.ids,
+  c.grow_painted-g.auto.ws,
+  c.paint_border-first.auto.ids,
+  c.fill_neighbours.auto.ws,
+  c.requires.0.room,
+  c.requires.0.past,
+  size_first _ _ _ _ _ _ _ _ _ c.requires.0,
+)
 
 pub shape_of-ids : goal.shape_of-ids
 shape_of-ids c = c.settle.auto.ids ∙ c.grow_painted-g.auto.ids ∙ c.paint_border-first.auto.ids
 
 pub returns : goal.returns
-returns c = let f = c.fill_neighbours.ensures in
-    let t = c.settle.ensures in
-    record {
-      fact = full _ _ _ _ _ _ _ _ _ _ _ _ c.requires.0 _ c.paint_border-first.ensures.value _ c.paint_border-first.ensures.ids_after _ f.0 f.1 c.fill_neighbours.auto.ws
-          _ _ _ _ _ c.sections.ensures.1 c.grow_painted-g.ensures.fact c.grow_painted-g.auto.ws c.grow_painted-g.auto.ids _ _ _ _ _ _ _ c.settle.auto.ws t;
-      story_value = λ z. t.told (sym t.same ∙ z) ∙ c.grow_painted-g.ensures.story_value (sym t.same ∙ z)
-          ∙ rule_story _ _ _ _ _ _ _ _ _ _ _ _ c.requires.0 _ c.paint_border-first.ensures.value _ c.paint_border-first.ensures.ids_after _ f.0 f.1 c.fill_neighbours.auto.ws
-          _ _ c.begins.ensures _ c.sections.ensures.1;
-      story_value_2 = λ z. t.untold (λ q. z (t.same ∙ q));
-    }
+returns c = record {
+  fact = full _ _ _ _ _ _ _ _ _ _ _ _ c.requires.0 _ c.paint_border-first.ensures.value _ c.paint_border-first.ensures.ids_after _ c.fill_neighbours.ensures.ws_after c.fill_neighbours.ensures.frame c.fill_neighbours.auto.ws
+      _ _ _ _ _ c.sections.ensures.1 c.grow_painted-g.ensures.fact c.grow_painted-g.auto.ws c.grow_painted-g.auto.ids _ _ _ _ _ _ _ c.settle.auto.ws c.settle.ensures;
+  story_value = λ z. c.settle.ensures.told (sym c.settle.ensures.same ∙ z) ∙ c.grow_painted-g.ensures.story_value (sym c.settle.ensures.same ∙ z)
+      ∙ rule_story _ _ _ _ _ _ _ _ _ _ _ _ c.requires.0 _ c.paint_border-first.ensures.value _ c.paint_border-first.ensures.ids_after _ c.fill_neighbours.ensures.ws_after c.fill_neighbours.ensures.frame c.fill_neighbours.auto.ws
+      _ _ c.begins.ensures _ c.sections.ensures.1;
+  story_value_2 = λ z. c.settle.ensures.untold (λ q. z (c.settle.ensures.same ∙ q));
+}

@@ -9,17 +9,13 @@ use Rattle.growth.proofs.GrowLaws.{grew_stopped, last_mutual, last_ready, grew_s
 use Rattle.growth.proofs.grow.grow_painted.Goals as goal
 
 pub clear_part-requires : goal.clear_part-requires
-clear_part-requires c = let v = c.requires.0 in
-    (omega (arith, v.laid.changes), omega (arith, v.laid.changes, v.laid.past, v.lent.room, c.turns-g.auto.ws))
+clear_part-requires c = (omega (arith, c.requires.0.laid.changes), omega (arith, c.requires.0.laid.changes, c.requires.0.laid.past, c.requires.0.lent.room, c.turns-g.auto.ws))
 
 pub expand_last-e-requires : goal.expand_last-e-requires
-expand_last-e-requires c = let v = c.requires.0 in
-    let z = c.turns-g.auto.ws in
-    let p = c.clear_part.ensures in
-    record {
-      fact = (last_mutual _ _ _ _ _ _ _ _ v _ ((omega arith)) _ _ _ _ z c.turns-g.ensures.fact c.if-g-ne-GOES_ON.false _ c.clear_part.auto.ws p.0 p.1, flags_at _ _ _ _ _ _ _ _ v);
-      last = last_ready _ _ _ _ _ _ _ _ v _ ((omega arith)) _ _ _ _ z c.turns-g.ensures.fact c.if-g-ne-GOES_ON.false _ c.clear_part.auto.ws p.0 p.1;
-    }
+expand_last-e-requires c = record {
+  fact = (last_mutual _ _ _ _ _ _ _ _ c.requires.0 _ ((omega arith)) _ _ _ _ c.turns-g.auto.ws c.turns-g.ensures.fact c.if-g-ne-GOES_ON.false _ c.clear_part.auto.ws c.clear_part.ensures.0 c.clear_part.ensures.1, flags_at _ _ _ _ _ _ _ _ c.requires.0);
+  last = last_ready _ _ _ _ _ _ _ _ c.requires.0 _ ((omega arith)) _ _ _ _ c.turns-g.auto.ws c.turns-g.ensures.fact c.if-g-ne-GOES_ON.false _ c.clear_part.auto.ws c.clear_part.ensures.0 c.clear_part.ensures.1;
+}
 
 pub returns-then-g-ne-GOES_ON : goal.returns-then-g-ne-GOES_ON
 returns-then-g-ne-GOES_ON c = record {
@@ -28,21 +24,16 @@ returns-then-g-ne-GOES_ON c = record {
 }
 
 pub returns-then-e : goal.returns-then-e
-returns-then-e c = let p = c.clear_part.ensures in
-    let q = c.expand_last-e.ensures in
-    record {
-      fact = grew_strayed _ _ _ _ _ _ _ _ c.requires.0 _ ((omega arith)) _ _ _ _ c.turns-g.auto.ws c.turns-g.ensures.fact c.if-g-ne-GOES_ON.false _ c.clear_part.auto.ws p.0 p.1
-          _ _ q.0 _ q.1.0 q.1.1.0 _ c.if-e.true;
-      story_value = λ z. absurd (omega arith);
-    }
+returns-then-e c = record {
+  fact = grew_strayed _ _ _ _ _ _ _ _ c.requires.0 _ ((omega arith)) _ _ _ _ c.turns-g.auto.ws c.turns-g.ensures.fact c.if-g-ne-GOES_ON.false _ c.clear_part.auto.ws c.clear_part.ensures.0 c.clear_part.ensures.1
+      _ _ c.expand_last-e.ensures.ws_after _ c.expand_last-e.ensures.strays_value c.expand_last-e.ensures.ws_unchanged _ c.if-e.true;
+  story_value = λ z. absurd (omega arith);
+}
 
 pub returns : goal.returns
-returns c = let p = c.clear_part.ensures in
-    let q = c.expand_last-e.ensures in
-    let g = c.if-g-ne-GOES_ON.false in
-    record {
-      fact = grew _ _ _ _ _ _ _ _ c.requires.0 _ ((omega arith)) _ _ _ _ c.turns-g.auto.ws c.turns-g.ensures.fact g _ c.clear_part.auto.ws p.0 p.1
-          _ _ q.0 _ q.1.0 q.1.1.0 c.if-e.false;
-      story_value = λ _. grew_told _ _ _ _ _ _ _ _ c.requires.0 _ ((omega arith)) _ _ _ _ c.turns-g.auto.ws c.turns-g.ensures.fact g _ c.clear_part.auto.ws p.0 p.1
-          _ _ _ (c.turns-g.ensures.story_value g) q.1.1.1;
-    }
+returns c = record {
+  fact = grew _ _ _ _ _ _ _ _ c.requires.0 _ ((omega arith)) _ _ _ _ c.turns-g.auto.ws c.turns-g.ensures.fact c.if-g-ne-GOES_ON.false _ c.clear_part.auto.ws c.clear_part.ensures.0 c.clear_part.ensures.1
+      _ _ c.expand_last-e.ensures.ws_after _ c.expand_last-e.ensures.strays_value c.expand_last-e.ensures.ws_unchanged c.if-e.false;
+  story_value = λ _. grew_told _ _ _ _ _ _ _ _ c.requires.0 _ ((omega arith)) _ _ _ _ c.turns-g.auto.ws c.turns-g.ensures.fact c.if-g-ne-GOES_ON.false _ c.clear_part.auto.ws c.clear_part.ensures.0 c.clear_part.ensures.1
+      _ _ _ (c.turns-g.ensures.story_value c.if-g-ne-GOES_ON.false) c.expand_last-e.ensures.story_value;
+}

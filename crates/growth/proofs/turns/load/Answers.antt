@@ -19,12 +19,10 @@ pub slice_bounds-sort_cells_by_level-end : goal.slice_bounds-sort_cells_by_level
 slice_bounds-sort_cells_by_level-end c = omega (arith, c.requires.sections_for.0.changes, c.requires.sections_for.0.past, c.requires.sections_for.1)
 
 pub sort_cells_by_level-requires : goal.sort_cells_by_level-requires
-sort_cells_by_level-requires c = let a = c.args in
-    sort_lists a.area.now a.dist.now a.ids.now a.at a.level a.l.fills a.l.turn a.ws.now c.requires.sections_for.0 c.requires.sections_for.1 c.requires.area_len_bound.0 c.requires.area_len_bound.1 c.requires.area_len_bound.2
+sort_cells_by_level-requires c = sort_lists c.args.area.now c.args.dist.now c.args.ids.now c.args.at c.args.level c.args.l.fills c.args.l.turn c.args.ws.now c.requires.sections_for.0 c.requires.sections_for.1 c.requires.area_len_bound.0 c.requires.area_len_bound.1 c.requires.area_len_bound.2
 
 pub returns-then-j-eq0 : goal.returns-then-j-eq0
-returns-then-j-eq0 c = let r = c.sort_cells_by_level.ensures in
-    loaded-sorted _ _ _ _ _ _ _ _ c.requires.sections_for.0 c.requires.sections_for.1 _ _ _ c.sort_cells_by_level.auto.stacks c.if-j-eq0.true r.0 r.1.0 r.1.1.0 r.1.1.1
+returns-then-j-eq0 c = loaded-sorted _ _ _ _ _ _ _ _ c.requires.sections_for.0 c.requires.sections_for.1 _ _ _ c.sort_cells_by_level.auto.stacks c.if-j-eq0.true c.sort_cells_by_level.ensures.fills_after c.sort_cells_by_level.ensures.kept c.sort_cells_by_level.ensures.fact c.sort_cells_by_level.ensures.turn_value
 
 pub offset_bounds-ws-n-2 : goal.offset_bounds-ws-n-2
 offset_bounds-ws-n-2 c = omega (arith, c.requires.area_len_bound.0)
@@ -39,20 +37,15 @@ pub slice_bounds-append_stacks-end : goal.slice_bounds-append_stacks-end
 slice_bounds-append_stacks-end c = omega (arith, c.requires.sections_for.0.changes, c.requires.sections_for.0.past, c.requires.sections_for.1)
 
 pub append_stacks-requires : goal.append_stacks-requires
-append_stacks-requires c = let a = c.args in
-    let la = c.requires.sections_for.0 in
-    let ro = c.requires.sections_for.1 in
-    let eq = c.requires.area_len_bound.2 in
-    record {
-      stack_part = (
-        append-part a.area.now a.dist.now a.ids.now a.at a.level a.l.fills a.l.turn a.ws.now la ro c.requires.area_len_bound.0 eq,
-        left_fits a.area.now a.dist.now a.ids.now a.at a.level a.l.fills a.l.turn a.ws.now la ro eq c.if-j-eq0.false c.requires.sections_for.3,
-        omega (arith, c.if-j-eq0.false),
-        mod-lt (a.l.turn + 1) (omega arith),
-      );
-      stacked = left_stacked a.area.now a.dist.now a.ids.now a.at a.level a.l.fills a.l.turn a.ws.now la ro c.requires.sections_for.2 eq c.if-j-eq0.false c.requires.sections_for.3;
-    }
+append_stacks-requires c = record {
+  stack_part = (
+    append-part c.args.area.now c.args.dist.now c.args.ids.now c.args.at c.args.level c.args.l.fills c.args.l.turn c.args.ws.now c.requires.sections_for.0 c.requires.sections_for.1 c.requires.area_len_bound.0 c.requires.area_len_bound.2,
+    left_fits c.args.area.now c.args.dist.now c.args.ids.now c.args.at c.args.level c.args.l.fills c.args.l.turn c.args.ws.now c.requires.sections_for.0 c.requires.sections_for.1 c.requires.area_len_bound.2 c.if-j-eq0.false c.requires.sections_for.3,
+    omega (arith, c.if-j-eq0.false),
+    mod-lt (c.args.l.turn + 1) (omega arith),
+  );
+  stacked = left_stacked c.args.area.now c.args.dist.now c.args.ids.now c.args.at c.args.level c.args.l.fills c.args.l.turn c.args.ws.now c.requires.sections_for.0 c.requires.sections_for.1 c.requires.sections_for.2 c.requires.area_len_bound.2 c.if-j-eq0.false c.requires.sections_for.3;
+}
 
 pub returns : goal.returns
-returns c = let r = c.append_stacks.ensures in
-    loaded-appended _ _ _ _ _ _ _ _ c.requires.sections_for.0 c.requires.sections_for.1 _ _ _ c.append_stacks.auto.stacks c.requires.sections_for.2 c.requires.area_len_bound.2 c.if-j-eq0.false r.0 r.1.0 r.1.1.0 r.1.1.1
+returns c = loaded-appended _ _ _ _ _ _ _ _ c.requires.sections_for.0 c.requires.sections_for.1 _ _ _ c.append_stacks.auto.stacks c.requires.sections_for.2 c.requires.area_len_bound.2 c.if-j-eq0.false c.append_stacks.ensures.fills_after c.append_stacks.ensures.kept c.append_stacks.ensures.fact c.append_stacks.ensures.turn_value

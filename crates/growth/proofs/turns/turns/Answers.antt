@@ -28,24 +28,22 @@ pub shape_of-ws-then-t-ne-GOES_ON : goal.shape_of-ws-then-t-ne-GOES_ON
 shape_of-ws-then-t-ne-GOES_ON c = c.turn-t.auto.ws ∙ c.loop-left.invariant.1.size
 
 pub returns-then-t-ne-GOES_ON : goal.returns-then-t-ne-GOES_ON
-returns-then-t-ne-GOES_ON c = let h = c.loop-left-test.true in
-    record {
-      fact = turns_stopped _ _ _ _ _ _ _ _ c.requires.between.0 _ _ _ _ _ _ c.loop-left.invariant.1 _ (omega (arith, h, c.loop-left.invariant.0)) _ _ _ _ _ _ c.turn-t.ensures.fact
-          (omega (arith, h, c.loop-left.invariant.0)) c.if-t-ne-GOES_ON.true _;
-      story_value = λ z. absurd (c.if-t-ne-GOES_ON.true z);
-    }
+returns-then-t-ne-GOES_ON c = record {
+  fact = turns_stopped _ _ _ _ _ _ _ _ c.requires.between.0 _ _ _ _ _ _ c.loop-left.invariant.1 _ (omega (arith, c.loop-left-test.true, c.loop-left.invariant.0)) _ _ _ _ _ _ c.turn-t.ensures.fact
+      (omega (arith, c.loop-left-test.true, c.loop-left.invariant.0)) c.if-t-ne-GOES_ON.true _;
+  story_value = λ z. absurd (c.if-t-ne-GOES_ON.true z);
+}
 
 pub loop-left-smaller : goal.loop-left-smaller
 loop-left-smaller c = omega (arith, c.loop-left-test.true)
 
 pub loop-left-preserved : goal.loop-left-preserved
-loop-left-preserved c = let h = c.loop-left-test.true in
-    let e : c.args.count - (c.loop-left.left - 1) ≡ suc (c.args.count - c.loop-left.left) = omega (arith, h, c.loop-left.invariant.0) in (
-      omega (arith, c.loop-left.invariant.0),
-      rw e (turns_next _ _ _ _ _ _ _ _ c.requires.between.0 _ _ _ _ _ _ c.loop-left.invariant.1 _ (omega (arith, h, c.loop-left.invariant.0)) _ _ _ _ _ _ c.turn-t.ensures.fact c.if-t-ne-GOES_ON.false),
-      rw e (turns_told _ _ _ _ _ _ _ _ c.requires.between.0 _ _ _ _ _ _ c.loop-left.invariant.1 _ (omega (arith, h, c.loop-left.invariant.0)) _ _ _ _ _ _ c.turn-t.ensures.fact c.if-t-ne-GOES_ON.false
-          _ _ _ c.loop-left.invariant.2 c.turn-t.ensures.fact_2),
-    )
+loop-left-preserved c = let e : c.args.count - (c.loop-left.left - 1) ≡ suc (c.args.count - c.loop-left.left) = omega (arith, c.loop-left-test.true, c.loop-left.invariant.0) in (
+  omega (arith, c.loop-left.invariant.0),
+  rw e (turns_next _ _ _ _ _ _ _ _ c.requires.between.0 _ _ _ _ _ _ c.loop-left.invariant.1 _ (omega (arith, c.loop-left-test.true, c.loop-left.invariant.0)) _ _ _ _ _ _ c.turn-t.ensures.fact c.if-t-ne-GOES_ON.false),
+  rw e (turns_told _ _ _ _ _ _ _ _ c.requires.between.0 _ _ _ _ _ _ c.loop-left.invariant.1 _ (omega (arith, c.loop-left-test.true, c.loop-left.invariant.0)) _ _ _ _ _ _ c.turn-t.ensures.fact c.if-t-ne-GOES_ON.false
+      _ _ _ c.loop-left.invariant.2 c.turn-t.ensures.fact_2),
+)
 
 pub shape_of-ids : goal.shape_of-ids
 shape_of-ids c = omega (arith, c.loop-left.invariant.1.between.ids_below.size, c.requires.between.0.ids_below.size)

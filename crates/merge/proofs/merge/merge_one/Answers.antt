@@ -12,33 +12,23 @@ returns-else-may_merge c = record {
 }
 
 pub pick-best-requires : goal.pick-best-requires
-pick-best-requires c = let P = c.requires.pool_in.0 in
-    (P.held, P.bearers, c.requires.reps.1, turn-live _ _ _ _ _ _ _ P c.requires.reps.1 c.args.round.merges _ c.may_merge.ensures c.if-may_merge.true)
+pick-best-requires c = (c.requires.pool_in.0.held, c.requires.pool_in.0.bearers, c.requires.reps.1, turn-live _ _ _ _ _ _ _ c.requires.pool_in.0 c.requires.reps.1 c.args.round.merges _ c.may_merge.ensures c.if-may_merge.true)
 
 pub returns-then-id-ws : goal.returns-then-id-ws
-returns-then-id-ws c = let t = c.if-may_merge.true in
-    record {
-      merges_after = one_own _ _ _ _ _ _ _ c.requires.pool_in.0 c.requires.reps.1 _ _ c.may_merge.ensures t _ _ c.pick-best.ensures.id_value c.if-id-ws.true;
-      pool_in_2 = (c.requires.pool_in.0, c.requires.pool_in.1, search rules, refl);
-    }
+returns-then-id-ws c = record {
+  merges_after = one_own _ _ _ _ _ _ _ c.requires.pool_in.0 c.requires.reps.1 _ _ c.may_merge.ensures c.if-may_merge.true _ _ c.pick-best.ensures.id_value c.if-id-ws.true;
+  pool_in_2 = (c.requires.pool_in.0, c.requires.pool_in.1, search rules, refl);
+}
 
 pub try_merge-requires : goal.try_merge-requires
-try_merge-requires c = let P = c.requires.pool_in.0 in
-    let h = c.requires.reps.1 in
-    let k = c.args.round.merges in
-    let e = c.may_merge.ensures in
-    let t = c.if-may_merge.true in
-    let q = c.pick-best.ensures in
-    let d = c.if-id-ws.false in
-    record {
-      pool_in = c.requires.pool_in;
-      i_lt_m = (h, q.1, turn_apart _ _ _ _ _ _ _ P h k _ e t _ _ q.0 c.requires.reps.0 d);
-      fact = (turn-live _ _ _ _ _ _ _ P h k _ e t, turn-live_2 _ _ _ _ _ _ _ P h k _ e t _ _ q.0 c.requires.reps.0 d q.1, (λ w. d (sym w)));
-    }
+try_merge-requires c = record {
+  pool_in = c.requires.pool_in;
+  i_lt_m = (c.requires.reps.1, c.pick-best.ensures.id_lt_m, turn_apart _ _ _ _ _ _ _ c.requires.pool_in.0 c.requires.reps.1 c.args.round.merges _ c.may_merge.ensures c.if-may_merge.true _ _ c.pick-best.ensures.id_value c.requires.reps.0 c.if-id-ws.false);
+  fact = (turn-live _ _ _ _ _ _ _ c.requires.pool_in.0 c.requires.reps.1 c.args.round.merges _ c.may_merge.ensures c.if-may_merge.true, turn-live_2 _ _ _ _ _ _ _ c.requires.pool_in.0 c.requires.reps.1 c.args.round.merges _ c.may_merge.ensures c.if-may_merge.true _ _ c.pick-best.ensures.id_value c.requires.reps.0 c.if-id-ws.false c.pick-best.ensures.id_lt_m, (λ w. c.if-id-ws.false (sym w)));
+}
 
 pub returns : goal.returns
-returns c = let t = c.if-may_merge.true in
-    record {
-      merges_after = one_tried _ _ _ _ _ _ _ c.requires.pool_in.0 c.requires.reps.1 _ _ c.may_merge.ensures t _ _ c.pick-best.ensures.id_value c.if-id-ws.false _ _ c.try_merge.ensures.merges_after;
-      pool_in_2 = c.try_merge.ensures.pool_in_2;
-    }
+returns c = record {
+  merges_after = one_tried _ _ _ _ _ _ _ c.requires.pool_in.0 c.requires.reps.1 _ _ c.may_merge.ensures c.if-may_merge.true _ _ c.pick-best.ensures.id_value c.if-id-ws.false _ _ c.try_merge.ensures.merges_after;
+  pool_in_2 = c.try_merge.ensures.pool_in_2;
+}

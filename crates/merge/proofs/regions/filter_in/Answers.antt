@@ -8,5 +8,4 @@ pub slice_bounds-filter_told-end-2 : goal.slice_bounds-filter_told-end-2
 slice_bounds-filter_told-end-2 c = sym (part_length _ _ c.requires.0)
 
 pub returns : goal.returns
-returns c = let q = c.filter_told.ensures in
-    filtered_in _ _ _ _ _ _ _ c.requires.0 c.filter_told.auto.ws q.0 q.1.0.0 q.1.0.1 q.1.1
+returns c = filtered_in _ _ _ _ _ _ _ c.requires.0 c.filter_told.auto.ws c.filter_told.ensures.m_after c.filter_told.ensures.calm.0 c.filter_told.ensures.calm.1 c.filter_told.ensures.value

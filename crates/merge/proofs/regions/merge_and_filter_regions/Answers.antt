@@ -6,16 +6,14 @@ use native.Mathlib.Omega.{arith}
 use Rattle.merge.proofs.regions.merge_and_filter_regions.Goals as goal
 
 pub merge_all-requires : goal.merge_all-requires
-merge_all-requires c = let f = c.filter in (
-  filtered_pool _ _ _ _ c.requires _ _ f.ensures.0 f.ensures.1.0 f.ensures.1.1 f.auto.0,
-  filtered_laid _ _ _ _ c.requires _ _ f.ensures.0 f.ensures.1.0 f.ensures.1.1 f.auto.0,
-  filtered-joined _ _ _ _ c.requires _ _ f.ensures.0 f.ensures.1.0 f.ensures.1.1 f.auto.0,
+merge_all-requires c = (
+  filtered_pool _ _ _ _ c.requires _ _ c.filter.ensures.m_after c.filter.ensures.calm.0 c.filter.ensures.calm.1 c.filter.auto.ws,
+  filtered_laid _ _ _ _ c.requires _ _ c.filter.ensures.m_after c.filter.ensures.calm.0 c.filter.ensures.calm.1 c.filter.auto.ws,
+  filtered-joined _ _ _ _ c.requires _ _ c.filter.ensures.m_after c.filter.ensures.calm.0 c.filter.ensures.calm.1 c.filter.auto.ws,
 )
 
 pub number-requires : goal.number-requires
-number-requires c = let p = c.requires in
-    (search rest_column, search rest_blank, p.named, omega (arith, p.room, c.filter.auto.ws, c.merge_all.auto.ws))
+number-requires c = (search rest_column, search rest_blank, c.requires.named, omega (arith, c.requires.room, c.filter.auto.ws, c.merge_all.auto.ws))
 
 pub returns : goal.returns
-returns c = let f = c.filter in
-    numbered_top _ _ _ _ c.requires _ _ f.ensures.0 f.ensures.1.0 f.ensures.1.1 f.auto.0 _ _ _ _ _ _ c.merge_all.ensures.m_after c.number.ensures.cut_value
+returns c = numbered_top _ _ _ _ c.requires _ _ c.filter.ensures.m_after c.filter.ensures.calm.0 c.filter.ensures.calm.1 c.filter.auto.ws _ _ _ _ _ _ c.merge_all.ensures.m_after c.number.ensures.cut_value

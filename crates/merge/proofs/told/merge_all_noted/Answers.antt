@@ -12,11 +12,10 @@ pub loop-round-init : goal.loop-round-init
 loop-round-init c = all_start _ _ _ _ _ _ c.first_half-half.ensures c.requires.1 c.requires.2 c.requires.3
 
 pub merge_round_noted-noted-requires : goal.merge_round_noted-noted-requires
-merge_round_noted-noted-requires c = let v = c.loop-round.invariant in
-    record {
-      m_in_bounds = (omega (arith, v.size, c.requires.0), v.pool, v.laid);
-      joined = (v.rounds.joined, v.few);
-    }
+merge_round_noted-noted-requires c = record {
+  m_in_bounds = (omega (arith, c.loop-round.invariant.size, c.requires.0), c.loop-round.invariant.pool, c.loop-round.invariant.laid);
+  joined = (c.loop-round.invariant.rounds.joined, c.loop-round.invariant.few);
+}
 
 pub shape_of-ws-then-round-eq0 : goal.shape_of-ws-then-round-eq0
 shape_of-ws-then-round-eq0 c = c.merge_round_noted-noted.auto.ws ∙ c.loop-round.invariant.size

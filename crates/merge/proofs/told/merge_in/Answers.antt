@@ -15,5 +15,4 @@ merge_one-requires c = record {
 }
 
 pub returns : goal.returns
-returns c = let q = c.merge_one.ensures in
-    merged_in _ _ _ _ _ _ _ _ c.requires.end_in_bounds.0 c.merge_one.auto.ws q.0 q.1.0 q.1.2 q.1.1 q.1.3
+returns c = merged_in _ _ _ _ _ _ _ _ c.requires.end_in_bounds.0 c.merge_one.auto.ws c.merge_one.ensures.merges_after c.merge_one.ensures.pool_in_2.0 c.merge_one.ensures.pool_in_2.2 c.merge_one.ensures.pool_in_2.1 c.merge_one.ensures.pool_in_2.3

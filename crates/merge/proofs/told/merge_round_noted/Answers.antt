@@ -12,11 +12,10 @@ pub loop-i-init : goal.loop-i-init
 loop-i-init c = (omega arith, refl, round-start _ _ _ _ _ _ c.requires.m_in_bounds.1 c.requires.m_in_bounds.2 c.requires.joined.1)
 
 pub merge_one_noted-noted-requires : goal.merge_one_noted-noted-requires
-merge_one_noted-noted-requires c = let v = c.loop-i.invariant.2 in
-    record {
-      m_in_bounds = (omega (arith, c.loop-i.invariant.1, c.requires.m_in_bounds.0), v.pool, v.laid);
-      joined = (round-joined _ _ _ _ _ _ _ _ _ v c.requires.joined.0, c.loop-i-test.true, omega (arith, v.less, c.loop-i-test.true, v.pool.held.few), v.few);
-    }
+merge_one_noted-noted-requires c = record {
+  m_in_bounds = (omega (arith, c.loop-i.invariant.1, c.requires.m_in_bounds.0), c.loop-i.invariant.2.pool, c.loop-i.invariant.2.laid);
+  joined = (round-joined _ _ _ _ _ _ _ _ _ c.loop-i.invariant.2 c.requires.joined.0, c.loop-i-test.true, omega (arith, c.loop-i.invariant.2.less, c.loop-i-test.true, c.loop-i.invariant.2.pool.held.few), c.loop-i.invariant.2.few);
+}
 
 pub loop-i-preserved : goal.loop-i-preserved
 loop-i-preserved c = (omega (arith, c.loop-i-test.true), c.merge_one_noted-noted.auto.ws ∙ c.loop-i.invariant.1, round_next _ _ _ _ _ _ _ _ _ c.loop-i.invariant.2 _ _ c.merge_one_noted-noted.ensures)

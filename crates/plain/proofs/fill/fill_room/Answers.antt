@@ -29,15 +29,13 @@ loop-top-init c = running_start _ _ _ _ _ _ (held_kept _ _ _ _ c.requires.0 (sim
     (start_filling _ c.args.ws.now _ _ _ c.requires.1 c.requires.2 ((omega (arith, c.requires.0.past, c.requires.0.room))))
 
 pub at16-c-requires : goal.at16-c-requires
-at16-c-requires c = let v = c.loop-top.invariant in
-    omega (arith, c.loop-top-test.true, top_in _ _ _ _ _ _ _ _ _ v, v.held.past, v.held.room)
+at16-c-requires c = omega (arith, c.loop-top-test.true, top_in _ _ _ _ _ _ _ _ _ c.loop-top.invariant, c.loop-top.invariant.held.past, c.loop-top.invariant.held.room)
 
 pub join_all-top-requires : goal.join_all-top-requires
-join_all-top-requires c = let v = c.loop-top.invariant in
-    record {
-      held = (v.held, span_in_lem _ _ _ _ _ _ _ _ _ v c.loop-top-test.true _ c.at16-c.ensures.0, (omega (arith, c.shared_slice_known-2-1.given c.args.from.0)));
-      filling = (rest_held _ _ _ _ _ _ _ _ _ v c.loop-top-test.true _ c.at16-c.ensures.0, c.requires.2);
-    }
+join_all-top-requires c = record {
+  held = (c.loop-top.invariant.held, span_in_lem _ _ _ _ _ _ _ _ _ c.loop-top.invariant c.loop-top-test.true _ c.at16-c.ensures.0, (omega (arith, c.shared_slice_known-2-1.given c.args.from.0)));
+  filling = (rest_held _ _ _ _ _ _ _ _ _ c.loop-top.invariant c.loop-top-test.true _ c.at16-c.ensures.0, c.requires.2);
+}
 
 pub loop-top-smaller : goal.loop-top-smaller
 loop-top-smaller c = running_falls _ _ _ _ _ _ _ _ _ c.loop-top.invariant c.loop-top-test.true _ c.at16-c.ensures.0 ((omega (arith, c.shared_slice_known-2-1.given c.args.from.0))) c.requires.2 _ _ _ c.join_all-top.ensures.result_after
@@ -53,9 +51,8 @@ pub shape_of-ws : goal.shape_of-ws
 shape_of-ws c = c.loop-top.invariant.long ∙ simp length-set
 
 pub returns : goal.returns
-returns c = let v = c.loop-top.invariant in
-    let z : c.loop-top.top ≡ 0 = omega (arith, c.loop-top-test.false) in
+returns c = let z : c.loop-top.top ≡ 0 = omega (arith, c.loop-top-test.false) in
     record {
-      ids_after = filled_is _ _ _ _ _ _ c.requires.0 c.requires.1 c.requires.2 _ (running_done _ _ _ _ _ _ _ _ _ v z);
-      ws_unchanged = v.past ∙ start_past _ _ _ _ _ c.requires.1 c.requires.2 ((omega (arith, c.requires.0.past, c.requires.0.room)));
+      ids_after = filled_is _ _ _ _ _ _ c.requires.0 c.requires.1 c.requires.2 _ (running_done _ _ _ _ _ _ _ _ _ c.loop-top.invariant z);
+      ws_unchanged = c.loop-top.invariant.past ∙ start_past _ _ _ _ _ c.requires.1 c.requires.2 ((omega (arith, c.requires.0.past, c.requires.0.room)));
     }

@@ -9,8 +9,7 @@ use Rattle.plain.proofs.Joining.{few, filling_size, slot_in, inside, skip_none, 
 use Rattle.plain.proofs.fill.join_one.Goals as goal
 
 pub neighbour-t-requires : goal.neighbour-t-requires
-neighbour-t-requires c = let v = c.requires.held.0 in
-    (v.place, omega (arith, c.requires.held.1, few _ _ _ v), c.requires.held.2, omega (arith, v.room, c.requires.held.1, c.requires.held.2))
+neighbour-t-requires c = (c.requires.held.0.place, omega (arith, c.requires.held.1, few _ _ _ c.requires.held.0), c.requires.held.2, omega (arith, c.requires.held.0.room, c.requires.held.1, c.requires.held.2))
 
 pub returns-then-t-eq-NO_SPAN : goal.returns-then-t-eq-NO_SPAN
 returns-then-t-eq-NO_SPAN c = record {
@@ -52,7 +51,7 @@ pub offset_bounds-ws-top : goal.offset_bounds-ws-top
 offset_bounds-ws-top c = omega (arith, (top_in _ _ _ _ _ _ _ _ _ _ c.requires.held.0 c.requires.held.1 c.requires.held.2 c.neighbour-t.ensures ((inside _ _ c.args.ids.now _ c.args.room.area c.args.room.id _ _ c.args.top _ c.requires.held.0 c.requires.held.1 c.requires.held.2 c.neighbour-t.ensures c.if-t-eq-NO_SPAN.false)) c.if-area-t.left c.if-ids-t-ne0.false c.requires.filling.0 c.requires.filling.1), few _ _ _ c.requires.held.0)
 
 pub bounds-ws-top : goal.bounds-ws-top
-bounds-ws-top c = let v = c.requires.held.0 in omega (arith, (top_in _ _ _ _ _ _ _ _ _ _ c.requires.held.0 c.requires.held.1 c.requires.held.2 c.neighbour-t.ensures ((inside _ _ c.args.ids.now _ c.args.room.area c.args.room.id _ _ c.args.top _ c.requires.held.0 c.requires.held.1 c.requires.held.2 c.neighbour-t.ensures c.if-t-eq-NO_SPAN.false)) c.if-area-t.left c.if-ids-t-ne0.false c.requires.filling.0 c.requires.filling.1), v.past, v.room)
+bounds-ws-top c = omega (arith, (top_in _ _ _ _ _ _ _ _ _ _ c.requires.held.0 c.requires.held.1 c.requires.held.2 c.neighbour-t.ensures ((inside _ _ c.args.ids.now _ c.args.room.area c.args.room.id _ _ c.args.top _ c.requires.held.0 c.requires.held.1 c.requires.held.2 c.neighbour-t.ensures c.if-t-eq-NO_SPAN.false)) c.if-area-t.left c.if-ids-t-ne0.false c.requires.filling.0 c.requires.filling.1), c.requires.held.0.past, c.requires.held.0.room)
 
 pub overflow_add-result : goal.overflow_add-result
 overflow_add-result c = omega (arith, (top_in _ _ _ _ _ _ _ _ _ _ c.requires.held.0 c.requires.held.1 c.requires.held.2 c.neighbour-t.ensures ((inside _ _ c.args.ids.now _ c.args.room.area c.args.room.id _ _ c.args.top _ c.requires.held.0 c.requires.held.1 c.requires.held.2 c.neighbour-t.ensures c.if-t-eq-NO_SPAN.false)) c.if-area-t.left c.if-ids-t-ne0.false c.requires.filling.0 c.requires.filling.1), few _ _ _ c.requires.held.0)

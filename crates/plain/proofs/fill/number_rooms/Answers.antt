@@ -11,8 +11,7 @@ pub loop-s-init : goal.loop-s-init
 loop-s-init c = numbering_start _ _ _ _ c.requires.0
 
 pub begin_room-most-requires : goal.begin_room-most-requires
-begin_room-most-requires c = let v = c.loop-s.invariant in
-    (v.held, v.size ∙ c.requires.1, c.loop-s-test.true, v.low)
+begin_room-most-requires c = (c.loop-s.invariant.held, c.loop-s.invariant.size ∙ c.requires.1, c.loop-s-test.true, c.loop-s.invariant.low)
 
 pub loop-s-preserved : goal.loop-s-preserved
 loop-s-preserved c = numbering_next _ _ _ _ _ _ _ _ c.loop-s.invariant _ _ _ c.loop-s-test.true c.begin_room-most.auto.ids c.begin_room-most.auto.ws c.begin_room-most.ensures.result_after c.begin_room-most.ensures.ws_unchanged
@@ -24,8 +23,7 @@ pub shape_of-ws : goal.shape_of-ws
 shape_of-ws c = c.loop-s.invariant.long
 
 pub returns : goal.returns
-returns c = let v = c.loop-s.invariant in
-    record {
-      result_after = numbering_done _ _ _ _ _ _ _ _ v c.loop-s-test.false;
-      ws_unchanged = v.past;
-    }
+returns c = record {
+  result_after = numbering_done _ _ _ _ _ _ _ _ c.loop-s.invariant c.loop-s-test.false;
+  ws_unchanged = c.loop-s.invariant.past;
+}

@@ -18,5 +18,4 @@ set_part-requires-2 c = record {
 }
 
 pub returns : goal.returns
-returns c = let j = c.join_lists-e in
-    absorbed_is _ _ _ _ _ _ _ _ c.requires.0 c.requires.1 _ _ _ _ _ _ j.ensures.0 j.ensures.1.0 j.ensures.1.1 c.set_part.ensures c.set_part-2.ensures
+returns c = absorbed_is _ _ _ _ _ _ _ _ c.requires.0 c.requires.1 _ _ _ _ _ _ c.join_lists-e.ensures.ws_after c.join_lists-e.ensures.lower_bound c.join_lists-e.ensures.frame c.set_part.ensures c.set_part-2.ensures

@@ -7,6 +7,4 @@ pub copy-requires : goal.copy-requires
 copy-requires c = search source_clear
 
 pub returns : goal.returns
-returns c = let p = c.copy in
-    let r = c.rename_live-left in
-    moved_is _ _ _ _ _ _ _ c.requires c.start_of-start.ensures.0 c.end_of-end.ensures.0 _ _ _ _ _ _ p.auto.0 r.auto.0 p.ensures.0 p.ensures.1 r.ensures.0 r.ensures.1.0 r.ensures.1.1 c.set_part.ensures
+returns c = moved_is _ _ _ _ _ _ _ c.requires c.start_of-start.ensures.0 c.end_of-end.ensures.0 _ _ _ _ _ _ c.copy.auto.ws c.rename_live-left.auto.ws c.copy.ensures.ws_after c.copy.ensures.frame c.rename_live-left.ensures.ws_after c.rename_live-left.ensures.lower_bound c.rename_live-left.ensures.frame c.set_part.ensures

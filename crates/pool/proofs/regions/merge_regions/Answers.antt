@@ -14,22 +14,18 @@ recount-requires c = record {
 }
 
 pub hand_over-requires : goal.hand_over-requires
-hand_over-requires c = let p = c.requires in
-    let q = c.relist-there.ensures in
-    owners_still _ _ _ _ _ _ _ _ _ _ p.0 p.2 _ _ _ _ _ p.1.room q.0.2 q.1.0 c.relist-there.auto.ws _ c.recount.ensures c.recount.auto.ws
+hand_over-requires c = owners_still _ _ _ _ _ _ _ _ _ _ c.requires.0 c.requires.2 _ _ _ _ _ c.requires.1.room c.relist-there.ensures.size_value.2 c.relist-there.ensures.relisted_in.0 c.relist-there.auto.ws _ c.recount.ensures c.recount.auto.ws
 
 pub carry_mark-requires : goal.carry_mark-requires
 carry_mark-requires c = (search (rules, marks_in_lem), search rules, search rules)
 
 pub returns : goal.returns
-returns c = let p = c.requires in
-    let q = c.relist-there.ensures in
-    record {
-      m_after = region_recs _ _ _ _ _ _ _ _ _ _ _ _ _ _ _ p.0 p.1.room p.2 q.0.2 q.1.0 c.relist-there.auto.ws c.recount.ensures c.recount.auto.ws c.hand_over.ensures c.hand_over.auto.ws _ c.carry_mark.ensures;
-      pool_in = (
-        pool_sized _ _ _ _ _ _ q.0.0 (region_pool _ _ _ _ _ _ _ _ _ _ _ _ _ _ _ p.0 p.1.room p.2 q.0.2 q.1.0 c.relist-there.auto.ws c.recount.ensures c.recount.auto.ws c.hand_over.ensures c.hand_over.auto.ws _ c.carry_mark.ensures),
-        laid_sized _ _ _ _ _ _ _ _ _ _ _ _ q.0.0 q.0.1 (region_laid _ _ _ _ _ _ _ _ _ _ _ _ _ _ _ p.0 p.1.room p.2 q.0.2 q.1.0 c.relist-there.auto.ws c.recount.ensures c.recount.auto.ws c.hand_over.ensures c.hand_over.auto.ws _ c.carry_mark.ensures _) q.1.1,
-        q.0.0,
-        q.0.1,
-      );
-    }
+returns c = record {
+  m_after = region_recs _ _ _ _ _ _ _ _ _ _ _ _ _ _ _ c.requires.0 c.requires.1.room c.requires.2 c.relist-there.ensures.size_value.2 c.relist-there.ensures.relisted_in.0 c.relist-there.auto.ws c.recount.ensures c.recount.auto.ws c.hand_over.ensures c.hand_over.auto.ws _ c.carry_mark.ensures;
+  pool_in = (
+    pool_sized _ _ _ _ _ _ c.relist-there.ensures.size_value.0 (region_pool _ _ _ _ _ _ _ _ _ _ _ _ _ _ _ c.requires.0 c.requires.1.room c.requires.2 c.relist-there.ensures.size_value.2 c.relist-there.ensures.relisted_in.0 c.relist-there.auto.ws c.recount.ensures c.recount.auto.ws c.hand_over.ensures c.hand_over.auto.ws _ c.carry_mark.ensures),
+    laid_sized _ _ _ _ _ _ _ _ _ _ _ _ c.relist-there.ensures.size_value.0 c.relist-there.ensures.size_value.1 (region_laid _ _ _ _ _ _ _ _ _ _ _ _ _ _ _ c.requires.0 c.requires.1.room c.requires.2 c.relist-there.ensures.size_value.2 c.relist-there.ensures.relisted_in.0 c.relist-there.auto.ws c.recount.ensures c.recount.auto.ws c.hand_over.ensures c.hand_over.auto.ws _ c.carry_mark.ensures _) c.relist-there.ensures.relisted_in.1,
+    c.relist-there.ensures.size_value.0,
+    c.relist-there.ensures.size_value.1,
+  );
+}

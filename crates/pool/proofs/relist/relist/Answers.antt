@@ -11,15 +11,13 @@ relist_here-requires c = record {
 }
 
 pub returns-then-both-half : goal.returns-then-both-half
-returns-then-both-half c = let r = c.relist_here.ensures in
-    record {
-      size_value = (r.0.0, r.0.1, inl (r.0.2, r.0.3));
-      relisted_in = r.1;
-    }
+returns-then-both-half c = record {
+  size_value = (c.relist_here.ensures.size_value.0, c.relist_here.ensures.size_value.1, inl (c.relist_here.ensures.size_value.2, c.relist_here.ensures.size_value.3));
+  relisted_in = c.relist_here.ensures.relisted_in;
+}
 
 pub returns : goal.returns
-returns c = let r = c.relist_there.ensures in
-    record {
-      size_value = (r.0.0, r.0.1, inr (r.0.2, r.0.3));
-      relisted_in = r.1;
-    }
+returns c = record {
+  size_value = (c.relist_there.ensures.size_value.0, c.relist_there.ensures.size_value.1, inr (c.relist_there.ensures.size_value.2, c.relist_there.ensures.size_value.3));
+  relisted_in = c.relist_there.ensures.relisted_in;
+}

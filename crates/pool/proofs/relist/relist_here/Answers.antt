@@ -6,21 +6,20 @@ use borrow.Author.Rules.{rules}
 use Rattle.pool.proofs.relist.relist_here.Goals as goal
 
 pub absorb-e-requires : goal.absorb-e-requires
-absorb-e-requires c = let s = c.requires in (target_here _ _ _ _ _ _ _ _ _ _ _ s.0.0 s.0.1 s.0.2 s.1, s.0.2)
+absorb-e-requires c = (target_here _ _ _ _ _ _ _ _ _ _ _ c.requires.pool_in.0 c.requires.pool_in.1 c.requires.pool_in.2 c.requires.absorbed_bound, c.requires.pool_in.2)
 
 pub rename_all-requires : goal.rename_all-requires
-rename_all-requires c = let s = c.requires in (
-  searched_here _ _ _ _ _ _ _ _ _ _ _ s.0.0 s.0.1 s.0.2 s.1 _ _ _ _ c.absorb-e.auto.ws c.absorb-e.ensures s.0.3 s.0.4.0,
-  (λ w. s.0.3.apart (sym s.0.4.0 ∙ w ∙ s.0.4.1)),
+rename_all-requires c = (
+  searched_here _ _ _ _ _ _ _ _ _ _ _ c.requires.pool_in.0 c.requires.pool_in.1 c.requires.pool_in.2 c.requires.absorbed_bound _ _ _ _ c.absorb-e.auto.ws c.absorb-e.ensures c.requires.pool_in.3 c.requires.pool_in.4.0,
+  (λ w. c.requires.pool_in.3.apart (sym c.requires.pool_in.4.0 ∙ w ∙ c.requires.pool_in.4.1)),
 )
 
 pub returns : goal.returns
-returns c = let s = c.requires in
-    record {
-      size_value = (refl, refl, refl, refl);
-      relisted_in = (
-        relisted_here _ _ _ _ _ _ _ _ _ _ _ s.0.0 s.0.1 s.0.2 s.1 _ _ _ _ c.absorb-e.auto.ws c.absorb-e.ensures _ c.rename_all.auto.ws c.rename_all.ensures,
-        laid_here _ _ _ _ _ _ _ _ _ _ _ s.0.0 s.0.1 s.0.2 s.1 _ _ _ _ c.absorb-e.auto.ws c.absorb-e.ensures _ c.rename_all.auto.ws c.rename_all.ensures
-            s.0.3 s.0.4.0 s.0.4.1,
-      );
-    }
+returns c = record {
+  size_value = (refl, refl, refl, refl);
+  relisted_in = (
+    relisted_here _ _ _ _ _ _ _ _ _ _ _ c.requires.pool_in.0 c.requires.pool_in.1 c.requires.pool_in.2 c.requires.absorbed_bound _ _ _ _ c.absorb-e.auto.ws c.absorb-e.ensures _ c.rename_all.auto.ws c.rename_all.ensures,
+    laid_here _ _ _ _ _ _ _ _ _ _ _ c.requires.pool_in.0 c.requires.pool_in.1 c.requires.pool_in.2 c.requires.absorbed_bound _ _ _ _ c.absorb-e.auto.ws c.absorb-e.ensures _ c.rename_all.auto.ws c.rename_all.ensures
+        c.requires.pool_in.3 c.requires.pool_in.4.0 c.requires.pool_in.4.1,
+  );
+}

@@ -9,23 +9,17 @@ use Rattle.records.proofs.BuildLaws.{cell_lies, know_from, know_next, entered_no
 use Rattle.records.proofs.build.add_cell_at.Goals as goal
 
 pub returns-then-cell-eq0 : goal.returns-then-cell-eq0
-returns-then-cell-eq0 c = let p = c.requires.fact in
-    (entered_none _ _ _ _ _ _ _ _ p.0 p.1 (sym (ap (λ (x : Spans). x.size) c.spans_of-cell.ensures) ∙ c.if-cell-eq0.true), p.1)
+returns-then-cell-eq0 c = (entered_none _ _ _ _ _ _ _ _ c.requires.fact.0 c.requires.fact.1 (sym (ap (λ (x : Spans). x.size) c.spans_of-cell.ensures) ∙ c.if-cell-eq0.true), c.requires.fact.1)
 
 pub look_back-back-requires : goal.look_back-back-requires
-look_back-back-requires c = let p = c.requires.fact in
-    ((p.0.keeping ((let e = ap (λ (x : Spans). x.size) c.spans_of-cell.ensures in omega (arith, e, c.if-cell-eq0.false)))).spans, p.1.lies, rw c.spans_of-cell.ensures (cell_lies _ _ _ _ _ _ _ _ p.0 p.1))
+look_back-back-requires c = ((c.requires.fact.0.keeping ((let e = ap (λ (x : Spans). x.size) c.spans_of-cell.ensures in omega (arith, e, c.if-cell-eq0.false)))).spans, c.requires.fact.1.lies, rw c.spans_of-cell.ensures (cell_lies _ _ _ _ _ _ _ _ c.requires.fact.0 c.requires.fact.1))
 
 pub add_spans-requires : goal.add_spans-requires
-add_spans-requires c = let p = c.requires.fact in
-    let e = c.spans_of-cell.ensures in
-    record {
-      entering = rw e p.0;
-      knowing_from = rw e (know_from _ _ _ _ _ _ _ _ p.0 p.1 ((let e = ap (λ (x : Spans). x.size) c.spans_of-cell.ensures in omega (arith, e, c.if-cell-eq0.false))) _ (rw e at c.look_back-back.ensures.1));
-    }
+add_spans-requires c = record {
+  entering = rw c.spans_of-cell.ensures c.requires.fact.0;
+  knowing_from = rw c.spans_of-cell.ensures (know_from _ _ _ _ _ _ _ _ c.requires.fact.0 c.requires.fact.1 ((let e = ap (λ (x : Spans). x.size) c.spans_of-cell.ensures in omega (arith, e, c.if-cell-eq0.false))) _ (rw c.spans_of-cell.ensures at c.look_back-back.ensures.1));
+}
 
 pub returns : goal.returns
-returns c = let p = c.requires.fact in
-    let e = c.spans_of-cell.ensures in
-    let d = rw e at c.add_spans.ensures in
-    (d, know_next _ _ _ _ _ _ _ _ p.0 p.1 ((let e = ap (λ (x : Spans). x.size) c.spans_of-cell.ensures in omega (arith, e, c.if-cell-eq0.false))) _ _ d _ (rw e at c.look_back-back.ensures.0))
+returns c = let d = rw c.spans_of-cell.ensures at c.add_spans.ensures in
+    (d, know_next _ _ _ _ _ _ _ _ c.requires.fact.0 c.requires.fact.1 ((let e = ap (λ (x : Spans). x.size) c.spans_of-cell.ensures in omega (arith, e, c.if-cell-eq0.false))) _ _ d _ (rw c.spans_of-cell.ensures at c.look_back-back.ensures.0))

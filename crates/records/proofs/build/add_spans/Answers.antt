@@ -16,13 +16,10 @@ pub at-requires : goal.at-requires
 at-requires c = entered_room _ _ _ _ _ _ _ c.requires.entering _ _ _ c.loop-j.invariant c.loop-j-test.true
 
 pub add_span-end-requires : goal.add_span-end-requires
-add_span-end-requires c = let v = c.loop-j.invariant in
-    let p = c.requires in
-    let h = c.loop-j-test.true in
-    record {
-      standing = entered_stand _ _ _ _ _ _ _ p.0 _ _ _ v h _ c.at.ensures;
-      knowing_from = entered_knowing _ _ _ _ _ _ _ p.0 _ _ _ v h _ p.1;
-    }
+add_span-end-requires c = record {
+  standing = entered_stand _ _ _ _ _ _ _ c.requires.entering _ _ _ c.loop-j.invariant c.loop-j-test.true _ c.at.ensures;
+  knowing_from = entered_knowing _ _ _ _ _ _ _ c.requires.entering _ _ _ c.loop-j.invariant c.loop-j-test.true _ c.requires.knowing_from;
+}
 
 pub loop-j-preserved : goal.loop-j-preserved
 loop-j-preserved c = entered_next _ _ _ _ _ _ _ c.requires.entering _ _ _ c.loop-j.invariant c.loop-j-test.true _ c.at.ensures _ _ c.add_span-end.ensures

@@ -5,23 +5,18 @@ use borrow.Author.Rules.{rules}
 use Rattle.records.proofs.build.count_span.Goals as goal
 
 pub add_cell-requires : goal.add_cell-requires
-add_cell-requires c = let p = c.requires in
-    let w = p.0.0.within in
-    record {
-      keeping = (p.0.0.keeping, w);
-      r_value = (c.at-r.ensures.0, p.0.1);
-      knowing_from = p.1;
-    }
+add_cell-requires c = record {
+  keeping = (c.requires.standing.0.keeping, c.requires.standing.0.within);
+  r_value = (c.at-r.ensures.0, c.requires.standing.1);
+  knowing_from = c.requires.knowing_from;
+}
 
 pub add_contour-requires : goal.add_contour-requires
-add_contour-requires c = let p = c.requires in
-    let e = c.at-r.ensures.0 in
-    record {
-      reach = reach_then _ _ _ _ _ _ _ _ p.0.0 p.0.1 _ e _ c.add_cell.ensures;
-      keeping = c.add_cell.ensures.keeping;
-      r_value = (e, own_below _ _ _ _ _ _ _ _ p.0.0 p.0.1 _ e, own_some _ _ _ _ _ _ _ _ p.0.0 p.0.1 _ e);
-    }
+add_contour-requires c = record {
+  reach = reach_then _ _ _ _ _ _ _ _ c.requires.standing.0 c.requires.standing.1 _ c.at-r.ensures.0 _ c.add_cell.ensures;
+  keeping = c.add_cell.ensures.keeping;
+  r_value = (c.at-r.ensures.0, own_below _ _ _ _ _ _ _ _ c.requires.standing.0 c.requires.standing.1 _ c.at-r.ensures.0, own_some _ _ _ _ _ _ _ _ c.requires.standing.0 c.requires.standing.1 _ c.at-r.ensures.0);
+}
 
 pub returns : goal.returns
-returns c = let p = c.requires in
-    added-one _ _ _ _ _ _ _ _ p.0.0 p.0.1 _ c.at-r.ensures.0 _ c.add_cell.ensures _ _ c.add_contour.ensures
+returns c = added-one _ _ _ _ _ _ _ _ c.requires.standing.0 c.requires.standing.1 _ c.at-r.ensures.0 _ c.add_cell.ensures _ _ c.add_contour.ensures

@@ -17,13 +17,13 @@ pub slice_bounds-same-end : goal.slice_bounds-same-end
 slice_bounds-same-end c = (c.requires.2.inside c.requires.3)
 
 pub overflow_add-a : goal.overflow_add-a
-overflow_add-a c = omega (arith, (c.requires.2.inside c.requires.3), (let e = c.requires.4 in omega (arith, e, c.requires.1.inside (omega (arith, e, c.requires.3)))), c.requires.0)
+overflow_add-a c = omega (arith, (c.requires.2.inside c.requires.3), (omega (arith, c.requires.4, c.requires.1.inside (omega (arith, c.requires.4, c.requires.3)))), c.requires.0)
 
 pub offset_bounds-ids-a : goal.offset_bounds-ids-a
-offset_bounds-ids-a c = omega (arith, (c.requires.2.inside c.requires.3), (let e = c.requires.4 in omega (arith, e, c.requires.1.inside (omega (arith, e, c.requires.3)))), c.requires.0)
+offset_bounds-ids-a c = omega (arith, (c.requires.2.inside c.requires.3), (omega (arith, c.requires.4, c.requires.1.inside (omega (arith, c.requires.4, c.requires.3)))), c.requires.0)
 
 pub slice_bounds-same-end-2 : goal.slice_bounds-same-end-2
-slice_bounds-same-end-2 c = omega (arith, (c.requires.2.inside c.requires.3), (let e = c.requires.4 in omega (arith, e, c.requires.1.inside (omega (arith, e, c.requires.3)))))
+slice_bounds-same-end-2 c = omega (arith, (c.requires.2.inside c.requires.3), (omega (arith, c.requires.4, c.requires.1.inside (omega (arith, c.requires.4, c.requires.3)))))
 
 pub returns : goal.returns
 returns c = λ e. alike_ids _ _ _ _ c.requires.4 refl (c.same.ensures.0 e)

@@ -13,8 +13,7 @@ pub bounds-ids-before : goal.bounds-ids-before
 bounds-ids-before c = (c.requires.unchanged c.if-near.true).inside
 
 pub returns-then-ids-t : goal.returns-then-ids-t
-returns-then-ids-t c = let p = c.requires in
-    record {
-      fact = join_listed _ _ _ _ _ _ p.1.0 (p.1.1.1 c.if-near.true) c.if-ids-t.true;
-      len_value = λ _. refl;
-    }
+returns-then-ids-t c = record {
+  fact = join_listed _ _ _ _ _ _ c.requires.len_in_bounds (c.requires.unchanged c.if-near.true) c.if-ids-t.true;
+  len_value = λ _. refl;
+}

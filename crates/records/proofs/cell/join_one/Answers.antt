@@ -20,11 +20,10 @@ returns-then-r c = record {
 }
 
 pub returns-then-is_border : goal.returns-then-is_border
-returns-then-is_border c = let a = c.args in
-    record {
-      fact = join_not _ _ _ _ _ c.requires.len_in_bounds c.if-t-span.left (border-not (get_or a.ids.now a.other.0 0) _ c.is_border.ensures c.if-is_border.true);
-      len_value = λ _. refl;
-    }
+returns-then-is_border c = record {
+  fact = join_not _ _ _ _ _ c.requires.len_in_bounds c.if-t-span.left (border-not (get_or c.args.ids.now c.args.other.0 0) _ c.is_border.ensures c.if-is_border.true);
+  len_value = λ _. refl;
+}
 
 pub add_unique_floor_region-requires : goal.add_unique_floor_region-requires
 add_unique_floor_region-requires c = c.requires.len_in_bounds_2 c.if-t-span.left

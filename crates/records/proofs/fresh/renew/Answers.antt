@@ -13,11 +13,10 @@ pub loop-i-init : goal.loop-i-init
 loop-i-init c = (renewed_here _ _ _ _ _ ((renewed_start _ _ _ _ c.requires c.tally.ensures)), sym (slot-first _))
 
 pub renew_one-lower-requires : goal.renew_one-lower-requires
-renew_one-lower-requires c = let p = c.requires in
-    record {
-      renewed = (renewed_here _ _ _ _ _ c.loop-i.invariant.0, c.loop-i-test.true, c.loop-i.invariant.1);
-      m_le_border = (p.few, p.spans, omega (arith, c.loop-i.invariant.0.size, c.tally.ensures.size, p.room));
-    }
+renew_one-lower-requires c = record {
+  renewed = (renewed_here _ _ _ _ _ c.loop-i.invariant.0, c.loop-i-test.true, c.loop-i.invariant.1);
+  m_le_border = (c.requires.few, c.requires.spans, omega (arith, c.loop-i.invariant.0.size, c.tally.ensures.size, c.requires.room));
+}
 
 pub overflow_add-lower : goal.overflow_add-lower
 overflow_add-lower c = omega (arith, slot_room c.args.ids.now c.loop-i.i, c.loop-i.invariant.1, c.renew_one-lower.ensures.1, c.requires.spans)

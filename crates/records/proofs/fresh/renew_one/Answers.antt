@@ -20,19 +20,17 @@ pub bounds-ws-m : goal.bounds-ws-m
 bounds-ws-m c = simp length-set (omega (arith, c.requires.m_le_border.2, c.requires.renewed.1))
 
 pub set_part-requires : goal.set_part-requires
-set_part-requires c = let p = c.requires in
-    record {
-      m_in_bounds = simp length-set (omega (arith, p.1.2));
-      r_lt_m = p.0.1;
-      a_lt_wide_end = (omega (arith, p.1.0), omega (arith, p.1.0));
-    }
+set_part-requires c = record {
+  m_in_bounds = simp length-set (omega (arith, c.requires.m_le_border.2));
+  r_lt_m = c.requires.renewed.1;
+  a_lt_wide_end = (omega (arith, c.requires.m_le_border.0), omega (arith, c.requires.m_le_border.0));
+}
 
 pub set_part-requires-2 : goal.set_part-requires-2
-set_part-requires-2 c = let p = c.requires in
-    let q = floors_fit _ _ _ _ p.0.0 p.0.1 _ _ p.0.2 refl p.1.0 p.1.1 p.1.2 in
+set_part-requires-2 c = let q = floors_fit _ _ _ _ c.requires.renewed.0 c.requires.renewed.1 _ _ c.requires.renewed.2 refl c.requires.m_le_border.0 c.requires.m_le_border.1 c.requires.m_le_border.2 in
     record {
-      m_in_bounds = omega (arith, c.set_part.auto.ws, (simp length-set), p.1.2);
-      r_lt_m = p.0.1;
+      m_in_bounds = omega (arith, c.set_part.auto.ws, (simp length-set), c.requires.m_le_border.2);
+      r_lt_m = c.requires.renewed.1;
       a_lt_wide_end = (q, q);
     }
 
@@ -40,5 +38,4 @@ pub shape_of-ws : goal.shape_of-ws
 shape_of-ws c = c.set_part-2.auto.ws ∙ c.set_part.auto.ws ∙ (simp length-set)
 
 pub returns : goal.returns
-returns c = let p = c.requires in
-    (renewed_one _ _ _ _ p.0.0 p.0.1 _ _ p.0.2 refl p.1.0 p.1.1 p.1.2 _ _ _ refl c.set_part.ensures c.set_part.auto.ws c.set_part-2.ensures c.set_part-2.auto.ws, c.at-spans.ensures.0 ∙ p.0.0.counts _ (omega arith) p.0.1)
+returns c = (renewed_one _ _ _ _ c.requires.renewed.0 c.requires.renewed.1 _ _ c.requires.renewed.2 refl c.requires.m_le_border.0 c.requires.m_le_border.1 c.requires.m_le_border.2 _ _ _ refl c.set_part.ensures c.set_part.auto.ws c.set_part-2.ensures c.set_part-2.auto.ws, c.at-spans.ensures.0 ∙ c.requires.renewed.0.counts _ (omega arith) c.requires.renewed.1)

@@ -11,43 +11,38 @@ use borrow.Author.Rules.{rules}
 use Rattle.records.proofs.grow.add_contour.Goals as goal
 
 pub start_of-requires : goal.start_of-requires
-start_of-requires c = let p = c.requires in (list_parts _ _ _ _ _ p.1.0, p.1.1.1)
+start_of-requires c = (list_parts _ _ _ _ _ c.requires.keeping, c.requires.r_value.1)
 
 pub end_of-requires : goal.end_of-requires
-end_of-requires c = let p = c.requires in (list_parts _ _ _ _ _ p.1.0, p.1.1.1)
+end_of-requires c = (list_parts _ _ _ _ _ c.requires.keeping, c.requires.r_value.1)
 
 pub returns-then-start_of-end_of : goal.returns-then-start_of-end_of
-returns-then-start_of-end_of c = let p = c.requires in
-    contour_there _ _ _ _ _ p.1.0 _ p.1.1.1 _ _ ((c.start_of.ensures.0)) ((c.end_of.ensures.0)) c.if-start_of-end_of.true _ _
+returns-then-start_of-end_of c = contour_there _ _ _ _ _ c.requires.keeping _ c.requires.r_value.1 _ _ ((c.start_of.ensures.0)) ((c.end_of.ensures.0)) c.if-start_of-end_of.true _ _
 
 pub at8-a-requires : goal.at8-a-requires
-at8-a-requires c = let p = c.requires in omega (arith, p.0.span, p.0.sized)
+at8-a-requires c = omega (arith, c.requires.reach.span, c.requires.reach.sized)
 
 pub overflow_mul-ws : goal.overflow_mul-ws
 overflow_mul-ws c = omega (arith, c.requires.keeping.few)
 
 pub overflow_add-ws : goal.overflow_add-ws
-overflow_add-ws c = let p = c.requires in omega (arith, p.1.0.few, p.1.1.1)
+overflow_add-ws c = omega (arith, c.requires.keeping.few, c.requires.r_value.1)
 
 pub offset_bounds-ws-m : goal.offset_bounds-ws-m
-offset_bounds-ws-m c = let p = c.requires in omega (arith, p.1.0.few, p.1.1.1)
+offset_bounds-ws-m c = omega (arith, c.requires.keeping.few, c.requires.r_value.1)
 
 pub bounds-ws-m : goal.bounds-ws-m
-bounds-ws-m c = let p = c.requires in omega (arith, p.1.0.room, p.1.1.1)
+bounds-ws-m c = omega (arith, c.requires.keeping.room, c.requires.r_value.1)
 
 pub add_list-requires : goal.add_list-requires
-add_list-requires c = let p = c.requires in
-    let q = p.1.1 in
-    record {
-      start = area_tracing _ _ _ _ _ p.1.0 _ q.1 _ _ ((c.start_of.ensures.0)) ((c.end_of.ensures.0)) c.if-start_of-end_of.false _ _ _ _ _ p.0 q.0 q.2;
-      keeping = (area_keeping _ _ _ _ _ p.1.0 _ q.1 _ _ ((c.start_of.ensures.0)) ((c.end_of.ensures.0)) c.if-start_of-end_of.false _, q.0, q.1);
-      r_bound = none_after _ _ _ _ _ p.1.0 _ q.1 _ _ ((c.start_of.ensures.0)) ((c.end_of.ensures.0)) c.if-start_of-end_of.false _;
-    }
+add_list-requires c = record {
+  start = area_tracing _ _ _ _ _ c.requires.keeping _ c.requires.r_value.1 _ _ ((c.start_of.ensures.0)) ((c.end_of.ensures.0)) c.if-start_of-end_of.false _ _ _ _ _ c.requires.reach c.requires.r_value.0 c.requires.r_value.2;
+  keeping = (area_keeping _ _ _ _ _ c.requires.keeping _ c.requires.r_value.1 _ _ ((c.start_of.ensures.0)) ((c.end_of.ensures.0)) c.if-start_of-end_of.false _, c.requires.r_value.0, c.requires.r_value.1);
+  r_bound = none_after _ _ _ _ _ c.requires.keeping _ c.requires.r_value.1 _ _ ((c.start_of.ensures.0)) ((c.end_of.ensures.0)) c.if-start_of-end_of.false _;
+}
 
 pub shape_of-ws : goal.shape_of-ws
 shape_of-ws c = c.add_list.auto.ws ∙ simp length-set
 
 pub returns : goal.returns
-returns c = let p = c.requires in
-    let q = p.1.1 in
-    contour-taken _ _ _ _ _ p.1.0 _ q.1 _ _ ((c.start_of.ensures.0)) ((c.end_of.ensures.0)) c.if-start_of-end_of.false _ _ _ _ _ p.0 q.0 _ c.at8-a.ensures.0 _ c.add_list.ensures
+returns c = contour-taken _ _ _ _ _ c.requires.keeping _ c.requires.r_value.1 _ _ ((c.start_of.ensures.0)) ((c.end_of.ensures.0)) c.if-start_of-end_of.false _ _ _ _ _ c.requires.reach c.requires.r_value.0 _ c.at8-a.ensures.0 _ c.add_list.ensures

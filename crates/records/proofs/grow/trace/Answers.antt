@@ -12,22 +12,16 @@ pub first_solid-requires : goal.first_solid-requires
 first_solid-requires c = start-at _ _ _ _ _ _ c.requires _ c.connections-cons.ensures
 
 pub walk_contour-requires : goal.walk_contour-requires
-walk_contour-requires c = let e = c.first_solid.ensures in
-    let p = c.requires in
-    (p, trace_dir _ _ _ _ _ _ p _ e.0 e.1 _ c.d-1.given.1)
+walk_contour-requires c = (c.requires, trace_dir _ _ _ _ _ _ c.requires _ c.first_solid.ensures.result_value c.first_solid.ensures.value _ c.d-1.given.1)
 
 pub returns-in-At : goal.returns-in-At
-returns-in-At c = let e = c.first_solid.ensures in
-    let p = c.requires in
-    let w = c.walk_contour.ensures in
-    record {
-      fact = trace_at _ _ _ _ _ _ p _ e.0 e.1 _ c.d-1.given.1 _ _ w.0 w.1.0;
-      cut_value = trace_cut_at _ _ _ _ _ _ p _ e.0 e.1 _ c.d-1.given.1 _ w.1.1;
-    }
+returns-in-At c = record {
+  fact = trace_at _ _ _ _ _ _ c.requires _ c.first_solid.ensures.result_value c.first_solid.ensures.value _ c.d-1.given.1 _ _ c.walk_contour.ensures.ws_after c.walk_contour.ensures.end_value;
+  cut_value = trace_cut_at _ _ _ _ _ _ c.requires _ c.first_solid.ensures.result_value c.first_solid.ensures.value _ c.d-1.given.1 _ c.walk_contour.ensures.cut_value;
+}
 
 pub returns-in-Nowhere : goal.returns-in-Nowhere
-returns-in-Nowhere c = let p = c.requires in
-    record {
-      fact = trace_none _ _ _ _ _ _ p _ c.first_solid.ensures.result_value c.enum_told-1.given.1;
-      cut_value = trace_cut_none _ _ _ _ _ _ p _ c.first_solid.ensures.result_value c.enum_told-1.given.1;
-    }
+returns-in-Nowhere c = record {
+  fact = trace_none _ _ _ _ _ _ c.requires _ c.first_solid.ensures.result_value c.enum_told-1.given.1;
+  cut_value = trace_cut_none _ _ _ _ _ _ c.requires _ c.first_solid.ensures.result_value c.enum_told-1.given.1;
+}

@@ -10,12 +10,10 @@ pub loop-j-init : goal.loop-j-init
 loop-j-init c = seen_none _ _ _ _ _ _ _ _ c.requires.count_le_first.0
 
 pub note-seen-requires : goal.note-seen-requires
-note-seen-requires c = let v = c.loop-j.invariant in
-    let i = c.loop-j-test.true in
-    record {
-      s_in_bounds = (omega (arith, i, c.requires.spans_in_bounds.0), c.requires.spans_in_bounds.1, omega (arith, i, c.requires.spans_in_bounds.0, c.requires.spans_in_bounds.2));
-      count_le_s = (v.low, c.requires.count_le_first.1, c.requires.count_le_first.2);
-    }
+note-seen-requires c = record {
+  s_in_bounds = (omega (arith, c.loop-j-test.true, c.requires.spans_in_bounds.0), c.requires.spans_in_bounds.1, omega (arith, c.loop-j-test.true, c.requires.spans_in_bounds.0, c.requires.spans_in_bounds.2));
+  count_le_s = (c.loop-j.invariant.low, c.requires.count_le_first.1, c.requires.count_le_first.2);
+}
 
 pub loop-j-preserved : goal.loop-j-preserved
 loop-j-preserved c = seen_next _ _ _ _ _ _ _ _ _ _ c.loop-j.invariant c.loop-j-test.true _ c.note-seen.ensures

@@ -28,12 +28,10 @@ pub overflow_cast-z : goal.overflow_cast-z
 overflow_cast-z c = omega (arith, c.loop-c-test.true, c.requires.0.grid, part_le c.loop-c.c c.args.w)
 
 pub walk_cell-seen-requires : goal.walk_cell-seen-requires
-walk_cell-seen-requires c = let v = c.loop-c.invariant in
-    let i = c.loop-c-test.true in
-    record {
-      spans_in_bounds = (walked_fits _ _ _ _ _ _ _ _ c.requires.0 _ _ _ v i _ c.at8-spans.ensures.0, c.requires.1, c.requires.0.few);
-      count_le_first = (v.low, omega (arith, i, c.requires.0.grid, rest_le c.loop-c.c c.args.w), omega (arith, i, c.requires.0.grid, part_le c.loop-c.c c.args.w));
-    }
+walk_cell-seen-requires c = record {
+  spans_in_bounds = (walked_fits _ _ _ _ _ _ _ _ c.requires.0 _ _ _ c.loop-c.invariant c.loop-c-test.true _ c.at8-spans.ensures.0, c.requires.1, c.requires.0.few);
+  count_le_first = (c.loop-c.invariant.low, omega (arith, c.loop-c-test.true, c.requires.0.grid, rest_le c.loop-c.c c.args.w), omega (arith, c.loop-c-test.true, c.requires.0.grid, part_le c.loop-c.c c.args.w));
+}
 
 pub overflow_add-first : goal.overflow_add-first
 overflow_add-first c = omega (arith, walked_fits _ _ _ _ _ _ _ _ c.requires.0 _ _ _ c.loop-c.invariant c.loop-c-test.true _ c.at8-spans.ensures.0, c.requires.0.few)

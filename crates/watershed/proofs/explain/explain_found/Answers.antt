@@ -30,6 +30,5 @@ explain_grown-r-requires c = grown_of_lem _ _ _ _ _ _ _ _ _ _ c.args.ws.now _ _ 
     c.grow_regions-g.ensures.fact c.if-g-ne-GOES_ON.false c.grow_regions-g.ensures.story_value
 
 pub returns : goal.returns
-returns c = let o = c.if-g-ne-GOES_ON.false in
-    explains_reason _ _ _ _ _ _ _ _ _ _ (c.wipe-2.ensures ∙ ap (λ (l : ℕ). replicate l 0) (c.explain_grown-r.auto.ws ∙ c.grow_regions-g.auto.ws)) _
-    (sym c.grow_regions-g.ensures.fact.stops ∙ o) (c.grow_regions-g.ensures.story_value o) c.explain_grown-r.ensures
+returns c = explains_reason _ _ _ _ _ _ _ _ _ _ (c.wipe-2.ensures ∙ ap (λ (l : ℕ). replicate l 0) (c.explain_grown-r.auto.ws ∙ c.grow_regions-g.auto.ws)) _
+    (sym c.grow_regions-g.ensures.fact.stops ∙ c.if-g-ne-GOES_ON.false) (c.grow_regions-g.ensures.story_value c.if-g-ne-GOES_ON.false) c.explain_grown-r.ensures

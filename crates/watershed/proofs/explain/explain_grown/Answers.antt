@@ -12,18 +12,15 @@ pub bounds-ids-span : goal.bounds-ids-span
 bounds-ids-span c = omega (arith, c.requires.span, (sized _ _ _ _ _ _ _ _ _ _ _ _ _ _ _ c.requires ((λ j. omega (arith, c.shared_slice_known-3-1.given j)))))
 
 pub returns-then-area-span-eq0 : goal.returns-then-area-span-eq0
-returns-then-area-span-eq0 c = let g = c.requires in
-    no_room_told _ _ _ _ _ _ _ _ c.without_room.ensures c.clear.ensures ((sized _ _ _ _ _ _ _ _ _ _ _ _ _ _ _ c.requires ((λ j. omega (arith, c.shared_slice_known-3-1.given j))))) (tells_not-walkable _ _) (not-walkable-at _ _ _ _ _ _ g.grew g.span c.if-area-span-eq0.true)
+returns-then-area-span-eq0 c = no_room_told _ _ _ _ _ _ _ _ c.without_room.ensures c.clear.ensures ((sized _ _ _ _ _ _ _ _ _ _ _ _ _ _ _ c.requires ((λ j. omega (arith, c.shared_slice_known-3-1.given j))))) (tells_not-walkable _ _) (not-walkable-at _ _ _ _ _ _ c.requires.grew c.requires.span c.if-area-span-eq0.true)
 
 pub returns-then-r : goal.returns-then-r
-returns-then-r c = let g = c.requires in
-    no_room_told _ _ _ _ _ _ _ _ c.without_room-then-r.ensures c.clear-then-r.ensures ((sized _ _ _ _ _ _ _ _ _ _ _ _ _ _ _ c.requires ((λ j. omega (arith, c.shared_slice_known-3-1.given j))))) (tells_painted _ _ _)
-    (painted-at _ _ _ _ _ _ g.grew g.span c.if-area-span-eq0.false c.if-r.true)
+returns-then-r c = no_room_told _ _ _ _ _ _ _ _ c.without_room-then-r.ensures c.clear-then-r.ensures ((sized _ _ _ _ _ _ _ _ _ _ _ _ _ _ _ c.requires ((λ j. omega (arith, c.shared_slice_known-3-1.given j))))) (tells_painted _ _ _)
+    (painted-at _ _ _ _ _ _ c.requires.grew c.requires.span c.if-area-span-eq0.false c.if-r.true)
 
 pub returns-then-r-eq0 : goal.returns-then-r-eq0
-returns-then-r-eq0 c = let g = c.requires in
-    no_room_told _ _ _ _ _ _ _ _ c.without_room-then-r-eq0.ensures c.clear-then-r-eq0.ensures ((sized _ _ _ _ _ _ _ _ _ _ _ _ _ _ _ c.requires ((λ j. omega (arith, c.shared_slice_known-3-1.given j))))) (tells_never_reached _ _)
-    (never_reached-at _ _ _ _ _ _ g.grew g.span c.if-area-span-eq0.false c.if-r.false c.if-r-eq0.true)
+returns-then-r-eq0 c = no_room_told _ _ _ _ _ _ _ _ c.without_room-then-r-eq0.ensures c.clear-then-r-eq0.ensures ((sized _ _ _ _ _ _ _ _ _ _ _ _ _ _ _ c.requires ((λ j. omega (arith, c.shared_slice_known-3-1.given j))))) (tells_never_reached _ _)
+    (never_reached-at _ _ _ _ _ _ c.requires.grew c.requires.span c.if-area-span-eq0.false c.if-r.false c.if-r-eq0.true)
 
 pub explain_region-requires : goal.explain_region-requires
 explain_region-requires c = (c.requires, record { walkable = c.if-area-span-eq0.false; plain = c.if-r.false; some = c.if-r-eq0.false })

@@ -47,23 +47,21 @@ pub bounds-ids-span-2 : goal.bounds-ids-span-2
 bounds-ids-span-2 c = omega (arith, c.requires.0.span, sized _ _ _ _ _ _ _ _ _ _ _ _ _ _ _ c.requires.0 ((λ j. omega (arith, c.shared_slice_known-3-1.given j))), c.merge_and_filter_told-t.auto.ids)
 
 pub lay_trail-long-requires : goal.lay_trail-long-requires
-lay_trail-long-requires c = let z = c.if-t-eq0.false in (
+lay_trail-long-requires c = (
   omega (arith, noted_room _ _ _ _ _ _ _ _ _ _ _ _ _ _ _ c.requires.0 ((λ j. omega (arith, c.shared_slice_known-3-1.given j))) _ c.links_past-end.ensures _ c.ready_records.auto.ws c.ready_records.ensures _ c.build_in.auto.ws c.build_in.ensures _ _ _ _ _ _ _ _ refl c.merge_and_filter_told-t.ensures, c.merge_and_filter_told-t.auto.ws, c.build_in.auto.ws),
-  omega (arith, laid_room _ _ _ _ _ _ _ _ _ _ _ _ _ _ _ c.requires.0 ((λ j. omega (arith, c.shared_slice_known-3-1.given j))) _ c.links_past-end.ensures _ c.ready_records.auto.ws c.ready_records.ensures _ c.build_in.auto.ws c.build_in.ensures _ _ _ _ _ _ _ _ refl c.merge_and_filter_told-t.ensures z, c.merge_and_filter_told-t.auto.ids, sized _ _ _ _ _ _ _ _ _ _ _ _ _ _ _ c.requires.0 ((λ j. omega (arith, c.shared_slice_known-3-1.given j)))),
+  omega (arith, laid_room _ _ _ _ _ _ _ _ _ _ _ _ _ _ _ c.requires.0 ((λ j. omega (arith, c.shared_slice_known-3-1.given j))) _ c.links_past-end.ensures _ c.ready_records.auto.ws c.ready_records.ensures _ c.build_in.auto.ws c.build_in.ensures _ _ _ _ _ _ _ _ refl c.merge_and_filter_told-t.ensures c.if-t-eq0.false, c.merge_and_filter_told-t.auto.ids, sized _ _ _ _ _ _ _ _ _ _ _ _ _ _ _ c.requires.0 ((λ j. omega (arith, c.shared_slice_known-3-1.given j)))),
 )
 
 pub in_room-requires : goal.in_room-requires
-in_room-requires c = let z = c.if-t-eq0.false in
-    omega (arith, c.lay_trail-long.ensures.0, laid_room _ _ _ _ _ _ _ _ _ _ _ _ _ _ _ c.requires.0 ((λ j. omega (arith, c.shared_slice_known-3-1.given j))) _ c.links_past-end.ensures _ c.ready_records.auto.ws c.ready_records.ensures _ c.build_in.auto.ws c.build_in.ensures _ _ _ _ _ _ _ _ refl c.merge_and_filter_told-t.ensures z, short _ _ _ _ _ _ _ _ _ _ _ _ _ _ _ c.requires.0 ((λ j. omega (arith, c.shared_slice_known-3-1.given j))))
+in_room-requires c = omega (arith, c.lay_trail-long.ensures.0, laid_room _ _ _ _ _ _ _ _ _ _ _ _ _ _ _ c.requires.0 ((λ j. omega (arith, c.shared_slice_known-3-1.given j))) _ c.links_past-end.ensures _ c.ready_records.auto.ws c.ready_records.ensures _ c.build_in.auto.ws c.build_in.ensures _ _ _ _ _ _ _ _ refl c.merge_and_filter_told-t.ensures c.if-t-eq0.false, short _ _ _ _ _ _ _ _ _ _ _ _ _ _ _ c.requires.0 ((λ j. omega (arith, c.shared_slice_known-3-1.given j))))
 
 pub shape_of-ws : goal.shape_of-ws
 shape_of-ws c = c.merge_and_filter_told-t.auto.ws ∙ c.build_in.auto.ws ∙ c.ready_records.auto.ws
 
 pub returns : goal.returns
-returns c = let l = c.lay_trail-long.ensures in
-    let d = c.less.ensures ∙ ap (λ (f : ℕ). f - 1) c.first_id.ensures in
+returns c = let d = c.less.ensures ∙ ap (λ (f : ℕ). f - 1) c.first_id.ensures in
     let t = trail (mergings_from c.merge_and_filter_told-t.new.ws c.links_past-end.result c.merge_and_filter_told-t.result.merges)
     (get_or c.args.ids.now c.args.span 0) in
-    room_told _ _ _ _ _ _ t _ l.1 (c.merge_and_filter_told-t.auto.ids ∙ sized _ _ _ _ _ _ _ _ _ _ _ _ _ _ _ c.requires.0 ((λ j. omega (arith, c.shared_slice_known-3-1.given j)))) (c.in_room.ensures _ t l.0)
+    room_told _ _ _ _ _ _ t _ c.lay_trail-long.ensures.1 (c.merge_and_filter_told-t.auto.ids ∙ sized _ _ _ _ _ _ _ _ _ _ _ _ _ _ _ c.requires.0 ((λ j. omega (arith, c.shared_slice_known-3-1.given j)))) (c.in_room.ensures _ t c.lay_trail-long.ensures.0)
     (has_room_at _ _ _ _ _ _ c.requires.0.grew c.requires.0.span c.requires.1 _ _ _ _ _ (told_id _ _ _ _ _ _ _ _ _ _ _ _ _ _ _ c.requires.0 ((λ j. omega (arith, c.shared_slice_known-3-1.given j))) _ c.links_past-end.ensures _ c.ready_records.auto.ws c.ready_records.ensures _ c.build_in.auto.ws c.build_in.ensures _ _ _ _ _ _ _ _ refl c.merge_and_filter_told-t.ensures) c.if-t-eq0.false refl (ap (λ (y : Story). y.from) c.requires.0.told) (told-trail _ _ _ _ _ _ _ _ _ _ _ _ _ _ _ c.requires.0 ((λ j. omega (arith, c.shared_slice_known-3-1.given j))) _ c.links_past-end.ensures _ c.ready_records.auto.ws c.ready_records.ensures _ c.build_in.auto.ws c.build_in.ensures _ _ _ _ _ _ _ _ refl c.merge_and_filter_told-t.ensures)
     (told_number _ _ _ _ _ _ _ _ _ _ _ _ _ _ _ c.requires.0 ((λ j. omega (arith, c.shared_slice_known-3-1.given j))) _ c.links_past-end.ensures _ c.ready_records.auto.ws c.ready_records.ensures _ c.build_in.auto.ws c.build_in.ensures _ _ _ _ _ _ _ _ refl c.merge_and_filter_told-t.ensures _ _ d c.lower-number.ensures))

@@ -9,16 +9,14 @@ pub find_regions-f-requires : goal.find_regions-f-requires
 find_regions-f-requires c = admitted _ _ _ _ _ c.check_regions.result c.check_regions.ensures c.enum_told-1.given.1
 
 pub stop_refusal-requires : goal.stop_refusal-requires
-stop_refusal-requires c = let e = c.find_regions-f.ensures in
-    stop_is _ _ _ c.args.workspace.now c.args.ids.now _ c.check_regions.ensures c.enum_told-1.given.1 _ _ _ e.0 _ e.1.0 c.if-f-ne-GOES_ON.true
+stop_refusal-requires c = stop_is _ _ _ c.args.workspace.now c.args.ids.now _ c.check_regions.ensures c.enum_told-1.given.1 _ _ _ c.find_regions-f.ensures.fact _ c.find_regions-f.ensures.ws_after c.if-f-ne-GOES_ON.true
 
 pub returns-then-f-ne-GOES_ON : goal.returns-then-f-ne-GOES_ON
-returns-then-f-ne-GOES_ON c = let e = c.find_regions-f.ensures in
-    record {
-      fact = regions_stopped _ _ _ c.args.workspace.now c.args.ids.now _ c.check_regions.ensures c.enum_told-1.given.1 _ _ _ e.0 _ e.1.0 _ _
-          c.stop_refusal.ensures c.if-f-ne-GOES_ON.true;
-      rooms = refused_no_rooms _ _ _ _ _;
-    }
+returns-then-f-ne-GOES_ON c = record {
+  fact = regions_stopped _ _ _ c.args.workspace.now c.args.ids.now _ c.check_regions.ensures c.enum_told-1.given.1 _ _ _ c.find_regions-f.ensures.fact _ c.find_regions-f.ensures.ws_after _ _
+      c.stop_refusal.ensures c.if-f-ne-GOES_ON.true;
+  rooms = refused_no_rooms _ _ _ _ _;
+}
 
 pub returns-in-Refused : goal.returns-in-Refused
 returns-in-Refused c = record {
@@ -27,11 +25,8 @@ returns-in-Refused c = record {
 }
 
 pub returns-else-f-ne-GOES_ON : goal.returns-else-f-ne-GOES_ON
-returns-else-f-ne-GOES_ON c = let e = c.find_regions-f.ensures in
-    let ws = c.args.workspace.now in
-    let ids = c.args.ids.now in
-    let done = regions_done _ _ _ ws ids _ c.check_regions.ensures c.enum_told-1.given.1 _ _ _ e.0 _ e.1.0 _ _ _ _ _ c.if-f-ne-GOES_ON.false e.1.1 c.give_form-x.ensures in
+returns-else-f-ne-GOES_ON c = let done = regions_done _ _ _ c.args.workspace.now c.args.ids.now _ c.check_regions.ensures c.enum_told-1.given.1 _ _ _ c.find_regions-f.ensures.fact _ c.find_regions-f.ensures.ws_after _ _ _ _ _ c.if-f-ne-GOES_ON.false c.find_regions-f.ensures.bytes c.give_form-x.ensures in
     record {
       fact = done;
-      rooms = call_gives_rooms _ _ _ _ _ ws ids _ _ _ e.1.1 done;
+      rooms = call_gives_rooms _ _ _ _ _ c.args.workspace.now c.args.ids.now _ _ _ c.find_regions-f.ensures.bytes done;
     }

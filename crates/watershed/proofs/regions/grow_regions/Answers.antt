@@ -39,11 +39,10 @@ shape_of-ws-then-g-ne-GOES_ON c = c.grow-g.auto.ws ∙ c.clear_part.auto.ws ∙ 
 
 pub returns-then-g-ne-GOES_ON : goal.returns-then-g-ne-GOES_ON
 returns-then-g-ne-GOES_ON c = let size = c.grow-g.auto.ids ∙ c.clear.auto.s in
-    let stopped = c.if-g-ne-GOES_ON.true in
     record {
       fact = put_back _ _ _ _ _ _ _ _ _ c.requires.0 _ c.requires.1 _ refl _ c.copy_part.auto.ws c.copy_part.ensures.0 _ c.clear_part.auto.ws c.clear_part.ensures.1
-          _ _ _ _ _ _ c.grow-g.ensures.fact c.grow-g.auto.ws _ _ size c.put_back.ensures stopped;
-      story_value = λ o. absurd (stopped o);
+          _ _ _ _ _ _ c.grow-g.ensures.fact c.grow-g.auto.ws _ _ size c.put_back.ensures c.if-g-ne-GOES_ON.true;
+      story_value = λ o. absurd (c.if-g-ne-GOES_ON.true o);
     }
 
 pub returns-else-g-ne-GOES_ON : goal.returns-else-g-ne-GOES_ON

@@ -5,9 +5,7 @@ use Rattle.watershed.proofs.StageLaws.{readied_more, readied_none}
 use Rattle.watershed.proofs.regions.ready_records.Goals as goal
 
 pub returns-then-from-to : goal.returns-then-from-to
-returns-then-from-to c = let z = c.clear_part.ensures in
-    let e = c.floors_from-to.ensures in
-    readied_more _ _ _ _ c.requires.4 (rw e at z).0 (rw e at z).1
+returns-then-from-to c = readied_more _ _ _ _ c.requires.4 (rw c.floors_from-to.ensures at c.clear_part.ensures).0 (rw c.floors_from-to.ensures at c.clear_part.ensures).1
 
 pub returns-else-from-to : goal.returns-else-from-to
 returns-else-from-to c = readied_none _ _ _ c.requires.4 (omega (arith, c.if-from-to.false, c.floors_from-to.ensures))

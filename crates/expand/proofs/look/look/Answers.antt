@@ -16,31 +16,40 @@ pub returns-then-a-eq-NO_SPAN : goal.returns-then-a-eq-NO_SPAN
 returns-then-a-eq-NO_SPAN c = look_none _ _ _ _ _ _ _ _ _ _ c.requires.sight.0 c.requires.sight.1 c.requires.sight.2 c.neighbour-a.ensures c.if-a-eq-NO_SPAN.true c.requires.sight.3
 
 pub at8-requires : goal.at8-requires
-at8-requires c = (sight_inside _ _ _ _ _ _ _ _ (record { id = 0; far = 0 }) false c.requires.sight.0 c.requires.sight.1 c.requires.sight.2 c.neighbour-a.ensures c.if-a-eq-NO_SPAN.false)
+at8-requires c = let inside : c.neighbour-a.result.0 < length c.args.area.now = sight_inside _ _ _ _ _ _ _ _ (record { id = 0; far = 0 }) false c.requires.sight.0 c.requires.sight.1 c.requires.sight.2 c.neighbour-a.ensures c.if-a-eq-NO_SPAN.false in
+    inside
 
 pub returns-then-at8-own : goal.returns-then-at8-own
-returns-then-at8-own c = look_area _ _ _ _ _ _ _ _ _ _ c.requires.sight.0 c.requires.sight.1 c.requires.sight.2 c.neighbour-a.ensures ((sight_inside _ _ _ _ _ _ _ _ (record { id = 0; far = 0 }) false c.requires.sight.0 c.requires.sight.1 c.requires.sight.2 c.neighbour-a.ensures c.if-a-eq-NO_SPAN.false)) _ c.at8.ensures.0 c.if-at8-own.true
+returns-then-at8-own c = let inside : c.neighbour-a.result.0 < length c.args.area.now = sight_inside _ _ _ _ _ _ _ _ (record { id = 0; far = 0 }) false c.requires.sight.0 c.requires.sight.1 c.requires.sight.2 c.neighbour-a.ensures c.if-a-eq-NO_SPAN.false in
+    look_area _ _ _ _ _ _ _ _ _ _ c.requires.sight.0 c.requires.sight.1 c.requires.sight.2 c.neighbour-a.ensures inside _ c.at8.ensures.0 c.if-at8-own.true
 
 pub id_at-r-requires : goal.id_at-r-requires
-id_at-r-requires c = omega (arith, (sight_inside _ _ _ _ _ _ _ _ (record { id = 0; far = 0 }) false c.requires.sight.0 c.requires.sight.1 c.requires.sight.2 c.neighbour-a.ensures c.if-a-eq-NO_SPAN.false), c.requires.sight.0.idents)
+id_at-r-requires c = let inside : c.neighbour-a.result.0 < length c.args.area.now = sight_inside _ _ _ _ _ _ _ _ (record { id = 0; far = 0 }) false c.requires.sight.0 c.requires.sight.1 c.requires.sight.2 c.neighbour-a.ensures c.if-a-eq-NO_SPAN.false in
+    omega (arith, inside, c.requires.sight.0.idents)
 
 pub returns-then-r : goal.returns-then-r
-returns-then-r c = look_zero _ _ _ _ _ _ _ _ _ _ c.requires.sight.0 c.requires.sight.1 c.requires.sight.2 c.neighbour-a.ensures ((sight_inside _ _ _ _ _ _ _ _ (record { id = 0; far = 0 }) false c.requires.sight.0 c.requires.sight.1 c.requires.sight.2 c.neighbour-a.ensures c.if-a-eq-NO_SPAN.false)) _ c.id_at-r.ensures c.if-r.true
+returns-then-r c = let inside : c.neighbour-a.result.0 < length c.args.area.now = sight_inside _ _ _ _ _ _ _ _ (record { id = 0; far = 0 }) false c.requires.sight.0 c.requires.sight.1 c.requires.sight.2 c.neighbour-a.ensures c.if-a-eq-NO_SPAN.false in
+    look_zero _ _ _ _ _ _ _ _ _ _ c.requires.sight.0 c.requires.sight.1 c.requires.sight.2 c.neighbour-a.ensures inside _ c.id_at-r.ensures c.if-r.true
 
 pub returns-then-is_border : goal.returns-then-is_border
-returns-then-is_border c = look_flag _ _ _ _ _ _ _ _ _ _ c.requires.sight.0 c.requires.sight.1 c.requires.sight.2 c.neighbour-a.ensures ((sight_inside _ _ _ _ _ _ _ _ (record { id = 0; far = 0 }) false c.requires.sight.0 c.requires.sight.1 c.requires.sight.2 c.neighbour-a.ensures c.if-a-eq-NO_SPAN.false)) _ c.id_at-r.ensures _ c.is_border.ensures c.if-is_border.true
+returns-then-is_border c = let inside : c.neighbour-a.result.0 < length c.args.area.now = sight_inside _ _ _ _ _ _ _ _ (record { id = 0; far = 0 }) false c.requires.sight.0 c.requires.sight.1 c.requires.sight.2 c.neighbour-a.ensures c.if-a-eq-NO_SPAN.false in
+    look_flag _ _ _ _ _ _ _ _ _ _ c.requires.sight.0 c.requires.sight.1 c.requires.sight.2 c.neighbour-a.ensures inside _ c.id_at-r.ensures _ c.is_border.ensures c.if-is_border.true
 
 pub source_at-f-requires : goal.source_at-f-requires
-source_at-f-requires c = omega (arith, (sight_inside _ _ _ _ _ _ _ _ (record { id = 0; far = 0 }) false c.requires.sight.0 c.requires.sight.1 c.requires.sight.2 c.neighbour-a.ensures c.if-a-eq-NO_SPAN.false), c.requires.sight.0.low, c.requires.sight.0.room)
+source_at-f-requires c = let inside : c.neighbour-a.result.0 < length c.args.area.now = sight_inside _ _ _ _ _ _ _ _ (record { id = 0; far = 0 }) false c.requires.sight.0 c.requires.sight.1 c.requires.sight.2 c.neighbour-a.ensures c.if-a-eq-NO_SPAN.false in
+    omega (arith, inside, c.requires.sight.0.low, c.requires.sight.0.room)
 
 pub returns-then-f-gt-MOST_SOURCE : goal.returns-then-f-gt-MOST_SOURCE
-returns-then-f-gt-MOST_SOURCE c = look_stray _ _ _ _ _ _ _ _ _ _ c.requires.sight.0 c.requires.sight.1 c.requires.sight.2 c.neighbour-a.ensures ((sight_inside _ _ _ _ _ _ _ _ (record { id = 0; far = 0 }) false c.requires.sight.0 c.requires.sight.1 c.requires.sight.2 c.neighbour-a.ensures c.if-a-eq-NO_SPAN.false)) _ c.id_at-r.ensures _ c.is_border.ensures
-    _ c.source_at-f.ensures _ c.at8.ensures.0 c.if-at8-own.left c.if-r.left c.if-is_border.false c.requires.far_bound c.if-f-gt-MOST_SOURCE.true
+returns-then-f-gt-MOST_SOURCE c = let inside : c.neighbour-a.result.0 < length c.args.area.now = sight_inside _ _ _ _ _ _ _ _ (record { id = 0; far = 0 }) false c.requires.sight.0 c.requires.sight.1 c.requires.sight.2 c.neighbour-a.ensures c.if-a-eq-NO_SPAN.false in
+    look_stray _ _ _ _ _ _ _ _ _ _ c.requires.sight.0 c.requires.sight.1 c.requires.sight.2 c.neighbour-a.ensures inside _ c.id_at-r.ensures _ c.is_border.ensures
+    _ c.source_at-f.ensures _ c.at8.ensures.0 c.if-at8-own.false c.if-r.false c.if-is_border.false c.requires.far_bound c.if-f-gt-MOST_SOURCE.true
 
 pub returns-then-far-t : goal.returns-then-far-t
-returns-then-far-t c = look-take _ _ _ _ _ _ _ _ _ _ c.requires.sight.0 c.requires.sight.1 c.requires.sight.2 c.neighbour-a.ensures ((sight_inside _ _ _ _ _ _ _ _ (record { id = 0; far = 0 }) false c.requires.sight.0 c.requires.sight.1 c.requires.sight.2 c.neighbour-a.ensures c.if-a-eq-NO_SPAN.false)) _ c.id_at-r.ensures _ c.is_border.ensures
-    _ c.source_at-f.ensures _ refl c.if-f-gt-MOST_SOURCE.false _ c.at8.ensures.0 c.if-at8-own.left c.if-r.left c.if-is_border.false c.if-far-t.true
+returns-then-far-t c = let inside : c.neighbour-a.result.0 < length c.args.area.now = sight_inside _ _ _ _ _ _ _ _ (record { id = 0; far = 0 }) false c.requires.sight.0 c.requires.sight.1 c.requires.sight.2 c.neighbour-a.ensures c.if-a-eq-NO_SPAN.false in
+    look-take _ _ _ _ _ _ _ _ _ _ c.requires.sight.0 c.requires.sight.1 c.requires.sight.2 c.neighbour-a.ensures inside _ c.id_at-r.ensures _ c.is_border.ensures
+    _ c.source_at-f.ensures _ refl c.if-f-gt-MOST_SOURCE.false _ c.at8.ensures.0 c.if-at8-own.false c.if-r.false c.if-is_border.false c.if-far-t.true
 
 pub returns : goal.returns
-returns c = look-far _ _ _ _ _ _ _ _ _ _ c.requires.sight.0 c.requires.sight.1 c.requires.sight.2 c.neighbour-a.ensures ((sight_inside _ _ _ _ _ _ _ _ (record { id = 0; far = 0 }) false c.requires.sight.0 c.requires.sight.1 c.requires.sight.2 c.neighbour-a.ensures c.if-a-eq-NO_SPAN.false)) _ c.id_at-r.ensures _ c.is_border.ensures
+returns c = let inside : c.neighbour-a.result.0 < length c.args.area.now = sight_inside _ _ _ _ _ _ _ _ (record { id = 0; far = 0 }) false c.requires.sight.0 c.requires.sight.1 c.requires.sight.2 c.neighbour-a.ensures c.if-a-eq-NO_SPAN.false in
+    look-far _ _ _ _ _ _ _ _ _ _ c.requires.sight.0 c.requires.sight.1 c.requires.sight.2 c.neighbour-a.ensures inside _ c.id_at-r.ensures _ c.is_border.ensures
     _ c.source_at-f.ensures _ refl c.if-f-gt-MOST_SOURCE.false c.if-far-t.false

@@ -21,12 +21,12 @@ pub neighbour-requires-then-gives-3 : goal.neighbour-requires-then-gives-3
 neighbour-requires-then-gives-3 c = (c.requires.close, sight_small _ _ _ _ _ c.requires, omega arith, sight_slot _ _ _ _ _ c.requires 2 (omega arith))
 
 pub returns-then-gives-3 : goal.returns-then-gives-3
-returns-then-gives-3 c = source_2 _ _ _ _ _ c.gives.ensures c.if-gives.left _ c.gives-2.ensures c.if-gives-2.false _ c.gives-3.ensures c.if-gives-3.true _
+returns-then-gives-3 c = source_2 _ _ _ _ _ c.gives.ensures c.if-gives.false _ c.gives-2.ensures c.if-gives-2.false _ c.gives-3.ensures c.if-gives-3.true _
     (side_is _ _ _ _ _ c.requires 2 (omega arith) _ c.neighbour-then-gives-3.ensures)
 
 pub neighbour-requires-2 : goal.neighbour-requires-2
 neighbour-requires-2 c = (c.requires.close, sight_small _ _ _ _ _ c.requires, omega arith, sight_slot _ _ _ _ _ c.requires 3 (omega arith))
 
 pub returns : goal.returns
-returns c = source_3 _ _ _ _ _ c.gives.ensures c.if-gives.left _ c.gives-2.ensures c.if-gives-2.false _ c.gives-3.ensures c.if-gives-3.false _
+returns c = source_3 _ _ _ _ _ c.gives.ensures c.if-gives.false _ c.gives-2.ensures c.if-gives-2.false _ c.gives-3.ensures c.if-gives-3.false _
     (side_is _ _ _ _ _ c.requires 3 (omega arith) _ c.neighbour-2.ensures)

@@ -10,16 +10,21 @@ pub returns-then-u-eq-NO_SPAN : goal.returns-then-u-eq-NO_SPAN
 returns-then-u-eq-NO_SPAN c = search (rules, bears-none)
 
 pub bounds-area-u : goal.bounds-area-u
-bounds-area-u c = (c.requires.area_len_bound.1 c.if-u-eq-NO_SPAN.false)
+bounds-area-u c = let inside : c.args.span.0 < length c.args.area.now = c.requires.area_len_bound.1 c.if-u-eq-NO_SPAN.false in
+    inside
 
 pub returns-then-area-u : goal.returns-then-area-u
-returns-then-area-u c = bears-other_area _ _ _ _ ((c.requires.area_len_bound.1 c.if-u-eq-NO_SPAN.false)) c.if-area-u.true
+returns-then-area-u c = let inside : c.args.span.0 < length c.args.area.now = c.requires.area_len_bound.1 c.if-u-eq-NO_SPAN.false in
+    bears-other_area _ _ _ _ inside c.if-area-u.true
 
 pub offset_bounds-ids-u : goal.offset_bounds-ids-u
-offset_bounds-ids-u c = omega (arith, (c.requires.area_len_bound.1 c.if-u-eq-NO_SPAN.false))
+offset_bounds-ids-u c = let inside : c.args.span.0 < length c.args.area.now = c.requires.area_len_bound.1 c.if-u-eq-NO_SPAN.false in
+    omega (arith, inside)
 
 pub bounds-ids-u : goal.bounds-ids-u
-bounds-ids-u c = omega (arith, (c.requires.area_len_bound.1 c.if-u-eq-NO_SPAN.false))
+bounds-ids-u c = let inside : c.args.span.0 < length c.args.area.now = c.requires.area_len_bound.1 c.if-u-eq-NO_SPAN.false in
+    omega (arith, inside)
 
 pub returns : goal.returns
-returns c = bears-same_area _ _ _ _ _ ((c.requires.area_len_bound.1 c.if-u-eq-NO_SPAN.false)) c.if-area-u.false c.other.ensures
+returns c = let inside : c.args.span.0 < length c.args.area.now = c.requires.area_len_bound.1 c.if-u-eq-NO_SPAN.false in
+    bears-same_area _ _ _ _ _ inside c.if-area-u.false c.other.ensures

@@ -15,37 +15,47 @@ pub neighbour-t-requires : goal.neighbour-t-requires
 neighbour-t-requires c = (c.requires.0.place, omega (arith, c.requires.0.span, net_few _ _ _ c.requires.0.closed), c.requires.2, slot_in _ _ _ _ _ _ 0 c.requires.0 c.requires.2)
 
 pub bounds-area-t : goal.bounds-area-t
-bounds-area-t c = (leads_inside _ _ _ _ _ _ _ c.requires.0 c.requires.2 c.neighbour-t.ensures c.if-cons-d.false)
+bounds-area-t c = let inside : c.neighbour-t.result.0 < length c.args.area.now = leads_inside _ _ _ _ _ _ _ c.requires.0 c.requires.2 c.neighbour-t.ensures c.if-cons-d.false in
+    inside
 
 pub returns-then-area-t : goal.returns-then-area-t
-returns-then-area-t c = sees-other_area _ _ _ _ _ _ _ _ c.requires.0 c.requires.2 _ c.neighbour-t.ensures ((leads_inside _ _ _ _ _ _ _ c.requires.0 c.requires.2 c.neighbour-t.ensures c.if-cons-d.false)) c.if-area-t.true
+returns-then-area-t c = let inside : c.neighbour-t.result.0 < length c.args.area.now = leads_inside _ _ _ _ _ _ _ c.requires.0 c.requires.2 c.neighbour-t.ensures c.if-cons-d.false in
+    sees-other_area _ _ _ _ _ _ _ _ c.requires.0 c.requires.2 _ c.neighbour-t.ensures inside c.if-area-t.true
 
 pub offset_bounds-ids-t : goal.offset_bounds-ids-t
-offset_bounds-ids-t c = omega (arith, (leads_inside _ _ _ _ _ _ _ c.requires.0 c.requires.2 c.neighbour-t.ensures c.if-cons-d.false))
+offset_bounds-ids-t c = let inside : c.neighbour-t.result.0 < length c.args.area.now = leads_inside _ _ _ _ _ _ _ c.requires.0 c.requires.2 c.neighbour-t.ensures c.if-cons-d.false in
+    omega (arith, inside)
 
 pub bounds-ids-t : goal.bounds-ids-t
-bounds-ids-t c = omega (arith, (leads_inside _ _ _ _ _ _ _ c.requires.0 c.requires.2 c.neighbour-t.ensures c.if-cons-d.false))
+bounds-ids-t c = let inside : c.neighbour-t.result.0 < length c.args.area.now = leads_inside _ _ _ _ _ _ _ c.requires.0 c.requires.2 c.neighbour-t.ensures c.if-cons-d.false in
+    omega (arith, inside)
 
 pub returns-then-is_border : goal.returns-then-is_border
-returns-then-is_border c = sees-flagged _ _ _ _ _ _ _ _ c.requires.0 c.requires.2 _ c.neighbour-t.ensures ((leads_inside _ _ _ _ _ _ _ c.requires.0 c.requires.2 c.neighbour-t.ensures c.if-cons-d.false)) c.if-area-t.false _ c.is_border.ensures c.if-is_border.true
+returns-then-is_border c = let inside : c.neighbour-t.result.0 < length c.args.area.now = leads_inside _ _ _ _ _ _ _ c.requires.0 c.requires.2 c.neighbour-t.ensures c.if-cons-d.false in
+    sees-flagged _ _ _ _ _ _ _ _ c.requires.0 c.requires.2 _ c.neighbour-t.ensures inside c.if-area-t.false _ c.is_border.ensures c.if-is_border.true
 
 pub returns-then-other : goal.returns-then-other
-returns-then-other c = sees-other_id _ _ _ _ _ _ _ _ c.requires.0 c.requires.2 _ c.neighbour-t.ensures ((leads_inside _ _ _ _ _ _ _ c.requires.0 c.requires.2 c.neighbour-t.ensures c.if-cons-d.false)) c.if-area-t.left _ c.is_border.ensures c.if-is_border.false
+returns-then-other c = let inside : c.neighbour-t.result.0 < length c.args.area.now = leads_inside _ _ _ _ _ _ _ c.requires.0 c.requires.2 c.neighbour-t.ensures c.if-cons-d.false in
+    sees-other_id _ _ _ _ _ _ _ _ c.requires.0 c.requires.2 _ c.neighbour-t.ensures inside c.if-area-t.false _ c.is_border.ensures c.if-is_border.false
     _ c.other.ensures c.if-other.true
 
 pub neighbour-corner-requires : goal.neighbour-corner-requires
-neighbour-corner-requires c = (c.requires.0.place, omega (arith, (leads_inside _ _ _ _ _ _ _ c.requires.0 c.requires.2 c.neighbour-t.ensures c.if-cons-d.false), net_few _ _ _ c.requires.0.closed), turned _ _, omega (arith, (leads_inside _ _ _ _ _ _ _ c.requires.0 c.requires.2 c.neighbour-t.ensures c.if-cons-d.false), c.requires.0.room, turned c.args.d 1))
+neighbour-corner-requires c = let inside : c.neighbour-t.result.0 < length c.args.area.now = leads_inside _ _ _ _ _ _ _ c.requires.0 c.requires.2 c.neighbour-t.ensures c.if-cons-d.false in
+    (c.requires.0.place, omega (arith, inside, net_few _ _ _ c.requires.0.closed), turned _ _, omega (arith, inside, c.requires.0.room, turned c.args.d 1))
 
 pub bears-requires : goal.bears-requires
-bears-requires c = record {
-  area_len_bound = (net_few _ _ _ c.requires.0.closed, net_inside _ _ _ _ _ _ c.requires.0.closed c.requires.0.room ((leads_inside _ _ _ _ _ _ _ c.requires.0 c.requires.2 c.neighbour-t.ensures c.if-cons-d.false)) (turned _ _) c.neighbour-corner.ensures);
-  ids_len = (c.requires.1, c.requires.3);
-}
+bears-requires c = let inside : c.neighbour-t.result.0 < length c.args.area.now = leads_inside _ _ _ _ _ _ _ c.requires.0 c.requires.2 c.neighbour-t.ensures c.if-cons-d.false in
+    record {
+      area_len_bound = (net_few _ _ _ c.requires.0.closed, net_inside _ _ _ _ _ _ c.requires.0.closed c.requires.0.room inside (turned _ _) c.neighbour-corner.ensures);
+      ids_len = (c.requires.1, c.requires.3);
+    }
 
 pub returns-then-bears : goal.returns-then-bears
-returns-then-bears c = sees-corner _ _ _ _ _ _ _ _ c.requires.0 c.requires.2 _ c.neighbour-t.ensures ((leads_inside _ _ _ _ _ _ _ c.requires.0 c.requires.2 c.neighbour-t.ensures c.if-cons-d.false)) c.if-area-t.left _ c.is_border.ensures c.if-is_border.left
+returns-then-bears c = let inside : c.neighbour-t.result.0 < length c.args.area.now = leads_inside _ _ _ _ _ _ _ c.requires.0 c.requires.2 c.neighbour-t.ensures c.if-cons-d.false in
+    sees-corner _ _ _ _ _ _ _ _ c.requires.0 c.requires.2 _ c.neighbour-t.ensures inside c.if-area-t.false _ c.is_border.ensures c.if-is_border.false
     _ c.other.ensures c.if-other.false _ c.neighbour-corner.ensures _ c.bears.ensures c.if-bears.true
 
 pub returns : goal.returns
-returns c = sees-nothing _ _ _ _ _ _ _ _ c.requires.0 c.requires.2 _ c.neighbour-t.ensures ((leads_inside _ _ _ _ _ _ _ c.requires.0 c.requires.2 c.neighbour-t.ensures c.if-cons-d.false)) c.if-area-t.left _ c.is_border.ensures c.if-is_border.left
+returns c = let inside : c.neighbour-t.result.0 < length c.args.area.now = leads_inside _ _ _ _ _ _ _ c.requires.0 c.requires.2 c.neighbour-t.ensures c.if-cons-d.false in
+    sees-nothing _ _ _ _ _ _ _ _ c.requires.0 c.requires.2 _ c.neighbour-t.ensures inside c.if-area-t.false _ c.is_border.ensures c.if-is_border.false
     _ c.other.ensures c.if-other.false _ c.neighbour-corner.ensures _ c.bears.ensures c.if-bears.false

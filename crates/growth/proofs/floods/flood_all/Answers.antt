@@ -9,20 +9,23 @@ use Rattle.growth.proofs.FloodLaws.{FloodedTo, flooded_start, flooded_lent, floo
 use Rattle.growth.proofs.floods.flood_all.Goals as goal
 
 pub loop-j-init : goal.loop-j-init
-loop-j-init c = (flooded_start _ _ _ _ _ _ _ _ _ _ c.requires.lent.0 c.requires.entries_at ((omega (arith, c.requires.lent.1.low, c.requires.lent.1.apart))) c.requires.blank.1, told-start _ _ _ _ _ _ _ _ _ _ c.requires.lent.0 c.requires.entries_at ((omega (arith, c.requires.lent.1.low, c.requires.lent.1.apart))) _)
+loop-j-init c = let past : length c.args.area.now ≤ c.args.at.table = omega (arith, c.requires.lent.1.low, c.requires.lent.1.apart) in
+    (flooded_start _ _ _ _ _ _ _ _ _ _ c.requires.lent.0 c.requires.entries_at past c.requires.blank.1, told-start _ _ _ _ _ _ _ _ _ _ c.requires.lent.0 c.requires.entries_at past _)
 
 pub overflow_add-stack : goal.overflow_add-stack
 overflow_add-stack c = omega (arith, c.loop-j-test.true, c.requires.entries_at.close, c.requires.entries_at.entries.filled, c.requires.lent.0.closed.few)
 
 pub at16-entry-requires : goal.at16-entry-requires
-at16-entry-requires c = flooded_at _ _ _ _ _ _ _ _ _ _ c.requires.lent.0 c.requires.entries_at ((omega (arith, c.requires.lent.1.low, c.requires.lent.1.apart))) _ _ _ _ c.loop-j.invariant.0 c.loop-j-test.true
+at16-entry-requires c = let past : length c.args.area.now ≤ c.args.at.table = omega (arith, c.requires.lent.1.low, c.requires.lent.1.apart) in
+    flooded_at _ _ _ _ _ _ _ _ _ _ c.requires.lent.0 c.requires.entries_at past _ _ _ _ c.loop-j.invariant.0 c.loop-j-test.true
 
 pub flood_one-f-requires : goal.flood_one-f-requires
-flood_one-f-requires c = record {
-  lent = (flooded_lent _ _ _ _ _ _ _ _ _ _ c.requires.lent.0 c.requires.entries_at ((omega (arith, c.requires.lent.1.low, c.requires.lent.1.apart))) _ _ _ _ c.loop-j.invariant.0, placed_kept _ c.requires.lent.1 c.loop-j.invariant.0.size₁);
-  blank = (blank_past _ _ _ _ _ c.requires.lent.1.low c.loop-j.invariant.0.past c.requires.blank.0, c.loop-j.invariant.0.ids_below);
-  span = flooded_entry _ _ _ _ _ _ _ _ _ _ c.requires.lent.0 c.requires.entries_at ((omega (arith, c.requires.lent.1.low, c.requires.lent.1.apart))) _ _ _ _ c.loop-j.invariant.0 _ c.loop-j-test.true c.at16-entry.ensures.0;
-}
+flood_one-f-requires c = let past : length c.args.area.now ≤ c.args.at.table = omega (arith, c.requires.lent.1.low, c.requires.lent.1.apart) in
+    record {
+      lent = (flooded_lent _ _ _ _ _ _ _ _ _ _ c.requires.lent.0 c.requires.entries_at past _ _ _ _ c.loop-j.invariant.0, placed_kept _ c.requires.lent.1 c.loop-j.invariant.0.size₁);
+      blank = (blank_past _ _ _ _ _ c.requires.lent.1.low c.loop-j.invariant.0.past c.requires.blank.0, c.loop-j.invariant.0.ids_below);
+      span = flooded_entry _ _ _ _ _ _ _ _ _ _ c.requires.lent.0 c.requires.entries_at past _ _ _ _ c.loop-j.invariant.0 _ c.loop-j-test.true c.at16-entry.ensures.0;
+    }
 
 pub overflow_add-j : goal.overflow_add-j
 overflow_add-j c = omega (arith, c.loop-j-test.true, c.requires.entries_at.entries.filled, c.requires.lent.0.closed.few)
@@ -31,10 +34,10 @@ pub loop-j-smaller : goal.loop-j-smaller
 loop-j-smaller c = omega (arith, c.loop-j-test.true)
 
 pub loop-j-preserved : goal.loop-j-preserved
-loop-j-preserved c = (
-  flooded_next _ _ _ _ _ _ _ _ _ _ c.requires.lent.0 c.requires.entries_at ((omega (arith, c.requires.lent.1.low, c.requires.lent.1.apart))) _ _ _ _ c.loop-j.invariant.0 _ _ _ _ c.loop-j-test.true c.at16-entry.ensures.0
+loop-j-preserved c = let past : length c.args.area.now ≤ c.args.at.table = omega (arith, c.requires.lent.1.low, c.requires.lent.1.apart) in (
+  flooded_next _ _ _ _ _ _ _ _ _ _ c.requires.lent.0 c.requires.entries_at past _ _ _ _ c.loop-j.invariant.0 _ _ _ _ c.loop-j-test.true c.at16-entry.ensures.0
       c.flood_one-f.auto.ids c.flood_one-f.auto.ws c.flood_one-f.ensures.next_after c.flood_one-f.ensures.fact.0 (c.flood_one-f.ensures.fact.2 (flag_not _ c.flood_one-f.ensures.fact.1 c.if-f.false)),
-  told_next _ _ _ _ _ _ _ _ _ _ c.requires.lent.0 c.requires.entries_at ((omega (arith, c.requires.lent.1.low, c.requires.lent.1.apart))) _ _ _ _ c.loop-j.invariant.0 _ _ _ _ c.loop-j-test.true c.at16-entry.ensures.0
+  told_next _ _ _ _ _ _ _ _ _ _ c.requires.lent.0 c.requires.entries_at past _ _ _ _ c.loop-j.invariant.0 _ _ _ _ c.loop-j-test.true c.at16-entry.ensures.0
       c.flood_one-f.auto.ids c.flood_one-f.auto.ws c.flood_one-f.ensures.next_after c.flood_one-f.ensures.fact.0 _ _ _ c.loop-j.invariant.1 c.flood_one-f.ensures.story_value,
 )
 
@@ -45,11 +48,12 @@ pub shape_of-ws-then-f : goal.shape_of-ws-then-f
 shape_of-ws-then-f c = c.flood_one-f.auto.ws ∙ c.loop-j.invariant.0.size₂
 
 pub returns-then-f : goal.returns-then-f
-returns-then-f c = record {
-  fact = flooded_out _ _ _ _ _ _ _ _ _ _ c.requires.lent.0 c.requires.entries_at ((omega (arith, c.requires.lent.1.low, c.requires.lent.1.apart))) _ _ _ _ c.loop-j.invariant.0 _ _ _ _ c.loop-j-test.true c.at16-entry.ensures.0
-      c.flood_one-f.auto.ids c.flood_one-f.auto.ws c.flood_one-f.ensures.next_after c.flood_one-f.ensures.fact.0 c.if-f.true;
-  story_value = λ z. absurd (z c.if-f.true);
-}
+returns-then-f c = let past : length c.args.area.now ≤ c.args.at.table = omega (arith, c.requires.lent.1.low, c.requires.lent.1.apart) in
+    record {
+      fact = flooded_out _ _ _ _ _ _ _ _ _ _ c.requires.lent.0 c.requires.entries_at past _ _ _ _ c.loop-j.invariant.0 _ _ _ _ c.loop-j-test.true c.at16-entry.ensures.0
+          c.flood_one-f.auto.ids c.flood_one-f.auto.ws c.flood_one-f.ensures.next_after c.flood_one-f.ensures.fact.0 c.if-f.true;
+      story_value = λ z. absurd (z c.if-f.true);
+    }
 
 pub shape_of-ids : goal.shape_of-ids
 shape_of-ids c = c.loop-j.invariant.0.size₁
@@ -58,7 +62,8 @@ pub shape_of-ws : goal.shape_of-ws
 shape_of-ws c = c.loop-j.invariant.0.size₂
 
 pub returns : goal.returns
-returns c = record {
-  fact = flooded_end _ _ _ _ _ _ _ _ _ _ c.requires.lent.0 c.requires.entries_at ((omega (arith, c.requires.lent.1.low, c.requires.lent.1.apart))) _ _ _ _ c.loop-j.invariant.0 c.loop-j-test.false;
-  story_value = λ _. told-end _ _ _ _ _ _ _ _ _ _ c.requires.lent.0 c.requires.entries_at ((omega (arith, c.requires.lent.1.low, c.requires.lent.1.apart))) _ _ _ _ c.loop-j.invariant.0 _ _ c.loop-j.invariant.1 c.loop-j-test.false;
-}
+returns c = let past : length c.args.area.now ≤ c.args.at.table = omega (arith, c.requires.lent.1.low, c.requires.lent.1.apart) in
+    record {
+      fact = flooded_end _ _ _ _ _ _ _ _ _ _ c.requires.lent.0 c.requires.entries_at past _ _ _ _ c.loop-j.invariant.0 c.loop-j-test.false;
+      story_value = λ _. told-end _ _ _ _ _ _ _ _ _ _ c.requires.lent.0 c.requires.entries_at past _ _ _ _ c.loop-j.invariant.0 _ _ c.loop-j.invariant.1 c.loop-j-test.false;
+    }

@@ -12,28 +12,32 @@ pub clear_part-requires : goal.clear_part-requires
 clear_part-requires c = (omega (arith, c.requires.0.laid.changes), omega (arith, c.requires.0.laid.changes, c.requires.0.laid.past, c.requires.0.lent.room, c.turns-g.auto.ws))
 
 pub expand_last-e-requires : goal.expand_last-e-requires
-expand_last-e-requires c = record {
-  fact = (last_mutual _ _ _ _ _ _ _ _ c.requires.0 _ ((omega arith)) _ _ _ _ c.turns-g.auto.ws c.turns-g.ensures.fact c.if-g-ne-GOES_ON.false _ c.clear_part.auto.ws c.clear_part.ensures.0 c.clear_part.ensures.1, flags_at _ _ _ _ _ _ _ _ c.requires.0);
-  last = last_ready _ _ _ _ _ _ _ _ c.requires.0 _ ((omega arith)) _ _ _ _ c.turns-g.auto.ws c.turns-g.ensures.fact c.if-g-ne-GOES_ON.false _ c.clear_part.auto.ws c.clear_part.ensures.0 c.clear_part.ensures.1;
-}
+expand_last-e-requires c = let counted : c.args.max_distance / 2 + c.args.max_distance % 2 ≡ turns_for c.args.max_distance = omega arith in
+    record {
+      fact = (last_mutual _ _ _ _ _ _ _ _ c.requires.0 _ counted _ _ _ _ c.turns-g.auto.ws c.turns-g.ensures.fact c.if-g-ne-GOES_ON.false _ c.clear_part.auto.ws c.clear_part.ensures.0 c.clear_part.ensures.1, flags_at _ _ _ _ _ _ _ _ c.requires.0);
+      last = last_ready _ _ _ _ _ _ _ _ c.requires.0 _ counted _ _ _ _ c.turns-g.auto.ws c.turns-g.ensures.fact c.if-g-ne-GOES_ON.false _ c.clear_part.auto.ws c.clear_part.ensures.0 c.clear_part.ensures.1;
+    }
 
 pub returns-then-g-ne-GOES_ON : goal.returns-then-g-ne-GOES_ON
-returns-then-g-ne-GOES_ON c = record {
-  fact = grew_stopped _ _ _ _ _ _ _ _ ((omega arith)) _ _ _ _ c.turns-g.ensures.fact c.if-g-ne-GOES_ON.true;
-  story_value = λ z. absurd (c.if-g-ne-GOES_ON.true z);
-}
+returns-then-g-ne-GOES_ON c = let counted : c.args.max_distance / 2 + c.args.max_distance % 2 ≡ turns_for c.args.max_distance = omega arith in
+    record {
+      fact = grew_stopped _ _ _ _ _ _ _ _ counted _ _ _ _ c.turns-g.ensures.fact c.if-g-ne-GOES_ON.true;
+      story_value = λ z. absurd (c.if-g-ne-GOES_ON.true z);
+    }
 
 pub returns-then-e : goal.returns-then-e
-returns-then-e c = record {
-  fact = grew_strayed _ _ _ _ _ _ _ _ c.requires.0 _ ((omega arith)) _ _ _ _ c.turns-g.auto.ws c.turns-g.ensures.fact c.if-g-ne-GOES_ON.false _ c.clear_part.auto.ws c.clear_part.ensures.0 c.clear_part.ensures.1
-      _ _ c.expand_last-e.ensures.ws_after _ c.expand_last-e.ensures.strays_value c.expand_last-e.ensures.ws_unchanged _ c.if-e.true;
-  story_value = λ z. absurd (omega arith);
-}
+returns-then-e c = let counted : c.args.max_distance / 2 + c.args.max_distance % 2 ≡ turns_for c.args.max_distance = omega arith in
+    record {
+      fact = grew_strayed _ _ _ _ _ _ _ _ c.requires.0 _ counted _ _ _ _ c.turns-g.auto.ws c.turns-g.ensures.fact c.if-g-ne-GOES_ON.false _ c.clear_part.auto.ws c.clear_part.ensures.0 c.clear_part.ensures.1
+          _ _ c.expand_last-e.ensures.ws_after _ c.expand_last-e.ensures.strays_value c.expand_last-e.ensures.ws_unchanged _ c.if-e.true;
+      story_value = λ z. absurd (omega arith);
+    }
 
 pub returns : goal.returns
-returns c = record {
-  fact = grew _ _ _ _ _ _ _ _ c.requires.0 _ ((omega arith)) _ _ _ _ c.turns-g.auto.ws c.turns-g.ensures.fact c.if-g-ne-GOES_ON.false _ c.clear_part.auto.ws c.clear_part.ensures.0 c.clear_part.ensures.1
-      _ _ c.expand_last-e.ensures.ws_after _ c.expand_last-e.ensures.strays_value c.expand_last-e.ensures.ws_unchanged c.if-e.false;
-  story_value = λ _. grew_told _ _ _ _ _ _ _ _ c.requires.0 _ ((omega arith)) _ _ _ _ c.turns-g.auto.ws c.turns-g.ensures.fact c.if-g-ne-GOES_ON.false _ c.clear_part.auto.ws c.clear_part.ensures.0 c.clear_part.ensures.1
-      _ _ _ (c.turns-g.ensures.story_value c.if-g-ne-GOES_ON.false) c.expand_last-e.ensures.story_value;
-}
+returns c = let counted : c.args.max_distance / 2 + c.args.max_distance % 2 ≡ turns_for c.args.max_distance = omega arith in
+    record {
+      fact = grew _ _ _ _ _ _ _ _ c.requires.0 _ counted _ _ _ _ c.turns-g.auto.ws c.turns-g.ensures.fact c.if-g-ne-GOES_ON.false _ c.clear_part.auto.ws c.clear_part.ensures.0 c.clear_part.ensures.1
+          _ _ c.expand_last-e.ensures.ws_after _ c.expand_last-e.ensures.strays_value c.expand_last-e.ensures.ws_unchanged c.if-e.false;
+      story_value = λ _. grew_told _ _ _ _ _ _ _ _ c.requires.0 _ counted _ _ _ _ c.turns-g.auto.ws c.turns-g.ensures.fact c.if-g-ne-GOES_ON.false _ c.clear_part.auto.ws c.clear_part.ensures.0 c.clear_part.ensures.1
+          _ _ _ (c.turns-g.ensures.story_value c.if-g-ne-GOES_ON.false) c.expand_last-e.ensures.story_value;
+    }

@@ -44,7 +44,8 @@ returns-then-e c = let r = ready_turn _ _ _ _ _ _ _ _ _ _ c.requires.0 _ _ _ c.l
     }
 
 pub shape_of-ws-then-f : goal.shape_of-ws-then-f
-shape_of-ws-then-f c = (c.flood_all-f.auto.ws ∙ c.expand_regions-e.auto.ws ∙ c.load-stacks.auto.ws)
+shape_of-ws-then-f c = let ws-kept : length c.flood_all-f.new.ws ≡ length c.args.ws.now = c.flood_all-f.auto.ws ∙ c.expand_regions-e.auto.ws ∙ c.load-stacks.auto.ws in
+    ws-kept
 
 pub returns-then-f : goal.returns-then-f
 returns-then-f c = let r = ready_turn _ _ _ _ _ _ _ _ _ _ c.requires.0 _ _ _ c.load-stacks.auto.ws c.load-stacks.ensures in
@@ -56,7 +57,8 @@ returns-then-f c = let r = ready_turn _ _ _ _ _ _ _ _ _ _ c.requires.0 _ _ _ c.l
     }
 
 pub shape_of-ws : goal.shape_of-ws
-shape_of-ws c = (c.flood_all-f.auto.ws ∙ c.expand_regions-e.auto.ws ∙ c.load-stacks.auto.ws)
+shape_of-ws c = let ws-kept : length c.flood_all-f.new.ws ≡ length c.args.ws.now = c.flood_all-f.auto.ws ∙ c.expand_regions-e.auto.ws ∙ c.load-stacks.auto.ws in
+    ws-kept
 
 pub returns : goal.returns
 returns c = let r = ready_turn _ _ _ _ _ _ _ _ _ _ c.requires.0 _ _ _ c.load-stacks.auto.ws c.load-stacks.ensures in

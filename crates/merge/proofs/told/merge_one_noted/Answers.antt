@@ -11,7 +11,8 @@ pub offset_bounds-ws-i : goal.offset_bounds-ws-i
 offset_bounds-ws-i c = omega (arith, c.requires.joined.1, c.requires.m_in_bounds.1.held.few)
 
 pub bounds-ws-i : goal.bounds-ws-i
-bounds-ws-i c = omega (arith, c.requires.joined.1, (pool_mid _ _ _ _ _ _ (omega (arith, c.requires.m_in_bounds.0)) c.requires.m_in_bounds.1), c.requires.m_in_bounds.0)
+bounds-ws-i c = let mid : 16 * c.args.m ≤ c.args.end = pool_mid _ _ _ _ _ _ (omega (arith, c.requires.m_in_bounds.0)) c.requires.m_in_bounds.1 in
+    omega (arith, c.requires.joined.1, mid, c.requires.m_in_bounds.0)
 
 pub merge_in-round-requires : goal.merge_in-round-requires
 merge_in-round-requires c = record {
@@ -20,19 +21,23 @@ merge_in-round-requires c = record {
 }
 
 pub returns-then-round-before : goal.returns-then-round-before
-returns-then-round-before c = noted-none _ _ _ _ _ c.args.noted c.requires.joined.1 c.requires.m_in_bounds.0 ((pool_mid _ _ _ _ _ _ (omega (arith, c.requires.m_in_bounds.0)) c.requires.m_in_bounds.1)) c.requires.joined.0 c.requires.joined.3 _ _ c.merge_in-round.ensures c.merge_in-round.auto.ws c.if-round-before.true
+returns-then-round-before c = let mid : 16 * c.args.m ≤ c.args.end = pool_mid _ _ _ _ _ _ (omega (arith, c.requires.m_in_bounds.0)) c.requires.m_in_bounds.1 in
+    noted-none _ _ _ _ _ c.args.noted c.requires.joined.1 c.requires.m_in_bounds.0 mid c.requires.joined.0 c.requires.joined.3 _ _ c.merge_in-round.ensures c.merge_in-round.auto.ws c.if-round-before.true
 
 pub offset_bounds-ws-i-2 : goal.offset_bounds-ws-i-2
 offset_bounds-ws-i-2 c = omega (arith, c.requires.joined.1, c.requires.m_in_bounds.1.held.few)
 
 pub bounds-ws-i-2 : goal.bounds-ws-i-2
-bounds-ws-i-2 c = omega (arith, c.requires.joined.1, (pool_mid _ _ _ _ _ _ (omega (arith, c.requires.m_in_bounds.0)) c.requires.m_in_bounds.1), c.requires.m_in_bounds.0, c.merge_in-round.auto.ws)
+bounds-ws-i-2 c = let mid : 16 * c.args.m ≤ c.args.end = pool_mid _ _ _ _ _ _ (omega (arith, c.requires.m_in_bounds.0)) c.requires.m_in_bounds.1 in
+    omega (arith, c.requires.joined.1, mid, c.requires.m_in_bounds.0, c.merge_in-round.auto.ws)
 
 pub note_merge-requires : goal.note_merge-requires
-note_merge-requires c = note_in _ _ _ _ _ c.args.noted c.requires.joined.1 c.requires.m_in_bounds.0 ((pool_mid _ _ _ _ _ _ (omega (arith, c.requires.m_in_bounds.0)) c.requires.m_in_bounds.1)) c.requires.joined.0 c.requires.joined.3 _ _ c.merge_in-round.ensures c.merge_in-round.auto.ws c.if-round-before.false _ _ refl refl _ refl
+note_merge-requires c = let mid : 16 * c.args.m ≤ c.args.end = pool_mid _ _ _ _ _ _ (omega (arith, c.requires.m_in_bounds.0)) c.requires.m_in_bounds.1 in
+    note_in _ _ _ _ _ c.args.noted c.requires.joined.1 c.requires.m_in_bounds.0 mid c.requires.joined.0 c.requires.joined.3 _ _ c.merge_in-round.ensures c.merge_in-round.auto.ws c.if-round-before.false _ _ refl refl _ refl
 
 pub overflow_add-result : goal.overflow_add-result
 overflow_add-result c = omega (arith, c.requires.joined.3, c.requires.m_in_bounds.1.held.few)
 
 pub returns : goal.returns
-returns c = noted_some _ _ _ _ _ c.args.noted c.requires.joined.1 c.requires.m_in_bounds.0 ((pool_mid _ _ _ _ _ _ (omega (arith, c.requires.m_in_bounds.0)) c.requires.m_in_bounds.1)) c.requires.joined.0 c.requires.joined.3 _ _ c.merge_in-round.ensures c.merge_in-round.auto.ws c.if-round-before.false _ _ refl refl _ c.note_merge.ensures
+returns c = let mid : 16 * c.args.m ≤ c.args.end = pool_mid _ _ _ _ _ _ (omega (arith, c.requires.m_in_bounds.0)) c.requires.m_in_bounds.1 in
+    noted_some _ _ _ _ _ c.args.noted c.requires.joined.1 c.requires.m_in_bounds.0 mid c.requires.joined.0 c.requires.joined.3 _ _ c.merge_in-round.ensures c.merge_in-round.auto.ws c.if-round-before.false _ _ refl refl _ c.note_merge.ensures

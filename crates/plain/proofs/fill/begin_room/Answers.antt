@@ -22,13 +22,13 @@ pub overflow_add-most : goal.overflow_add-most
 overflow_add-most c = omega (arith, c.requires.2, c.requires.3, few _ _ _ c.requires.0)
 
 pub fill_room-requires : goal.fill_room-requires
-fill_room-requires c = (c.requires.0, record { size = c.requires.1; span = c.requires.2; empty = c.if-ids-s-ne0.left }, omega arith)
+fill_room-requires c = (c.requires.0, record { size = c.requires.1; span = c.requires.2; empty = c.if-ids-s-ne0.false }, omega arith)
 
 pub overflow_add-result : goal.overflow_add-result
 overflow_add-result c = omega (arith, c.requires.2, c.requires.3, few _ _ _ c.requires.0)
 
 pub returns : goal.returns
 returns c = record {
-  result_after = begin_new _ _ _ _ _ _ c.requires.2 c.if-area-s-eq0.left c.if-ids-s-ne0.left _ c.fill_room.ensures.ids_after;
+  result_after = begin_new _ _ _ _ _ _ c.requires.2 c.if-area-s-eq0.false c.if-ids-s-ne0.false _ c.fill_room.ensures.ids_after;
   ws_unchanged = c.fill_room.ensures.ws_unchanged;
 }

@@ -12,13 +12,16 @@ pub returns-then-prior-eq-NO_SPAN : goal.returns-then-prior-eq-NO_SPAN
 returns-then-prior-eq-NO_SPAN c = λ e. absurd (false≢true e)
 
 pub overflow_add-t : goal.overflow_add-t
-overflow_add-t c = omega (arith, (omega (arith, c.requires.1.lower, c.requires.1.upper, (c.requires.2 c.if-prior-eq-NO_SPAN.false).inside (omega (arith, c.requires.1.lower, c.requires.1.upper)))), c.requires.0)
+overflow_add-t c = let before : c.args.prior + (c.args.span.0 - c.args.cell.from) < length c.args.ids.now = omega (arith, c.requires.1.lower, c.requires.1.upper, (c.requires.2 c.if-prior-eq-NO_SPAN.false).inside (omega (arith, c.requires.1.lower, c.requires.1.upper))) in
+    omega (arith, before, c.requires.0)
 
 pub offset_bounds-ids-t : goal.offset_bounds-ids-t
-offset_bounds-ids-t c = omega (arith, (omega (arith, c.requires.1.lower, c.requires.1.upper, (c.requires.2 c.if-prior-eq-NO_SPAN.false).inside (omega (arith, c.requires.1.lower, c.requires.1.upper)))), c.requires.0)
+offset_bounds-ids-t c = let before : c.args.prior + (c.args.span.0 - c.args.cell.from) < length c.args.ids.now = omega (arith, c.requires.1.lower, c.requires.1.upper, (c.requires.2 c.if-prior-eq-NO_SPAN.false).inside (omega (arith, c.requires.1.lower, c.requires.1.upper))) in
+    omega (arith, before, c.requires.0)
 
 pub bounds-ids-t : goal.bounds-ids-t
-bounds-ids-t c = (omega (arith, c.requires.1.lower, c.requires.1.upper, (c.requires.2 c.if-prior-eq-NO_SPAN.false).inside (omega (arith, c.requires.1.lower, c.requires.1.upper))))
+bounds-ids-t c = let before : c.args.prior + (c.args.span.0 - c.args.cell.from) < length c.args.ids.now = omega (arith, c.requires.1.lower, c.requires.1.upper, (c.requires.2 c.if-prior-eq-NO_SPAN.false).inside (omega (arith, c.requires.1.lower, c.requires.1.upper))) in
+    before
 
 pub returns : goal.returns
 returns c = λ e. (c.if-prior-eq-NO_SPAN.false, record { size = refl; same = eqb-true _ _ e })

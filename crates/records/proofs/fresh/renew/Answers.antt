@@ -10,7 +10,8 @@ use native.Mathlib.Omega.{arith}
 use Rattle.records.proofs.fresh.renew.Goals as goal
 
 pub loop-i-init : goal.loop-i-init
-loop-i-init c = (renewed_here _ _ _ _ _ ((renewed_start _ _ _ _ c.requires c.tally.ensures)), sym (slot-first _))
+loop-i-init c = let counted : Renewed c.args.ids.now c.args.m 0 c.args.ws.now c.tally.new.ws = renewed_start _ _ _ _ c.requires c.tally.ensures in
+    (renewed_here _ _ _ _ _ counted, sym (slot-first _))
 
 pub renew_one-lower-requires : goal.renew_one-lower-requires
 renew_one-lower-requires c = record {
@@ -28,4 +29,5 @@ pub shape_of-ws : goal.shape_of-ws
 shape_of-ws c = c.loop-i.invariant.0.size ∙ c.tally.auto.ws
 
 pub returns : goal.returns
-returns c = renewed_then _ _ _ _ _ _ _ ((renewed_start _ _ _ _ c.requires c.tally.ensures)) (renewed_end _ _ _ _ _ c.loop-i.invariant.0 c.loop-i-test.false)
+returns c = let counted : Renewed c.args.ids.now c.args.m 0 c.args.ws.now c.tally.new.ws = renewed_start _ _ _ _ c.requires c.tally.ensures in
+    renewed_then _ _ _ _ _ _ _ counted (renewed_end _ _ _ _ _ c.loop-i.invariant.0 c.loop-i-test.false)

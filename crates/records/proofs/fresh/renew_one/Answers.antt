@@ -11,10 +11,12 @@ use borrow.Author.Rules.{rules}
 use Rattle.records.proofs.fresh.renew_one.Goals as goal
 
 pub overflow_mul-floors-3 : goal.overflow_mul-floors-3
-overflow_mul-floors-3 c = omega (arith, (omega (arith, c.requires.renewed.2, c.requires.m_le_border.1, slot_room c.args.ids.now c.args.i)))
+overflow_mul-floors-3 c = let lower-few : c.args.lower ≤ most_spans = omega (arith, c.requires.renewed.2, c.requires.m_le_border.1, slot_room c.args.ids.now c.args.i) in
+    omega (arith, lower-few)
 
 pub overflow_add-floors-2 : goal.overflow_add-floors-2
-overflow_add-floors-2 c = omega (arith, (omega (arith, c.requires.renewed.2, c.requires.m_le_border.1, slot_room c.args.ids.now c.args.i)), c.requires.m_le_border.0, c.requires.m_le_border.1)
+overflow_add-floors-2 c = let lower-few : c.args.lower ≤ most_spans = omega (arith, c.requires.renewed.2, c.requires.m_le_border.1, slot_room c.args.ids.now c.args.i) in
+    omega (arith, lower-few, c.requires.m_le_border.0, c.requires.m_le_border.1)
 
 pub bounds-ws-m : goal.bounds-ws-m
 bounds-ws-m c = simp length-set (omega (arith, c.requires.m_le_border.2, c.requires.renewed.1))
@@ -27,15 +29,17 @@ set_part-requires c = record {
 }
 
 pub set_part-requires-2 : goal.set_part-requires-2
-set_part-requires-2 c = let q = floors_fit _ _ _ _ c.requires.renewed.0 c.requires.renewed.1 _ _ c.requires.renewed.2 refl c.requires.m_le_border.0 c.requires.m_le_border.1 c.requires.m_le_border.2 in
+set_part-requires-2 c = let two_stores : length (set (set c.args.ws.now c.args.i c.args.i) (c.args.m + c.args.i) 0) ≡ length c.args.ws.now = simp length-set in
+    let q = floors_fit _ _ _ _ c.requires.renewed.0 c.requires.renewed.1 _ _ c.requires.renewed.2 refl c.requires.m_le_border.0 c.requires.m_le_border.1 c.requires.m_le_border.2 in
     record {
-      m_in_bounds = omega (arith, c.set_part.auto.ws, (simp length-set), c.requires.m_le_border.2);
+      m_in_bounds = omega (arith, c.set_part.auto.ws, two_stores, c.requires.m_le_border.2);
       r_lt_m = c.requires.renewed.1;
       a_lt_wide_end = (q, q);
     }
 
 pub shape_of-ws : goal.shape_of-ws
-shape_of-ws c = c.set_part-2.auto.ws ∙ c.set_part.auto.ws ∙ (simp length-set)
+shape_of-ws c = let two_stores : length (set (set c.args.ws.now c.args.i c.args.i) (c.args.m + c.args.i) 0) ≡ length c.args.ws.now = simp length-set in
+    c.set_part-2.auto.ws ∙ c.set_part.auto.ws ∙ two_stores
 
 pub returns : goal.returns
 returns c = (renewed_one _ _ _ _ c.requires.renewed.0 c.requires.renewed.1 _ _ c.requires.renewed.2 refl c.requires.m_le_border.0 c.requires.m_le_border.1 c.requires.m_le_border.2 _ _ _ refl c.set_part.ensures c.set_part.auto.ws c.set_part-2.ensures c.set_part-2.auto.ws, c.at-spans.ensures.0 ∙ c.requires.renewed.0.counts _ (omega arith) c.requires.renewed.1)

@@ -17,7 +17,9 @@ pub end_of-requires : goal.end_of-requires
 end_of-requires c = (list_parts _ _ _ _ _ c.requires.keeping, c.requires.r_value.1)
 
 pub returns-then-start_of-end_of : goal.returns-then-start_of-end_of
-returns-then-start_of-end_of c = contour_there _ _ _ _ _ c.requires.keeping _ c.requires.r_value.1 _ _ ((c.start_of.ensures.0)) ((c.end_of.ensures.0)) c.if-start_of-end_of.true _ _
+returns-then-start_of-end_of c = let ea : c.start_of.result ≡ start_of c.args.ws.now c.args.plan.records (lists_at c.args.plan.records) c.args.r = c.start_of.ensures.0 in
+    let ee : c.end_of.result ≡ end_of c.args.ws.now c.args.plan.records (lists_at c.args.plan.records) c.args.r = c.end_of.ensures.0 in
+    contour_there _ _ _ _ _ c.requires.keeping _ c.requires.r_value.1 _ _ ea ee c.if-start_of-end_of.true _ _
 
 pub at8-a-requires : goal.at8-a-requires
 at8-a-requires c = omega (arith, c.requires.reach.span, c.requires.reach.sized)
@@ -35,14 +37,18 @@ pub bounds-ws-m : goal.bounds-ws-m
 bounds-ws-m c = omega (arith, c.requires.keeping.room, c.requires.r_value.1)
 
 pub add_list-requires : goal.add_list-requires
-add_list-requires c = record {
-  start = area_tracing _ _ _ _ _ c.requires.keeping _ c.requires.r_value.1 _ _ ((c.start_of.ensures.0)) ((c.end_of.ensures.0)) c.if-start_of-end_of.false _ _ _ _ _ c.requires.reach c.requires.r_value.0 c.requires.r_value.2;
-  keeping = (area_keeping _ _ _ _ _ c.requires.keeping _ c.requires.r_value.1 _ _ ((c.start_of.ensures.0)) ((c.end_of.ensures.0)) c.if-start_of-end_of.false _, c.requires.r_value.0, c.requires.r_value.1);
-  r_bound = none_after _ _ _ _ _ c.requires.keeping _ c.requires.r_value.1 _ _ ((c.start_of.ensures.0)) ((c.end_of.ensures.0)) c.if-start_of-end_of.false _;
-}
+add_list-requires c = let ea : c.start_of.result ≡ start_of c.args.ws.now c.args.plan.records (lists_at c.args.plan.records) c.args.r = c.start_of.ensures.0 in
+    let ee : c.end_of.result ≡ end_of c.args.ws.now c.args.plan.records (lists_at c.args.plan.records) c.args.r = c.end_of.ensures.0 in
+    record {
+      start = area_tracing _ _ _ _ _ c.requires.keeping _ c.requires.r_value.1 _ _ ea ee c.if-start_of-end_of.false _ _ _ _ _ c.requires.reach c.requires.r_value.0 c.requires.r_value.2;
+      keeping = (area_keeping _ _ _ _ _ c.requires.keeping _ c.requires.r_value.1 _ _ ea ee c.if-start_of-end_of.false _, c.requires.r_value.0, c.requires.r_value.1);
+      r_bound = none_after _ _ _ _ _ c.requires.keeping _ c.requires.r_value.1 _ _ ea ee c.if-start_of-end_of.false _;
+    }
 
 pub shape_of-ws : goal.shape_of-ws
 shape_of-ws c = c.add_list.auto.ws ∙ simp length-set
 
 pub returns : goal.returns
-returns c = contour-taken _ _ _ _ _ c.requires.keeping _ c.requires.r_value.1 _ _ ((c.start_of.ensures.0)) ((c.end_of.ensures.0)) c.if-start_of-end_of.false _ _ _ _ _ c.requires.reach c.requires.r_value.0 _ c.at8-a.ensures.0 _ c.add_list.ensures
+returns c = let ea : c.start_of.result ≡ start_of c.args.ws.now c.args.plan.records (lists_at c.args.plan.records) c.args.r = c.start_of.ensures.0 in
+    let ee : c.end_of.result ≡ end_of c.args.ws.now c.args.plan.records (lists_at c.args.plan.records) c.args.r = c.end_of.ensures.0 in
+    contour-taken _ _ _ _ _ c.requires.keeping _ c.requires.r_value.1 _ _ ea ee c.if-start_of-end_of.false _ _ _ _ _ c.requires.reach c.requires.r_value.0 _ c.at8-a.ensures.0 _ c.add_list.ensures

@@ -17,34 +17,52 @@ pub end_of-end-requires : goal.end_of-end-requires
 end_of-end-requires c = (floor_parts _ _ _ _ _ c.requires.keeping.0, c.requires.keeping.1)
 
 pub overflow_sub-len : goal.overflow_sub-len
-overflow_sub-len c = room_order _ _ _ _ _ c.requires.keeping.0 _ c.requires.keeping.1 _ _ _ ((c.start_of-start.ensures.0)) ((c.end_of-end.ensures.0)) ((ap (λ (x : ℕ). c.start_of-start.result + 62 * x) c.at.ensures.0))
+overflow_sub-len c = let ea : c.start_of-start.result ≡ start_of c.args.ws.now c.args.m (11 * c.args.m) c.args.r = c.start_of-start.ensures.0 in
+    let ee : c.end_of-end.result ≡ end_of c.args.ws.now c.args.m (11 * c.args.m) c.args.r = c.end_of-end.ensures.0 in
+    let ez : c.start_of-start.result + 62 * c.at.result ≡ c.start_of-start.result + 62 * get_or c.args.ws.now (c.args.m + c.args.r) 0 = ap (λ (x : ℕ). c.start_of-start.result + 62 * x) c.at.ensures.0 in
+    room_order _ _ _ _ _ c.requires.keeping.0 _ c.requires.keeping.1 _ _ _ ea ee ez
 
 pub slice_bounds-join-end : goal.slice_bounds-join-end
-slice_bounds-join-end c = omega (arith, room_inside _ _ _ _ _ c.requires.keeping.0 _ c.requires.keeping.1 _ _ _ ((c.start_of-start.ensures.0)) ((c.end_of-end.ensures.0)) ((ap (λ (x : ℕ). c.start_of-start.result + 62 * x) c.at.ensures.0)), c.requires.keeping.0.room)
+slice_bounds-join-end c = let ea : c.start_of-start.result ≡ start_of c.args.ws.now c.args.m (11 * c.args.m) c.args.r = c.start_of-start.ensures.0 in
+    let ee : c.end_of-end.result ≡ end_of c.args.ws.now c.args.m (11 * c.args.m) c.args.r = c.end_of-end.ensures.0 in
+    let ez : c.start_of-start.result + 62 * c.at.result ≡ c.start_of-start.result + 62 * get_or c.args.ws.now (c.args.m + c.args.r) 0 = ap (λ (x : ℕ). c.start_of-start.result + 62 * x) c.at.ensures.0 in
+    omega (arith, room_inside _ _ _ _ _ c.requires.keeping.0 _ c.requires.keeping.1 _ _ _ ea ee ez, c.requires.keeping.0.room)
 
 pub join-taken-requires : goal.join-taken-requires
-join-taken-requires c = record {
-  roomy = room_roomy _ _ _ _ _ c.requires.keeping.0 _ c.requires.keeping.1 _ _ _ ((c.start_of-start.ensures.0)) ((c.end_of-end.ensures.0)) ((ap (λ (x : ℕ). c.start_of-start.result + 62 * x) c.at.ensures.0)) _ _ _ (omega (arith, c.requires.keeping.2.slack, (c.start_of-start.ensures.0), (c.end_of-end.ensures.0), (ap (λ (x : ℕ). c.start_of-start.result + 62 * x) c.at.ensures.0))) c.requires.keeping.3.few c.requires.keeping.3.inside c.requires.keeping.3.lower c.requires.keeping.3.upper;
-  lies = c.requires.lies;
-  prior = ((λ n. room_prior _ _ _ _ _ c.requires.keeping.0 _ c.requires.keeping.1 _ _ _ ((c.start_of-start.ensures.0)) ((c.end_of-end.ensures.0)) ((ap (λ (x : ℕ). c.start_of-start.result + 62 * x) c.at.ensures.0)) _ _ _ (c.requires.prior.0 n)), c.requires.prior.1);
-}
+join-taken-requires c = let ea : c.start_of-start.result ≡ start_of c.args.ws.now c.args.m (11 * c.args.m) c.args.r = c.start_of-start.ensures.0 in
+    let ee : c.end_of-end.result ≡ end_of c.args.ws.now c.args.m (11 * c.args.m) c.args.r = c.end_of-end.ensures.0 in
+    let ez : c.start_of-start.result + 62 * c.at.result ≡ c.start_of-start.result + 62 * get_or c.args.ws.now (c.args.m + c.args.r) 0 = ap (λ (x : ℕ). c.start_of-start.result + 62 * x) c.at.ensures.0 in
+    record {
+      roomy = room_roomy _ _ _ _ _ c.requires.keeping.0 _ c.requires.keeping.1 _ _ _ ea ee ez _ _ _ (omega (arith, c.requires.keeping.2.slack, ea, ee, ez)) c.requires.keeping.3.few c.requires.keeping.3.inside c.requires.keeping.3.lower c.requires.keeping.3.upper;
+      lies = c.requires.lies;
+      prior = ((λ n. room_prior _ _ _ _ _ c.requires.keeping.0 _ c.requires.keeping.1 _ _ _ ea ee ez _ _ _ (c.requires.prior.0 n)), c.requires.prior.1);
+    }
 
 pub returns-then-listed-len : goal.returns-then-listed-len
-returns-then-listed-len c = record {
-  fact = step_stays _ _ _ _ _ c.requires.keeping.0 _ c.requires.keeping.1 _ _ _ ((c.start_of-start.ensures.0)) ((c.end_of-end.ensures.0)) ((ap (λ (x : ℕ). c.start_of-start.result + 62 * x) c.at.ensures.0)) _ _ _ _ c.join-taken.auto.part c.join-taken.ensures.fact refl c.if-listed-len.true;
-  result_value = c.join-taken.ensures.twin_value;
-}
+returns-then-listed-len c = let ea : c.start_of-start.result ≡ start_of c.args.ws.now c.args.m (11 * c.args.m) c.args.r = c.start_of-start.ensures.0 in
+    let ee : c.end_of-end.result ≡ end_of c.args.ws.now c.args.m (11 * c.args.m) c.args.r = c.end_of-end.ensures.0 in
+    let ez : c.start_of-start.result + 62 * c.at.result ≡ c.start_of-start.result + 62 * get_or c.args.ws.now (c.args.m + c.args.r) 0 = ap (λ (x : ℕ). c.start_of-start.result + 62 * x) c.at.ensures.0 in
+    record {
+      fact = step_stays _ _ _ _ _ c.requires.keeping.0 _ c.requires.keeping.1 _ _ _ ea ee ez _ _ _ _ c.join-taken.auto.part c.join-taken.ensures.fact refl c.if-listed-len.true;
+      result_value = c.join-taken.ensures.twin_value;
+    }
 
 pub set_part-requires : goal.set_part-requires
-set_part-requires c = let f = end_fits _ _ _ _ _ c.requires.keeping.0 _ c.requires.keeping.1 _ _ _ ((c.start_of-start.ensures.0)) ((c.end_of-end.ensures.0)) ((ap (λ (x : ℕ). c.start_of-start.result + 62 * x) c.at.ensures.0)) _ _ _ c.join-taken.auto.part c.join-taken.ensures.fact in
+set_part-requires c = let ea : c.start_of-start.result ≡ start_of c.args.ws.now c.args.m (11 * c.args.m) c.args.r = c.start_of-start.ensures.0 in
+    let ee : c.end_of-end.result ≡ end_of c.args.ws.now c.args.m (11 * c.args.m) c.args.r = c.end_of-end.ensures.0 in
+    let ez : c.start_of-start.result + 62 * c.at.result ≡ c.start_of-start.result + 62 * get_or c.args.ws.now (c.args.m + c.args.r) 0 = ap (λ (x : ℕ). c.start_of-start.result + 62 * x) c.at.ensures.0 in
+    let f = end_fits _ _ _ _ _ c.requires.keeping.0 _ c.requires.keeping.1 _ _ _ ea ee ez _ _ _ c.join-taken.auto.part c.join-taken.ensures.fact in
     record {
-      m_in_bounds = put_room _ _ _ _ _ c.requires.keeping.0 _ c.requires.keeping.1 _ _ _ ((c.start_of-start.ensures.0)) ((c.end_of-end.ensures.0)) ((ap (λ (x : ℕ). c.start_of-start.result + 62 * x) c.at.ensures.0)) c.join-taken.last.1.0 c.join-taken.auto.part;
+      m_in_bounds = put_room _ _ _ _ _ c.requires.keeping.0 _ c.requires.keeping.1 _ _ _ ea ee ez c.join-taken.last.1.0 c.join-taken.auto.part;
       r_lt_m = c.requires.keeping.1;
       a_lt_wide_end = f;
     }
 
 pub returns : goal.returns
-returns c = record {
-  fact = step_floors _ _ _ _ _ c.requires.keeping.0 _ c.requires.keeping.1 _ _ _ ((c.start_of-start.ensures.0)) ((c.end_of-end.ensures.0)) ((ap (λ (x : ℕ). c.start_of-start.result + 62 * x) c.at.ensures.0)) _ _ _ _ c.join-taken.auto.part c.join-taken.ensures.fact refl _ c.set_part.ensures c.set_part.auto.ws;
-  result_value = c.join-taken.ensures.twin_value;
-}
+returns c = let ea : c.start_of-start.result ≡ start_of c.args.ws.now c.args.m (11 * c.args.m) c.args.r = c.start_of-start.ensures.0 in
+    let ee : c.end_of-end.result ≡ end_of c.args.ws.now c.args.m (11 * c.args.m) c.args.r = c.end_of-end.ensures.0 in
+    let ez : c.start_of-start.result + 62 * c.at.result ≡ c.start_of-start.result + 62 * get_or c.args.ws.now (c.args.m + c.args.r) 0 = ap (λ (x : ℕ). c.start_of-start.result + 62 * x) c.at.ensures.0 in
+    record {
+      fact = step_floors _ _ _ _ _ c.requires.keeping.0 _ c.requires.keeping.1 _ _ _ ea ee ez _ _ _ _ c.join-taken.auto.part c.join-taken.ensures.fact refl _ c.set_part.ensures c.set_part.auto.ws;
+      result_value = c.join-taken.ensures.twin_value;
+    }

@@ -51,8 +51,9 @@ once_push ids id a st l z p h x =
     (λ (e : eqb x a ≡ true).
     let q = eqb-true x a e in
     let n : get_or ids a 0 ≡ id → ⊥ = λ w. omega arith in
-    let t = rw (ne_eqb _ _ n) at (h a) in
-    rw (q, get_or-set_same ids a id 0 l, eq-eqb a a refl, eq-eqb id id refl) (omega arith))
+    let t : tally a st ≤ ind false = rw (ne_eqb _ _ n) at (h a) in
+    let u : tally x st ≤ ind false = rw q t in
+    rw (q, get_or-set_same ids a id 0 l, eq-eqb a a refl, eq-eqb id id refl) (omega (arith, t, u)))
     (λ (e : eqb x a ≡ false).
     let n = eqb-false x a e in
     let m : a ≡ x → ⊥ = λ w. n (sym w) in

@@ -27,7 +27,7 @@ use Rattle.net.proofs.Fills.{net_lent, mutual_of}
 use Rattle.flood.specs.Stack.{marks_at}
 use Rattle.growth.specs.Floods.{IdsBelowNext}
 use Rattle.growth.specs.Turns.{SectionsFor, Between, begun, turns_of}
-use Rattle.growth.specs.Grow.{turns_for, stops_of, tells_of, Grew, growth_room, Poised, Settled, Full}
+use Rattle.growth.specs.Grow.{turns_for, stops_of, tells_of, Grew, growth_room, Poised, Settled, Full, Whole}
 
 marks_eq : {a a' s s' : List ℕ} → a ≡ a' → s ≡ s' → ◌≡◌ {A = Marks} (record { ids = a; src = s }) (record { ids = a'; src = s' })
 marks_eq p q = rw (p, q)
@@ -143,8 +143,8 @@ module _ (w h : ℕ) (is ks ar cs dist : List ℕ) (b most border : ℕ) (ids ws
       | no o ↦ (t.no_stacks o).blank x (omega arith) (omega (arith, sized))
     ]
 
-    pub full : Full G dist most border b ws next₃ stop₃ ids₃ ws₃
-    full =
+    pub whole : Whole G dist most border b ws next₃ stop₃ ids₃ ws₃
+    whole =
         record {
           after = λ x l. past₃ x (omega (arith, p.past)) ∙ get_d_after x f l;
           between = λ x l u. past₃ x (omega arith) ∙ get_or_before x f u;
@@ -161,3 +161,6 @@ module _ (w h : ℕ) (is ks ar cs dist : List ℕ) (b most border : ℕ) (ids ws
           };
           net = net_same b ar ws₁ ws₃ (omega (arith, p.room, size)) (s₃ ∙ s₂) (λ x l. past₃ x (omega (arith, p.past))) ∙ m;
         }
+
+    pub full : Full G dist most border b ws next₃ stop₃ ids₃ ws₃
+    full = record { after = whole.after; stops = whole.stops; ids = whole.ids; id = whole.id; clear = λ _. whole.clear; net = λ _. whole.net }

@@ -11,7 +11,7 @@ use Rattle.rules.specs.Field.{Field, spans}
 use Rattle.rules.specs.Net.{Net}
 use Rattle.rules.specs.Reasons.{Story, begins, story}
 use Rattle.net.specs.Table.{net_at}
-use Rattle.growth.specs.Grow.{growth_room, Full}
+use Rattle.growth.specs.Grow.{growth_room, Whole}
 
 -- what a call promises of its story
 pub record Told (F : Field) (dist : List ℕ) (most border s stop : ℕ) (y : Story) : Type 0 where
@@ -25,7 +25,7 @@ in_table table m i ws l u =
 
 module _ (F : Field) (dist : List ℕ) (most border table s : ℕ) (ws : List ℕ) (past : growth_room (spans F) ≤ table)
     (next stop next' stop' : ℕ) (y y' : Story) (ids ws₁ ids' ws₂ : List ℕ)
-    (a : Full F dist most border table ws next stop ids ws₁) (b : Full F dist most border table ws next' stop' ids' ws₂)
+    (a : Whole F dist most border table ws next stop ids ws₁) (b : Whole F dist most border table ws next' stop' ids' ws₂)
     (t : Told F dist most border s stop y) (u : Told F dist most border s stop' y')
     (n₁ : length ws₁ ≡ length ws) (n₂ : length ws₂ ≡ length ws) where
   pub one_stop : stop ≡ stop'

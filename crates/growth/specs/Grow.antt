@@ -64,9 +64,18 @@ pub record Settled (s next stop : ℕ) (y : Story) (ids ws : List ℕ) (next' st
   pub no_ids : (stop ≡ 0 → ⊥) → ids' ≡ replicate (length ids) 0
   pub no_stacks : (stop ≡ 0 → ⊥) → Clear 0 (9 * length ids) ws'
 
--- after growth: where nothing stops it the rule's ids and next id, where something does ids 0 and next id 0; in either case zeros where it worked and the field's net in
--- the table, and all else is as it was
+-- after growth, where nothing stops it: the rule's ids and next id, zeros where it worked, and the field's net in the table; past the table all is as it was
 pub record Full (F : Field) (dist : List ℕ) (most border table : ℕ) (ws : List ℕ) (next stop : ℕ) (ids' ws' : List ℕ) : Type 0 where
+  pub after : (x : ℕ) → table + 4 * spans F ≤ x → get_or ws' x 0 ≡ get_or ws x 0
+  pub stops : stop ≡ stops F dist most border
+  pub ids : stop ≡ 0 → ids' ≡ (grown F dist most border).ids
+  pub id : stop ≡ 0 → next ≡ (grown F dist most border).next
+  pub clear : stop ≡ 0 → Clear 0 (growth_room (spans F)) ws'
+  pub net : stop ≡ 0 → net_at table F.area ws' ≡ net_of F
+
+-- the whole of it: where nothing stops it the rule's ids and next id, where something does ids 0 and next id 0; in either case zeros where it worked and the field's net in
+-- the table, and all else is as it was
+pub record Whole (F : Field) (dist : List ℕ) (most border table : ℕ) (ws : List ℕ) (next stop : ℕ) (ids' ws' : List ℕ) : Type 0 where
   pub after : (x : ℕ) → table + 4 * spans F ≤ x → get_or ws' x 0 ≡ get_or ws x 0
   pub between : (x : ℕ) → growth_room (spans F) ≤ x → x < table → get_or ws' x 0 ≡ get_or ws x 0
   pub stops : stop ≡ stops F dist most border

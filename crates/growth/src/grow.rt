@@ -6,7 +6,7 @@ ghost use Rattle.field.specs.Lent.{lent};
 ghost use Rattle.net.specs.Table.{net_at};
 ghost use Rattle.flood.specs.Stories.{story_of};
 ghost use Rattle.growth.specs.Turns.{SectionsFor, Between, begun};
-ghost use Rattle.growth.specs.Grow.{turns_for, tells_of, Grew, Poised, Settled, Full};
+ghost use Rattle.growth.specs.Grow.{turns_for, tells_of, Grew, Poised, Settled, Full, Whole};
 
 use crate::turns::{GOES_ON, Growth, TOO_FAR, turns};
 use expand::expand::expand_last;
@@ -116,7 +116,10 @@ pub fn grow(
         Full F dist.now max_distance border_size table ws₀ result.next result.stop ids.new ws.new }
     ensures story_value { let F = lent w h index.now count.now area.now con.now in
         result.stop ≡ 0 → story_of result.story ≡ story F dist.now max_distance border_size watched }
-    ensures story_value_2 { (result.stop ≡ 0 → ⊥) → story_of result.story ≡ begins watched }
+    ensures whole { let F = lent w h index.now count.now area.now con.now in
+        let ws₀ = ws.old in
+        Whole F dist.now max_distance border_size table ws₀ result.next result.stop ids.new ws.new }
+    ensures untold { (result.stop ≡ 0 → ⊥) → story_of result.story ≡ begins watched }
 {
     let n = area.len();
     let first = paint_border(w, h, index, count, area, ids, border_size);

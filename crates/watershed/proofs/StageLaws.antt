@@ -73,7 +73,7 @@ module _ (w h : ℕ) (is ks ar cs dist ws ids : List ℕ) (a : Admitted (lent w 
         (ws₂ : List ℕ) (n₂ : length ws₂ ≡ length ws₁) (f : Frame 0 (growth_room (length ar)) ws₁ ws₂)
         (most border next stop : ℕ) (ids₃ ws₃ : List ℕ) (g : Full (lent w h is ks ar cs) dist most border table ws₂ next stop ids₃ ws₃) (n₃ : length ws₃ ≡ length ws₂) where
       pub raised : stop ≡ 0 → Raised (lent w h is ks ar cs) dist most border table ids next stop ids₃ ws₃
-      raised o = record { stops = g.stops; ids = g.ids; id = g.id; clear = λ _. g.clear; net = λ _. g.net; back = λ z. absurd (z o) }
+      raised o = record { stops = g.stops; ids = g.ids; id = g.id; clear = g.clear; net = g.net; back = λ z. absurd (z o) }
 
       -- what stands past the table is what was kept
       pub kept_ids : sec kept (length ids) ws₃ ≡ ids

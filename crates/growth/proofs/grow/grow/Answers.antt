@@ -2,7 +2,7 @@
 use mathlib.Core.Path.{sym, ◌∙◌}
 use native.Mathlib.Omega.{arith}
 use borrow.Author.Rules.{rules}
-use Rattle.growth.proofs.FirstLaws.{reached-first, cells_first, few_first, size_first, plot_first, between_first, rule_story, full}
+use Rattle.growth.proofs.FirstLaws.{reached-first, cells_first, few_first, size_first, plot_first, between_first, rule_story, full, whole}
 use Rattle.growth.proofs.grow.grow.Goals as goal
 
 pub paint_border-first-requires : goal.paint_border-first-requires
@@ -46,5 +46,7 @@ returns c = record {
   story_value = λ z. c.settle.ensures.told (sym c.settle.ensures.same ∙ z) ∙ c.grow_painted-g.ensures.story_value (sym c.settle.ensures.same ∙ z)
       ∙ rule_story _ _ _ _ _ _ _ _ _ _ _ _ c.requires.0 _ c.paint_border-first.ensures.value _ c.paint_border-first.ensures.ids_after _ c.fill_neighbours.ensures.ws_after c.fill_neighbours.ensures.frame c.fill_neighbours.auto.ws
       _ _ c.begins.ensures _ c.sections.ensures.1;
-  story_value_2 = λ z. c.settle.ensures.untold (λ q. z (c.settle.ensures.same ∙ q));
+  whole = whole _ _ _ _ _ _ _ _ _ _ _ _ c.requires.0 _ c.paint_border-first.ensures.value _ c.paint_border-first.ensures.ids_after _ c.fill_neighbours.ensures.ws_after c.fill_neighbours.ensures.frame c.fill_neighbours.auto.ws
+      _ _ _ _ _ c.sections.ensures.1 c.grow_painted-g.ensures.fact c.grow_painted-g.auto.ws c.grow_painted-g.auto.ids _ _ _ _ _ _ _ c.settle.auto.ws c.settle.ensures;
+  untold = λ z. c.settle.ensures.untold (λ q. z (c.settle.ensures.same ∙ q));
 }

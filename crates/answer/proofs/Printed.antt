@@ -12,7 +12,7 @@ use borrow.Author.Tests.{eq-eqb, ne_eqb, eqb-true, eqb-false, not-true, not-fals
 use Rattle.rules.specs.Base.{if◌then◌else◌}
 use Rattle.rules.specs.Field.{Field, spans}
 use Rattle.rules.specs.Refusals.{refusal, region_refusal}
-use Rattle.rules.specs.Distance.{raw as rawOf, greatest, blur}
+use Rattle.rules.specs.Distance.{raw as raw_of, greatest, blur}
 use Rattle.rules.specs.Growth.{grown, stops}
 use Rattle.rules.specs.Numbering.{dense, regions, formed}
 use Rattle.rules.specs.Outcomes.{Sizes, DistanceOutcome, RegionOutcome, distance_outcome, region_outcome}
@@ -105,7 +105,7 @@ listable w h is ks ar cs dist most z ws ids ws' ids' out x m o u f b y n =
 -- ---------------------------------------------------------------- the outcomes, whatever the lent lists hold
 
 module _ (F : Field) (raw bl : List ℕ) where
-  done_is : refusal F (length raw ∷ length bl ∷ []) ≡ 0 → distance_outcome F raw bl ≡ record { refused = 0; most = greatest (rawOf F); raw = rawOf F; blurred = blur F (rawOf F) }
+  done_is : refusal F (length raw ∷ length bl ∷ []) ≡ 0 → distance_outcome F raw bl ≡ record { refused = 0; most = greatest (raw_of F); raw = raw_of F; blurred = blur F (raw_of F) }
   unfolding distance_outcome if◌then◌else◌
   done_is e = rw (eq-eqb _ 0 e)
 

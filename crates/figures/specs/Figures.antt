@@ -18,8 +18,8 @@ use Rattle.rules.specs.Open.{open_con, flat, open_field}
 
 -- what document 01 says of a run; a cell is (x, z)
 pub data Claim : Type 0 where
-  maxDistance max_region overlapCount cutCount everyId : ℕ → Claim
-  rawIs blurredIs idIs : ℕ → ℕ → ℕ → Claim
+  max_distance max_region overlap_count cut_count every_id : ℕ → Claim
+  raw_is blurred_is id_is : ℕ → ℕ → ℕ → Claim
   -- the id after the first turn, when only floods have given ids
   flooded_is : ℕ → ℕ → ℕ → Claim
   -- the ids of the cells with x from a and below b, in every row from c and below e
@@ -60,14 +60,14 @@ run c =
     }
 
 unfoldable pub holds : Run → Claim → Bool
-holds o (maxDistance v) = eqb o.distances.most v
+holds o (max_distance v) = eqb o.distances.most v
 holds o (max_region v) = eqb o.regions.most v
-holds o (overlapCount v) = eqb o.regions.over v
-holds o (cutCount v) = eqb o.regions.cut v
-holds o (everyId v) = every (length o.regions.ids) (λ i. eqb (get_or o.regions.ids i 0) v)
-holds o (rawIs x z v) = eqb (get_or o.distances.raw (z * o.wide + x) 0) v
-holds o (blurredIs x z v) = eqb (get_or o.distances.blurred (z * o.wide + x) 0) v
-holds o (idIs x z v) = eqb (get_or o.regions.ids (z * o.wide + x) 0) v
+holds o (overlap_count v) = eqb o.regions.over v
+holds o (cut_count v) = eqb o.regions.cut v
+holds o (every_id v) = every (length o.regions.ids) (λ i. eqb (get_or o.regions.ids i 0) v)
+holds o (raw_is x z v) = eqb (get_or o.distances.raw (z * o.wide + x) 0) v
+holds o (blurred_is x z v) = eqb (get_or o.distances.blurred (z * o.wide + x) 0) v
+holds o (id_is x z v) = eqb (get_or o.regions.ids (z * o.wide + x) 0) v
 holds o (flooded_is x z v) = eqb (get_or o.flooded (z * o.wide + x) 0) v
 holds o (ids_in a b c e v) = every (e - c) (λ i. every (b - a) (λ j. eqb (get_or o.regions.ids ((c + i) * o.wide + a + j) 0) v))
 
@@ -98,21 +98,21 @@ compared_figures =
     case compared (open_field 0 0) 0 0 0 (max_region 1 ∷ []) ∷
     case compared (open_field 0 0) 1 0 0 (max_region 5 ∷ []) ∷
     -- "Open 1 by 1: id 0, max_region 1. Border size 1: id 0x8004, max_region 5."
-    case compared (open_field 1 1) 0 0 0 (everyId 0 ∷ max_region 1 ∷ []) ∷
-    case compared (open_field 1 1) 1 0 0 (everyId 0x8004 ∷ max_region 5 ∷ []) ∷
+    case compared (open_field 1 1) 0 0 0 (every_id 0 ∷ max_region 1 ∷ []) ∷
+    case compared (open_field 1 1) 1 0 0 (every_id 0x8004 ∷ max_region 5 ∷ []) ∷
     -- "Open 3 by 3: middle 2, ids 1. Least area 9: the same. Least area 10: ids 0, max_region 1."
-    case compared (open_field 3 3) 0 0 0 (maxDistance 2 ∷ rawIs 1 1 2 ∷ blurredIs 1 1 2 ∷ everyId 1 ∷ max_region 2 ∷ overlapCount 0 ∷ cutCount 0 ∷ []) ∷
-    case compared (open_field 3 3) 0 9 0 (maxDistance 2 ∷ rawIs 1 1 2 ∷ blurredIs 1 1 2 ∷ everyId 1 ∷ max_region 2 ∷ overlapCount 0 ∷ cutCount 0 ∷ []) ∷
-    case compared (open_field 3 3) 0 10 0 (everyId 0 ∷ max_region 1 ∷ []) ∷
+    case compared (open_field 3 3) 0 0 0 (max_distance 2 ∷ raw_is 1 1 2 ∷ blurred_is 1 1 2 ∷ every_id 1 ∷ max_region 2 ∷ overlap_count 0 ∷ cut_count 0 ∷ []) ∷
+    case compared (open_field 3 3) 0 9 0 (max_distance 2 ∷ raw_is 1 1 2 ∷ blurred_is 1 1 2 ∷ every_id 1 ∷ max_region 2 ∷ overlap_count 0 ∷ cut_count 0 ∷ []) ∷
+    case compared (open_field 3 3) 0 10 0 (every_id 0 ∷ max_region 1 ∷ []) ∷
     -- "3 by 3, area 0: middle 2, ids 0, max_region 1."
-    case compared (flat 3 3 (λ c. 0)) 0 0 0 (rawIs 1 1 2 ∷ blurredIs 1 1 2 ∷ everyId 0 ∷ max_region 1 ∷ []) ∷
+    case compared (flat 3 3 (λ c. 0)) 0 0 0 (raw_is 1 1 2 ∷ blurred_is 1 1 2 ∷ every_id 0 ∷ max_region 1 ∷ []) ∷
     -- "Open 5 by 5: max_distance 4, blurred middle 2. Open 7 by 7: 6, 4, and blurred (2,2) 3, (2,3) 4."
-    case compared (open_field 5 5) 0 0 0 (maxDistance 4 ∷ blurredIs 2 2 2 ∷ []) ∷
-    case compared (open_field 7 7) 0 0 0 (maxDistance 6 ∷ blurredIs 3 3 4 ∷ blurredIs 2 2 3 ∷ blurredIs 2 3 4 ∷ []) ∷
+    case compared (open_field 5 5) 0 0 0 (max_distance 4 ∷ blurred_is 2 2 2 ∷ []) ∷
+    case compared (open_field 7 7) 0 0 0 (max_distance 6 ∷ blurred_is 3 3 4 ∷ blurred_is 2 2 3 ∷ blurred_is 2 3 4 ∷ []) ∷
     -- "Open 5 by 5, border size 1: inner nine 5, (0,0) 0x8003, (0,2) 0x8001, (4,2) 0x8002, (4,4) 0x8004, max_region 6."
     -- "in the 5 by 5 border case (2,3) is rejected by the flood and filled by expansion"
     case compared (open_field 5 5) 1 0 0
-    (ids_in 1 4 1 4 5 ∷ idIs 0 0 0x8003 ∷ idIs 0 2 0x8001 ∷ idIs 4 2 0x8002 ∷ idIs 4 4 0x8004 ∷ max_region 6 ∷ flooded_is 1 3 5 ∷ flooded_is 2 3 0 ∷ []) ∷
+    (ids_in 1 4 1 4 5 ∷ id_is 0 0 0x8003 ∷ id_is 0 2 0x8001 ∷ id_is 4 2 0x8002 ∷ id_is 4 4 0x8004 ∷ max_region 6 ∷ flooded_is 1 3 5 ∷ flooded_is 2 3 0 ∷ []) ∷
     -- "6 by 3, areas 1 in columns 0 to 2 and 2 in 3 to 5, merge area 20: ids 1 and 2, max_region 3."
     case compared halves 0 0 20 (ids_in 0 3 0 3 1 ∷ ids_in 3 6 0 3 2 ∷ max_region 3 ∷ []) ∷
     []
@@ -122,20 +122,32 @@ unfoldable pub figures : List Case
 figures =
     case dense (open_field 0 0) 0 0 0 (max_region 0 ∷ []) ∷
     case dense (open_field 0 0) 1 0 0 (max_region 0 ∷ []) ∷
-    case dense (open_field 1 1) 0 0 0 (everyId 0 ∷ max_region 0 ∷ []) ∷
-    case dense (open_field 1 1) 1 0 0 (everyId 0x8004 ∷ max_region 0 ∷ []) ∷
+    case dense (open_field 1 1) 0 0 0 (every_id 0 ∷ max_region 0 ∷ []) ∷
+    case dense (open_field 1 1) 1 0 0 (every_id 0x8004 ∷ max_region 0 ∷ []) ∷
     -- "open 3 by 3 gives max_region 1"
-    case dense (open_field 3 3) 0 0 0 (maxDistance 2 ∷ rawIs 1 1 2 ∷ blurredIs 1 1 2 ∷ everyId 1 ∷ max_region 1 ∷ overlapCount 0 ∷ cutCount 0 ∷ []) ∷
-    case dense (open_field 3 3) 0 9 0 (maxDistance 2 ∷ rawIs 1 1 2 ∷ blurredIs 1 1 2 ∷ everyId 1 ∷ max_region 1 ∷ overlapCount 0 ∷ cutCount 0 ∷ []) ∷
-    case dense (open_field 3 3) 0 10 0 (everyId 0 ∷ max_region 0 ∷ []) ∷
-    case dense (flat 3 3 (λ c. 0)) 0 0 0 (rawIs 1 1 2 ∷ blurredIs 1 1 2 ∷ everyId 0 ∷ max_region 0 ∷ []) ∷
-    case dense (open_field 5 5) 0 0 0 (maxDistance 4 ∷ blurredIs 2 2 2 ∷ everyId 1 ∷ max_region 1 ∷ []) ∷
-    case dense (open_field 7 7) 0 0 0 (maxDistance 6 ∷ blurredIs 3 3 4 ∷ blurredIs 2 2 3 ∷ blurredIs 2 3 4 ∷ everyId 1 ∷ max_region 1 ∷ []) ∷
+    case dense (open_field 3 3) 0 0 0 (max_distance 2 ∷ every_id 1 ∷ max_region 1 ∷ overlap_count 0 ∷ cut_count 0 ∷ []) ∷
+    case dense (open_field 3 3) 0 9 0 (max_distance 2 ∷ every_id 1 ∷ max_region 1 ∷ overlap_count 0 ∷ cut_count 0 ∷ []) ∷
+    case dense (open_field 3 3) 0 10 0 (every_id 0 ∷ max_region 0 ∷ []) ∷
+    case dense (flat 3 3 (λ c. 0)) 0 0 0 (every_id 0 ∷ max_region 0 ∷ []) ∷
     -- "open 5 by 5 with border gives inner ids 1 and max_region 1"
-    case dense (open_field 5 5) 1 0 0 (ids_in 1 4 1 4 1 ∷ idIs 0 0 0x8003 ∷ idIs 0 2 0x8001 ∷ idIs 4 2 0x8002 ∷ idIs 4 4 0x8004 ∷ max_region 1 ∷ []) ∷
+    case dense (open_field 5 5) 1 0 0 (ids_in 1 4 1 4 1 ∷ id_is 0 0 0x8003 ∷ id_is 0 2 0x8001 ∷ id_is 4 2 0x8002 ∷ id_is 4 4 0x8004 ∷ max_region 1 ∷ []) ∷
     case dense halves 0 0 20 (ids_in 0 3 0 3 1 ∷ ids_in 3 6 0 3 2 ∷ max_region 2 ∷ []) ∷
     compared_figures
 
 pub figures_agree : agrees figures ≡ true
 unfolding ◌and◌ ◌or◌ if◌then◌else◌ every run holds all_hold agrees figures compared_figures open_con flat open_field
 figures_agree = refl
+
+-- the distances of the compared form's figures, in this one
+unfoldable pub dense_distances : List Case
+dense_distances =
+    case dense (open_field 3 3) 0 0 0 (max_distance 2 ∷ raw_is 1 1 2 ∷ blurred_is 1 1 2 ∷ []) ∷
+    case dense (open_field 3 3) 0 9 0 (max_distance 2 ∷ raw_is 1 1 2 ∷ blurred_is 1 1 2 ∷ []) ∷
+    case dense (flat 3 3 (λ c. 0)) 0 0 0 (raw_is 1 1 2 ∷ blurred_is 1 1 2 ∷ []) ∷
+    case dense (open_field 5 5) 0 0 0 (max_distance 4 ∷ blurred_is 2 2 2 ∷ every_id 1 ∷ max_region 1 ∷ []) ∷
+    case dense (open_field 7 7) 0 0 0 (max_distance 6 ∷ blurred_is 3 3 4 ∷ blurred_is 2 2 3 ∷ blurred_is 2 3 4 ∷ every_id 1 ∷ max_region 1 ∷ []) ∷
+    []
+
+pub dense_distances_agree : agrees dense_distances ≡ true
+unfolding ◌and◌ ◌or◌ if◌then◌else◌ every run holds all_hold agrees dense_distances open_con flat open_field
+dense_distances_agree = refl

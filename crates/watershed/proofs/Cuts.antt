@@ -61,44 +61,44 @@ formed_unmarked dense a b u = (rw u.ids refl, rw (u.ids, u.most) refl, u.over)
 formed_unmarked compared a b u = (u.ids, u.most, u.over)
 
 module _ (form : Form) (F : Field) (dist : List ℕ) (most : ℕ) (z : Sizes) (ws ids : List ℕ) where
-  abbrev grownIds : List ℕ
-  grownIds = (grown F dist most z.border).ids
+  abbrev grown_ids : List ℕ
+  grown_ids = (grown F dist most z.border).ids
 
   abbrev next : ℕ
   next = (grown F dist most z.border).next
 
   -- no region of more than 10,000 spans: none is counted as cut short
-  outcome_uncut : ((i : ℕ) → many (eqb i) grownIds ≤ 10000) → (region_outcome form F dist most z ws ids).cut ≡ 0
+  outcome_uncut : ((i : ℕ) → many (eqb i) grown_ids ≤ 10000) → (region_outcome form F dist most z ws ids).cut ≡ 0
   unfolding region_outcome
   outcome_uncut few =
       if-ind (λ (o : RegionOutcome). o.cut ≡ 0) (not (eqb (region_refusal F (length dist ∷ length ids ∷ []) (length ws) dist most) 0)) (λ _. refl)
       (λ e. if-ind (λ (o : RegionOutcome). o.cut ≡ 0) (not (eqb (stops F dist most z.border) 0)) (λ _. refl)
       (λ _.
       let p = accepted F (length dist ∷ length ids ∷ []) (length ws) dist most (eqb-true _ _ (not-false _ e)) in
-      formed_cut form _ ∙ none_cut F z.least z.merge grownIds next (uncut F (sound_of F (length dist ∷ length ids ∷ []) p) grownIds (grown-length F dist most z.border) next few)))
+      formed_cut form _ ∙ none_cut F z.least z.merge grown_ids next (uncut F (sound_of F (length dist ∷ length ids ∷ []) p) grown_ids (grown-length F dist most z.border) next few)))
 
   -- ids, max_region and the overlap count are those of the rules without the mark
   outcome_unmarked : (region_outcome form F dist most z ws ids).refused ≡ 0
-      → let v = formed form (bare_regions F z.least z.merge grownIds next) in
+      → let v = formed form (bare_regions F z.least z.merge grown_ids next) in
       let o = region_outcome form F dist most z ws ids in
       (v.ids ≡ o.ids) × (v.most ≡ o.most) × (v.over ≡ o.over)
   unfolding region_outcome
   outcome_unmarked =
-      if-ind (λ (o : RegionOutcome). let v = formed form (bare_regions F z.least z.merge grownIds next) in o.refused ≡ 0 → (v.ids ≡ o.ids) × (v.most ≡ o.most) × (v.over ≡ o.over))
+      if-ind (λ (o : RegionOutcome). let v = formed form (bare_regions F z.least z.merge grown_ids next) in o.refused ≡ 0 → (v.ids ≡ o.ids) × (v.most ≡ o.most) × (v.over ≡ o.over))
       (not (eqb (region_refusal F (length dist ∷ length ids ∷ []) (length ws) dist most) 0))
       (λ e h. absurd (eqb-false _ _ (not-true _ e) h))
-      (λ _. if-ind (λ (o : RegionOutcome). let v = formed form (bare_regions F z.least z.merge grownIds next) in o.refused ≡ 0 → (v.ids ≡ o.ids) × (v.most ≡ o.most) × (v.over ≡ o.over))
+      (λ _. if-ind (λ (o : RegionOutcome). let v = formed form (bare_regions F z.least z.merge grown_ids next) in o.refused ≡ 0 → (v.ids ≡ o.ids) × (v.most ≡ o.most) × (v.over ≡ o.over))
       (not (eqb (stops F dist most z.border) 0))
       (λ e h. absurd (eqb-false _ _ (not-true _ e) h))
-      (λ _ _. formed_unmarked form _ _ (mark_only_carried F z.least z.merge grownIds next)))
+      (λ _ _. formed_unmarked form _ _ (mark_only_carried F z.least z.merge grown_ids next)))
 
   -- and so for a call: r, ws' and ids' are what it returns and leaves
   module _ (r : RegionAnswer) (ws' ids' : List ℕ) (a : AnswersRegions (region_outcome form F dist most z ws ids) r ws' ids') where
-    pub call_uncut : ((i : ℕ) → many (eqb i) grownIds ≤ 10000) → cut_in r ≡ 0
+    pub call_uncut : ((i : ℕ) → many (eqb i) grown_ids ≤ 10000) → cut_in r ≡ 0
     call_uncut few = a.cut ∙ outcome_uncut few
 
     pub call_unmarked : regions_refused_by r ≡ 0
-        → let v = formed form (bare_regions F z.least z.merge grownIds next) in
+        → let v = formed form (bare_regions F z.least z.merge grown_ids next) in
         (v.ids ≡ ids') × (v.most ≡ max_region_in r) × (v.over ≡ overlaps_in r)
     call_unmarked e =
         let u = outcome_unmarked (sym a.refused ∙ e) in

@@ -153,22 +153,22 @@ module _ (w h : ℕ) (is ks ar cs dist : List ℕ) (most border table s next : �
       -- after filter, merge and numbering
       module _ (least area r : ℕ) (found : Regions) (id group merges : ℕ) (ws₄ : List ℕ) (o : r ≡ get_or ids s 0)
           (T : ToldRegions least area (next + 1) end r ws₃ ids ws₄ found id group merges) where
-        abbrev grownIds : List ℕ
-        grownIds = (grown F dist most border).ids
+        abbrev grown_ids : List ℕ
+        grown_ids = (grown F dist most border).ids
 
         abbrev recs : List Rec
-        recs = records F grownIds (grown F dist most border).next
+        recs = records F grown_ids (grown F dist most border).next
 
         abbrev kept : List Rec
         kept = filtered least recs
 
         many : next + 1 ≡ length recs
-        many = omega (arith, records-length F grownIds (grown F dist most border).next, G.id)
+        many = omega (arith, records-length F grown_ids (grown F dist most border).next, G.id)
 
-        pub told_id : id ≡ (at kept (get_or grownIds s 0)).id
+        pub told_id : id ≡ (at kept (get_or grown_ids s 0)).id
         told_id = T.id_is ∙ rw (B.same, o, G.grew, G.id)
 
-        pub told_group : group ≡ gone_with least (get_or grownIds s 0) (length recs) recs
+        pub told_group : group ≡ gone_with least (get_or grown_ids s 0) (length recs) recs
         told_group = T.gone ∙ rw (B.same, o, many, G.grew, G.id)
 
         pub told_merges : mergings_from ws₄ end merges ≡ mergings area (suc (length kept)) kept []
@@ -176,25 +176,25 @@ module _ (w h : ℕ) (is ks ar cs dist : List ℕ) (most border table s next : �
             let m : next + 1 ≡ length kept = omega (arith, many, filtered-length least recs) in
             noted_from ws₄ end merges ∙ T.told ∙ rw (B.same, m, G.grew, G.id)
 
-        regions_is : found ≡ regions F least area grownIds (grown F dist most border).next
+        regions_is : found ≡ regions F least area grown_ids (grown F dist most border).next
         unfolding regions
         regions_is =
             let m : suc (next + 1) ≡ suc (length kept) = omega (arith, many, filtered-length least recs) in
             T.regions ∙ rw (B.same, m, G.grew, G.id)
 
         pub told_number : (d x : ℕ) → d ≡ first_id border - 1 → x ≡ lower d (get_or found.ids s 0)
-            → x ≡ get_or (formed dense (regions F least area grownIds (grown F dist most border).next)).ids s 0
+            → x ≡ get_or (formed dense (regions F least area grown_ids (grown F dist most border).next)).ids s 0
         unfolding shifted lowered
         told_number d x k v =
             let rooms = entry_rooms F (length dist ∷ length ids ∷ []) (length ws) dist most G.passes (areas_are_bytes w h is ks ar cs bytes) border least area G.goes in
             let f = ap (λ (g : Regions). get_or g.ids s 0) (formed_is dense F (first_id border) _ rooms (first_some border)) in
-            v ∙ rw (regions_is, k) (sym (f ∙ lower-at (first_id border - 1) (regions F least area grownIds (grown F dist most border).next).ids s))
+            v ∙ rw (regions_is, k) (sym (f ∙ lower-at (first_id border - 1) (regions F least area grown_ids (grown F dist most border).next).ids s))
 
         -- a list of one number a span holds the trail
-        trail_short : (id ≡ 0 → ⊥) → length (trail (mergings area (suc (length kept)) kept []) (get_or grownIds s 0)) ≤ length ar
+        trail_short : (id ≡ 0 → ⊥) → length (trail (mergings area (suc (length kept)) kept []) (get_or grown_ids s 0)) ≤ length ar
         trail_short z = trail_room F dist most border (areas_are_bytes w h is ks ar cs bytes) G.goes least area s G.span (λ e. z (told_id ∙ e))
 
-        pub told-trail : trail (mergings_from ws₄ end merges) r ≡ trail (mergings area (suc (length kept)) kept []) (get_or grownIds s 0)
+        pub told-trail : trail (mergings_from ws₄ end merges) r ≡ trail (mergings area (suc (length kept)) kept []) (get_or grown_ids s 0)
         told-trail = rw (told_merges, o, G.grew) refl
 
         pub laid_room : (id ≡ 0 → ⊥) → length (trail (mergings_from ws₄ end merges) r) ≤ length ar
@@ -202,7 +202,7 @@ module _ (w h : ℕ) (is ks ar cs dist : List ℕ) (most border table s next : �
 
         -- a group is under the least area
         pub group_small : group ≤ least
-        group_small = rw told_group (gone_fits least (get_or grownIds s 0) (length recs) recs)
+        group_small = rw told_group (gone_fits least (get_or grown_ids s 0) (length recs) recs)
 
         pub noted_room : end + 2 * merges ≤ length ws₁
         noted_room = omega (arith, T.few, past_room)

@@ -12,7 +12,7 @@ use lib.Seq.{take-suc, get_or-set_same, get_or-set_other, get_or-take}
 use lib.Dec.{eqb}
 use borrow.Author.Tests.{eq-eqb, ne_eqb, le-leb, lt-leb}
 use Rattle.rules.specs.Base.{◌or◌, if◌then◌else◌, any, many}
-use Rattle.rules.specs.Records.{has, once, at}
+use Rattle.rules.specs.Records.{has, once}
 use Rattle.rules.specs.Merge.{place}
 use Rattle.rules.specs.Numbering.{number_of}
 use Rattle.space.specs.Space.{Frame}

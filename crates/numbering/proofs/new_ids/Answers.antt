@@ -1,10 +1,6 @@
 -- The answers that the check does not find alone.
 use lib.ListN.{length-set}
-use mathlib.Core.Path.{◌≡◌, refl}
-use Prim.Native.Nat.{◌≤◌, ◌-◌}
-use lib.ListN.{length, take}
-use Rattle.pool.specs.Lists.{map_to}
-use Rattle.numbering.specs.Number.{renumber}
+use mathlib.Core.Path.{refl}
 use Rattle.pool.proofs.ListLaws.{map_to-start, map_to_go, map_to-end}
 use Rattle.numbering.proofs.NumberLaws.{span_below}
 use borrow.Author.Rules.{rules}

@@ -1,13 +1,9 @@
 -- `numbering::new_ids` meets its contract. The loop's invariant: the first s ids are renumbered, the others as they were.
-use lib.ListN.{length-set}
-use mathlib.Core.Path.{◌≡◌, refl}
+use mathlib.Core.Path.{◌≡◌}
 use Prim.Native.Nat.{◌≤◌, ◌-◌}
 use lib.ListN.{length, take}
 use Rattle.pool.specs.Lists.{map_to}
 use Rattle.numbering.specs.Number.{renumber}
-use Rattle.pool.proofs.ListLaws.{map_to-start, map_to_go, map_to-end}
-use Rattle.numbering.proofs.NumberLaws.{span_below}
-use borrow.Author.Rules.{rules}
 use Rattle.numbering.proofs.new_ids.Given as goal
 
 abbrev pub invariant-loop-s : goal.invariant-loop-s

@@ -1,7 +1,6 @@
 -- `numbering::nonzero` meets its contract: those that are 0 and those that are not are all.
 use Rattle.numbering.proofs.NumberLaws.{nonzero_is}
 use native.Mathlib.Omega.{arith}
-use borrow.Author.Rules.{rules}
 use Rattle.numbering.proofs.nonzero.Goals as goal
 
 pub overflow_sub-result : goal.overflow_sub-result

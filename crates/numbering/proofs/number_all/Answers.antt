@@ -1,10 +1,5 @@
 -- The answers that the check does not find alone.
-use mathlib.Core.Path.{◌≡◌, refl}
-use Prim.Native.Nat.{◌≤◌, ◌-◌, ◌+◌}
-use mathlib.Core.List.{[]}
-use lib.ListN.{length, take}
-use Rattle.numbering.specs.Number.{Numbers, live_ids}
-use Rattle.space.specs.Space.{Frame}
+use mathlib.Core.Path.{refl}
 use Rattle.space.proofs.Laws.{frame_none, frame_then}
 use Rattle.numbering.proofs.NumberLaws.{numbers_start, column_kept, numbers_go, numbers_end}
 use borrow.Author.Rules.{rules}

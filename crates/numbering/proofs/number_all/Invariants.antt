@@ -1,13 +1,10 @@
 -- `numbering::number_all` meets its contract. The loop's invariant: the numbers given so far stand at b, for the first i records.
-use mathlib.Core.Path.{◌≡◌, refl}
+use mathlib.Core.Path.{◌≡◌}
 use Prim.Native.Nat.{◌≤◌, ◌-◌, ◌+◌}
 use mathlib.Core.List.{[]}
 use lib.ListN.{length, take}
 use Rattle.numbering.specs.Number.{Numbers, live_ids}
 use Rattle.space.specs.Space.{Frame}
-use Rattle.space.proofs.Laws.{frame_none, frame_then}
-use Rattle.numbering.proofs.NumberLaws.{numbers_start, column_kept, numbers_go, numbers_end}
-use borrow.Author.Rules.{rules}
 use Rattle.numbering.proofs.number_all.Given as goal
 
 abbrev pub invariant-loop-i : goal.invariant-loop-i

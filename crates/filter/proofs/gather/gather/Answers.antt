@@ -1,14 +1,7 @@
 -- The answers that the check does not find alone.
-use Rattle.table.specs.View.{recs_of}
 use Rattle.filter.proofs.GroupLaws.{none_waits}
-use Prim.Native.Nat.{◌*◌}
-use mathlib.Core.Path.{◌≡◌}
-use lib.ListN.{length}
-use Rattle.laws.proofs.FilterEnds.{ahead}
-use Rattle.space.specs.Space.{Frame, stack_at}
 use Rattle.space.proofs.Laws.{frame_none}
-use Rattle.filter.specs.Group.{Waiting, Found}
-use Rattle.filter.proofs.GroupLaws.{Turn, turn-start, turn_go, turn_falls, turn_done, turn_room, turn_most, turn_frame, found_kept}
+use Rattle.filter.proofs.GroupLaws.{turn-start, turn_go, turn_falls, turn_done, turn_room, turn_most, turn_frame, found_kept}
 use borrow.Author.Rules.{rules}
 use native.Mathlib.Omega.{arith}
 use Rattle.filter.proofs.gather.gather.Goals as goal

@@ -1,17 +1,13 @@
 -- `filter::gather::gather` meets its contract. The loop's invariant is `Turn`: the rule from here gives what it gives from the start, with enough fuel.
 -- Each turn takes one that waits; those that wait and those not visited together fall.
 use Rattle.table.specs.View.{recs_of}
-use Rattle.filter.proofs.GroupLaws.{none_waits}
 use Prim.Native.Nat.{◌*◌}
 use mathlib.Core.Path.{◌≡◌}
 use lib.ListN.{length}
 use Rattle.laws.proofs.FilterEnds.{ahead}
 use Rattle.space.specs.Space.{Frame, stack_at}
-use Rattle.space.proofs.Laws.{frame_none}
 use Rattle.filter.specs.Group.{Waiting, Found}
-use Rattle.filter.proofs.GroupLaws.{Turn, turn-start, turn_go, turn_falls, turn_done, turn_room, turn_most, turn_frame, found_kept}
-use borrow.Author.Rules.{rules}
-use native.Mathlib.Omega.{arith}
+use Rattle.filter.proofs.GroupLaws.{Turn}
 use Rattle.filter.proofs.gather.gather.Given as goal
 
 abbrev pub invariant-loop-top : goal.invariant-loop-top

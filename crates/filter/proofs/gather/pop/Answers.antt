@@ -8,9 +8,6 @@ use Rattle.filter.proofs.gather.pop.Goals as goal
 pub bounds-ws-m-3 : goal.bounds-ws-m-3
 bounds-ws-m-3 c = search (rules, pop_in_2)
 
-pub overflow_cast-result : goal.overflow_cast-result
-overflow_cast-result c = omega (arith, c.slice_known-1.given (5 * c.args.m + (c.args.top - 1)))
-
 pub returns : goal.returns
 returns c = record {
   popped = (search pop_is, search pop_below);

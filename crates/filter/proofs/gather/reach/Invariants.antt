@@ -1,15 +1,12 @@
 -- `filter::gather::reach` meets its contract. The loop's invariant: to go on with the entries from k on gives what the whole list gives.
 -- The list lies past the columns, so the stores of a turn do not touch it.
-use Rattle.filter.proofs.GroupLaws.{reach-start, entry_in, entry_under, reach_go, reach_done, reach_from, reach_order}
 use lib.ListN.{length}
 use Prim.Native.Nat.{ℕ, ◌*◌, ◌-◌, ◌≤◌}
 use mathlib.Core.Path.{◌≡◌}
 use Rattle.rules.specs.Filter.{reach}
 use Rattle.space.specs.Space.{Frame}
-use Rattle.space.proofs.Laws.{frame_none, frame_then}
 use Rattle.table.specs.View.{part, start_of, list_at}
 use Rattle.filter.specs.Group.{group_at, Waiting}
-use borrow.Author.Rules.{rules}
 use Rattle.filter.proofs.gather.reach.Given as goal
 
 abbrev pub invariant-loop-k : goal.invariant-loop-k

@@ -1,8 +1,4 @@
 -- The answers that the check does not find alone.
-use Prim.Native.Nat.{◌+◌, ◌*◌, ◌-◌, ◌≤◌}
-use mathlib.Core.Path.{◌≡◌}
-use Rattle.table.specs.View.{part, recs_of}
-use Rattle.filter.specs.Group.{any_flagged}
 use Rattle.filter.proofs.RemoveLaws.{next_below, flag_start, flag_here, flag_next, flag_none}
 use borrow.Author.Rules.{rules}
 use Rattle.filter.proofs.remove.any_flagged.Goals as goal

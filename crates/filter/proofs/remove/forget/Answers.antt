@@ -1,6 +1,5 @@
 -- `filter::remove::forget` meets its contract. The part of the found ones is lent to `clear`; the rest of the two columns was zero before.
 use Rattle.filter.proofs.RemoveLaws.{forget_recs, forget_calm, forget_frame}
-use borrow.Author.Rules.{rules}
 use Rattle.filter.proofs.remove.forget.Goals as goal
 
 pub returns : goal.returns

@@ -1,7 +1,6 @@
 -- `filter::remove::lists_flagged` meets its contract: the flagged ids are those above the last that is not.
 use mathlib.Core.Path.{◌∙◌}
 use Rattle.filter.proofs.RemoveLaws.{lists_above}
-use borrow.Author.Rules.{rules}
 use Rattle.filter.proofs.remove.lists_flagged.Goals as goal
 
 pub returns : goal.returns

@@ -5,10 +5,7 @@ use mathlib.Core.Path.{◌≡◌}
 use lib.ListN.{length}
 use Rattle.rules.specs.Filter.{remove_all}
 use Rattle.space.specs.Space.{Frame}
-use Rattle.space.proofs.Laws.{frame_none, frame_then}
 use Rattle.table.specs.View.{part, recs_of, Held}
-use Rattle.filter.proofs.RemoveLaws.{all_start, all_below, all_go, all_done}
-use borrow.Author.Rules.{rules}
 use Rattle.filter.proofs.remove.remove_all.Given as goal
 
 abbrev pub invariant-loop-k : goal.invariant-loop-k

@@ -1,6 +1,5 @@
 -- `filter::remove::small` meets its contract. Straight line: the rule's two tests, in its order.
 use Rattle.filter.proofs.RemoveLaws.{large, small_by, small_yes}
-use borrow.Author.Rules.{rules}
 use Rattle.filter.proofs.remove.small.Goals as goal
 
 pub returns-then-least-count : goal.returns-then-least-count

@@ -1,8 +1,4 @@
 -- The answers that the check does not find alone.
-use Prim.Native.Nat.{◌+◌, ◌*◌, ◌-◌, ◌≤◌}
-use mathlib.Core.Path.{◌≡◌}
-use Rattle.rules.specs.Filter.{total}
-use Rattle.table.specs.View.{part, recs_of}
 use Rattle.filter.proofs.RemoveLaws.{next_count, total-start, total_go, total_done}
 use borrow.Author.Rules.{rules}
 use Rattle.filter.proofs.remove.total.Goals as goal

@@ -3,8 +3,6 @@ use Prim.Native.Nat.{◌+◌, ◌*◌, ◌-◌, ◌≤◌}
 use mathlib.Core.Path.{◌≡◌}
 use Rattle.rules.specs.Filter.{total}
 use Rattle.table.specs.View.{part, recs_of}
-use Rattle.filter.proofs.RemoveLaws.{next_count, total-start, total_go, total_done}
-use borrow.Author.Rules.{rules}
 use Rattle.filter.proofs.remove.total.Given as goal
 
 abbrev pub invariant-loop-k : goal.invariant-loop-k

@@ -1,14 +1,5 @@
 -- The answers that the check does not find alone.
-use Prim.Native.Nat.{◌*◌, ◌-◌, ◌≤◌}
-use mathlib.Core.Path.{◌≡◌}
-use lib.ListN.{length}
-use Rattle.rules.specs.Base.{upto}
-use Rattle.rules.specs.Filter.{filter_one}
-use Rattle.rules.specs.Reasons.{gone_with}
-use Rattle.space.specs.Space.{Frame}
 use Rattle.space.proofs.Laws.{frame_none, frame_then}
-use Rattle.table.specs.View.{recs_of}
-use Rattle.filter.specs.Group.{Calm}
 use Rattle.filter.proofs.FilterLaws.{filter-start, filter_go, filter_done, gone_start, gone_go, gone_done}
 use borrow.Author.Rules.{rules}
 use Rattle.filter.proofs.told.filter_told.Goals as goal

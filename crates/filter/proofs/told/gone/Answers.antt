@@ -1,5 +1,4 @@
 -- By the rule's two tests.
-use borrow.Author.Rules.{rules}
 use borrow.Author.Tests.{eq-eqb, ne_eqb}
 use Rattle.rules.specs.Base.{◌and◌, if◌then◌else◌}
 use Rattle.filter.proofs.told.gone.Goals as goal

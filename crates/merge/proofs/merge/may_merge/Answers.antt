@@ -1,6 +1,5 @@
 -- `merge::merge::may_merge` meets its contract. Straight line: the rule's four tests, in its order.
 use Rattle.merge.proofs.TurnLaws.{may_dead, may_over, may_empty, may_small, may_border, may_inner}
-use borrow.Author.Rules.{rules}
 use Rattle.merge.proofs.merge.may_merge.Goals as goal
 
 pub returns-then-ws-i-eq0 : goal.returns-then-ws-i-eq0

@@ -1,10 +1,5 @@
 -- The answers that the check does not find alone.
-use mathlib.Core.Path.{◌≡◌}
-use lib.ListN.{length}
-use Rattle.table.specs.View.{recs_of}
-use Rattle.pool.specs.Forms.{PoolIn, LaidIn}
-use Rattle.pool.proofs.MergeLaws.{owners}
-use Rattle.merge.proofs.TurnLaws.{Rounds, half_pool, half_laid, rounds-start, rounds_go, rounds_falls, rounds_done, rounds-joined, pool_rest}
+use Rattle.merge.proofs.TurnLaws.{half_pool, half_laid, rounds-start, rounds_go, rounds_falls, rounds_done, rounds-joined, pool_rest}
 use borrow.Author.Rules.{rules}
 use Rattle.merge.proofs.merge.merge_all.Goals as goal
 

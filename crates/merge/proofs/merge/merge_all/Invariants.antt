@@ -5,8 +5,7 @@ use lib.ListN.{length}
 use Rattle.table.specs.View.{recs_of}
 use Rattle.pool.specs.Forms.{PoolIn, LaidIn}
 use Rattle.pool.proofs.MergeLaws.{owners}
-use Rattle.merge.proofs.TurnLaws.{Rounds, half_pool, half_laid, rounds-start, rounds_go, rounds_falls, rounds_done, rounds-joined, pool_rest}
-use borrow.Author.Rules.{rules}
+use Rattle.merge.proofs.TurnLaws.{Rounds}
 use Rattle.merge.proofs.merge.merge_all.Given as goal
 
 abbrev pub invariant-loop-round : goal.invariant-loop-round

@@ -1,12 +1,4 @@
 -- The answers that the check does not find alone.
-use Prim.Native.Nat.{◌-◌, ◌≤◌}
-use mathlib.Core.Path.{◌≡◌}
-use lib.ListN.{length}
-use Rattle.rules.specs.Base.{upto}
-use Rattle.rules.specs.Merge.{Merge}
-use Rattle.pool.specs.Fixed.{merge_one_f}
-use Rattle.pool.specs.Forms.{PoolIn, LaidIn}
-use Rattle.merge.specs.Rounds.{round_at}
 use Rattle.merge.proofs.TurnLaws.{round-start, round_go, round-end, round_reps}
 use borrow.Author.Rules.{rules}
 use native.Mathlib.Omega.{arith}

@@ -8,9 +8,6 @@ use Rattle.rules.specs.Merge.{Merge}
 use Rattle.pool.specs.Fixed.{merge_one_f}
 use Rattle.pool.specs.Forms.{PoolIn, LaidIn}
 use Rattle.merge.specs.Rounds.{round_at}
-use Rattle.merge.proofs.TurnLaws.{round-start, round_go, round-end, round_reps}
-use borrow.Author.Rules.{rules}
-use native.Mathlib.Omega.{arith}
 use Rattle.merge.proofs.merge.merge_round.Given as goal
 
 abbrev pub invariant-loop-i : goal.invariant-loop-i

@@ -1,6 +1,5 @@
 -- `merge::merge::place_of` meets its contract. Straight line.
 use Rattle.merge.proofs.TurnLaws.{place_is}
-use borrow.Author.Rules.{rules}
 use Rattle.merge.proofs.merge.place_of.Goals as goal
 
 pub returns : goal.returns

@@ -1,6 +1,5 @@
 -- `merge::pick::better` meets its contract. Straight line: the rule's tests, in its order.
 use Rattle.merge.proofs.PickLaws.{better_dead, better-over, better_large, better_fit, better_unfit}
-use borrow.Author.Rules.{rules}
 use Rattle.merge.proofs.pick.better.Goals as goal
 
 pub returns-then-ws-j-eq0 : goal.returns-then-ws-j-eq0

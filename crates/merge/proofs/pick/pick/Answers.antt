@@ -1,10 +1,6 @@
 -- The answers that the check does not find alone.
-use lib.ListN.{length, drop, get_or}
-use Rattle.pool.specs.Fixed.{picked_f}
-use Rattle.table.specs.View.{view, rec_at}
 use Rattle.merge.proofs.PickLaws.{pick-listed, picked_go, picked-end, own_id}
-use Prim.Native.Nat.{◌≤◌, ◌-◌, ◌<◌, ◌*◌}
-use mathlib.Core.Path.{◌≡◌, refl}
+use mathlib.Core.Path.{refl}
 use borrow.Author.Rules.{rules}
 use Rattle.merge.proofs.pick.pick.Goals as goal
 

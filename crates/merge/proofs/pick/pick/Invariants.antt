@@ -2,10 +2,8 @@
 use lib.ListN.{length, drop, get_or}
 use Rattle.pool.specs.Fixed.{picked_f}
 use Rattle.table.specs.View.{view, rec_at}
-use Rattle.merge.proofs.PickLaws.{pick-listed, picked_go, picked-end, own_id}
 use Prim.Native.Nat.{◌≤◌, ◌-◌, ◌<◌, ◌*◌}
-use mathlib.Core.Path.{◌≡◌, refl}
-use borrow.Author.Rules.{rules}
+use mathlib.Core.Path.{◌≡◌}
 use Rattle.merge.proofs.pick.pick.Given as goal
 
 abbrev pub invariant-loop-k : goal.invariant-loop-k

@@ -1,10 +1,5 @@
 -- The answers that the check does not find alone.
-use lib.ListN.{length, drop}
-use Rattle.pool.specs.Fixed.{floor_is}
-use Rattle.rules.specs.Base.{any}
 use Rattle.merge.proofs.SuitLaws.{any-end, floor_here, floor_next, floor_in_lem}
-use Prim.Native.Nat.{◌≤◌, ◌-◌}
-use mathlib.Core.Path.{◌≡◌, refl}
 use borrow.Author.Rules.{rules}
 use Rattle.merge.proofs.recs.any_floor.Goals as goal
 

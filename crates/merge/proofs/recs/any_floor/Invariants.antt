@@ -2,10 +2,8 @@
 use lib.ListN.{length, drop}
 use Rattle.pool.specs.Fixed.{floor_is}
 use Rattle.rules.specs.Base.{any}
-use Rattle.merge.proofs.SuitLaws.{any-end, floor_here, floor_next, floor_in_lem}
 use Prim.Native.Nat.{◌≤◌, ◌-◌}
-use mathlib.Core.Path.{◌≡◌, refl}
-use borrow.Author.Rules.{rules}
+use mathlib.Core.Path.{◌≡◌}
 use Rattle.merge.proofs.recs.any_floor.Given as goal
 
 abbrev pub invariant-loop-i : goal.invariant-loop-i

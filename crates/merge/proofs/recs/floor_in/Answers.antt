@@ -1,6 +1,5 @@
 -- The answers that the check does not find alone.
-use Rattle.pool.proofs.BearerLaws.{steps}
-use Rattle.merge.proofs.SuitLaws.{Looked, look-start, look_in, look_falls, look_found, look_next, look_none, floors_below}
+use Rattle.merge.proofs.SuitLaws.{look-start, look_in, look_falls, look_found, look_next, look_none, floors_below}
 use borrow.Author.Rules.{rules}
 use Rattle.merge.proofs.recs.floor_in.Goals as goal
 

@@ -1,8 +1,7 @@
 -- `merge::recs::floor_in` meets its contract. The loop's invariant is `Looked`: the records of id a that come before y in their row have no floor of id b.
 -- Each step leaves fewer to go to (`steps`), and after the last of them, at 0, all have been looked at.
 use Rattle.pool.proofs.BearerLaws.{steps}
-use Rattle.merge.proofs.SuitLaws.{Looked, look-start, look_in, look_falls, look_found, look_next, look_none, floors_below}
-use borrow.Author.Rules.{rules}
+use Rattle.merge.proofs.SuitLaws.{Looked}
 use Rattle.merge.proofs.recs.floor_in.Given as goal
 
 abbrev pub invariant-loop-y : goal.invariant-loop-y

@@ -1,5 +1,4 @@
 -- The records lie in the part that is lent, and come back in it (`filtered_in`).
-use borrow.Author.Rules.{rules}
 use mathlib.Core.Path.{sym}
 use Rattle.merge.proofs.ToldLaws.{part_length, filtered_in}
 use Rattle.merge.proofs.regions.filter_in.Goals as goal

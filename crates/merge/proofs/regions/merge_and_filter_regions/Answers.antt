@@ -1,7 +1,6 @@
 -- `merge::regions::merge_and_filter_regions` meets its contract. Three stages in a row. The filter leaves the pool in order (`filtered_pool`), the merge the numbering's column (`AtRest`),
 -- and the merge with floors that stay gives the rule's numbers (`numbered_top`).
 use Rattle.merge.proofs.TopLaws.{filtered_pool, filtered_laid, filtered-joined, numbered_top, rest_column, rest_blank}
-use borrow.Author.Rules.{rules}
 use native.Mathlib.Omega.{arith}
 use Rattle.merge.proofs.regions.merge_and_filter_regions.Goals as goal
 

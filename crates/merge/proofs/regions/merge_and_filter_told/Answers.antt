@@ -1,6 +1,5 @@
 -- Three stages in a row, over the records before `end`: the filter leaves the pool in order, the merge the numbering's column, and what was noted stays (ToldLaws).
 use native.Mathlib.Omega.{arith}
-use borrow.Author.Rules.{rules}
 use mathlib.Core.Path.{refl}
 use Rattle.merge.proofs.TopLaws.{rest_column, rest_blank}
 use Rattle.merge.proofs.ToldLaws.{told_pool, told_laid, told-joined, told_mid, told-regions}

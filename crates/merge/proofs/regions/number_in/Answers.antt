@@ -1,6 +1,5 @@
 -- The records lie in the part that is lent; what is past it stays (`number_past`).
 use native.Mathlib.Omega.{arith}
-use borrow.Author.Rules.{rules}
 use mathlib.Core.Path.{sym}
 use Rattle.merge.proofs.ToldLaws.{part_length, number_past}
 use Rattle.merge.proofs.regions.number_in.Goals as goal

@@ -1,11 +1,7 @@
 -- The answers that the check does not find alone.
 use mathlib.Core.Path.{◌∙◌}
 use native.Mathlib.Omega.{arith}
-use borrow.Author.Rules.{rules}
-use lib.ListN.{take}
-use Rattle.table.specs.View.{recs_of}
-use Rattle.pool.proofs.MergeLaws.{owners}
-use Rattle.merge.proofs.ToldLaws.{AllNoted, all_start, all_next, all_falls, all_done}
+use Rattle.merge.proofs.ToldLaws.{all_start, all_next, all_falls, all_done}
 use Rattle.merge.proofs.told.merge_all_noted.Goals as goal
 
 pub loop-round-init : goal.loop-round-init

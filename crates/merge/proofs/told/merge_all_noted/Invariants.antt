@@ -1,12 +1,9 @@
 -- The loop's invariant: the rule from here gives and tells what it does from the start, with enough fuel (`AllNoted`). Each round that merges leaves fewer records
 -- that bear their own number: the measure.
-use mathlib.Core.Path.{◌∙◌}
-use native.Mathlib.Omega.{arith}
-use borrow.Author.Rules.{rules}
 use lib.ListN.{take}
 use Rattle.table.specs.View.{recs_of}
 use Rattle.pool.proofs.MergeLaws.{owners}
-use Rattle.merge.proofs.ToldLaws.{AllNoted, all_start, all_next, all_falls, all_done}
+use Rattle.merge.proofs.ToldLaws.{AllNoted}
 use Rattle.merge.proofs.told.merge_all_noted.Given as goal
 
 abbrev pub invariant-loop-round : goal.invariant-loop-round

@@ -1,6 +1,4 @@
 -- The records lie in the part that is lent, and come back in it (`merged_in`).
-use native.Mathlib.Omega.{arith}
-use borrow.Author.Rules.{rules}
 use mathlib.Core.Path.{sym}
 use Rattle.merge.proofs.ToldLaws.{part_length, merged_in}
 use Rattle.merge.proofs.told.merge_in.Goals as goal

@@ -1,9 +1,7 @@
 -- A turn that merges nothing notes nothing; one that merges finds room, since one record fewer bears its own number (ToldLaws).
-use mathlib.Core.Path.{◌≡◌, refl, ◌∙◌}
-use Prim.Native.Nat.{◌*◌, ◌≤◌, ◌<◌}
+use mathlib.Core.Path.{refl}
+use Prim.Native.Nat.{◌*◌, ◌≤◌}
 use native.Mathlib.Omega.{arith}
-use borrow.Author.Rules.{rules}
-use lib.ListN.{length}
 use Rattle.merge.proofs.ToldLaws.{pool_mid, noted-none, note_in, noted_some}
 use Rattle.merge.proofs.told.merge_one_noted.Goals as goal
 

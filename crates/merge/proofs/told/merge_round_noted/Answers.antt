@@ -1,10 +1,6 @@
 -- The answers that the check does not find alone.
-use Prim.Native.Nat.{◌-◌, ◌≤◌}
-use mathlib.Core.Path.{◌≡◌, refl, ◌∙◌}
+use mathlib.Core.Path.{refl, ◌∙◌}
 use native.Mathlib.Omega.{arith}
-use borrow.Author.Rules.{rules}
-use lib.ListN.{length}
-use Rattle.merge.specs.Told.{NotedRound}
 use Rattle.merge.proofs.ToldLaws.{round-start, round-joined, round_next, round_done}
 use Rattle.merge.proofs.told.merge_round_noted.Goals as goal
 

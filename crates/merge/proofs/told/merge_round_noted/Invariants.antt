@@ -1,11 +1,8 @@
 -- The loop's invariant: records, merges and what is noted are the rule's after i turns (`NotedRound`). The measure is the records left.
 use Prim.Native.Nat.{◌-◌, ◌≤◌}
-use mathlib.Core.Path.{◌≡◌, refl, ◌∙◌}
-use native.Mathlib.Omega.{arith}
-use borrow.Author.Rules.{rules}
+use mathlib.Core.Path.{◌≡◌}
 use lib.ListN.{length}
 use Rattle.merge.specs.Told.{NotedRound}
-use Rattle.merge.proofs.ToldLaws.{round-start, round-joined, round_next, round_done}
 use Rattle.merge.proofs.told.merge_round_noted.Given as goal
 
 abbrev pub invariant-loop-i : goal.invariant-loop-i

@@ -1,7 +1,5 @@
 -- `filter::gather::pop` meets its contract. Straight line: the top of the stack moves to the found ones, and its place is zero again.
-use Prim.Native.Nat.{◌*◌, ◌+◌, ◌-◌}
 use Rattle.filter.proofs.GroupLaws.{pop_in_2, pop_is, pop_below, pop_waiting, pop_more, pop_frame}
-use native.Mathlib.Omega.{arith}
 use borrow.Author.Rules.{rules}
 use Rattle.filter.proofs.gather.pop.Goals as goal
 

@@ -11,7 +11,7 @@ use mathlib.Core.List.{List, [], ◌∷◌}
 use lib.ListN.{length, get_or, set}
 use lib.Dec.{eqb, ltb}
 use borrow.Author.Tests.{eqb-true}
-use mathlib.Core.Logic.{⊎_elim, ◌⊎◌}
+use mathlib.Core.Logic.{⊎_elim}
 use Rattle.rules.specs.Base.{◌and◌, ◌or◌, if◌then◌else◌, upto, tab}
 use Rattle.rules.specs.Field.{Field, spans, cell_of, none}
 use Rattle.rules.specs.Net.{Net, net_of}

@@ -12,7 +12,7 @@ use lib.Dec.{eqb}
 use borrow.Rule.Slice.PartMut.{put_mid, mid_of, same_len_mid}
 use borrow.Author.Tests.{le-ltb}
 use Rattle.rules.specs.Base.{◌and◌}
-use Rattle.rules.specs.Records.{Rec, at, once_all}
+use Rattle.rules.specs.Records.{Rec, once_all}
 use Rattle.space.specs.Space.{Frame, sec}
 use Rattle.space.proofs.Laws.{frame_none, frame_put, get_or_before, get_d_after, sec-put, sec-after, length-sec}
 use Rattle.table.specs.View.{part, start_of, end_of, list_at, rec_at, recs_of, Placed}

@@ -12,7 +12,7 @@ use borrow.Author.Tests.{lt-ltb, le-ltb, ltb-true}
 use Rattle.rules.specs.Base.{◌and◌, if◌then◌else◌, many}
 use Rattle.rules.specs.Net.{Net}
 use Rattle.rules.specs.Contour.{first_solid, contour, cut_short}
-use Rattle.rules.specs.Records.{Rec, at}
+use Rattle.rules.specs.Records.{Rec}
 use Rattle.laws.proofs.Basics.{if-ind}
 use Rattle.space.specs.Space.{sec, Frame}
 use Rattle.space.proofs.Laws.{sec-after, get_or_before, get_d_after}

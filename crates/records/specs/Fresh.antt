@@ -1,5 +1,5 @@
 -- New records, made one after the other from the number of spans of each id.
-use Rattle.std.specs.Prelude.{◌≡◌, ◌⊎◌, List, ℕ, ◌+◌, ◌*◌, ◌≤◌, ◌<◌, length, get_or, set, take, eqb, ltb}
+use Rattle.std.specs.Prelude.{◌≡◌, ◌⊎◌, List, ℕ, ◌+◌, ◌≤◌, ◌<◌, length, get_or, set, take, eqb, ltb}
 use Rattle.rules.specs.Base.{if◌then◌else◌, many}
 use Rattle.table.specs.Map.{areas_at, lists_at, cuts_at, pool_at, floors_from, records_end}
 use Rattle.table.specs.View.{list_start, list_end, floors_start, floors_end}

@@ -1,7 +1,6 @@
 -- An empty cell leaves all as it was; of another what is known is handed on, and it is known itself once its spans are added (BuildLaws).
 use Prim.Native.Nat.{◌<◌}
 use native.Mathlib.Omega.{arith}
-use borrow.Author.Rules.{rules}
 use mathlib.Core.Path.{sym, ap, ◌∙◌}
 use Rattle.records.specs.Build.{spans_at}
 use Rattle.records.specs.declared.cell.Spans.{Spans}
@@ -17,7 +16,10 @@ look_back-back-requires c = let some : 0 < (spans_at c.args.index.now c.args.cou
 
 pub add_spans-requires : goal.add_spans-requires
 add_spans-requires c = let some : 0 < (spans_at c.args.index.now c.args.count.now c.args.c).size = let e = ap (λ (x : Spans). x.size) c.spans_of-cell.ensures in omega (arith, e, c.if-cell-eq0.false) in
-    (rw c.spans_of-cell.ensures c.requires.fact.0, rw c.spans_of-cell.ensures (know_from _ _ _ _ _ _ _ _ c.requires.fact.0 c.requires.fact.1 some _ (rw c.spans_of-cell.ensures at c.look_back-back.ensures.1)))
+    record {
+      entering = rw c.spans_of-cell.ensures c.requires.fact.0;
+      knowing_from = rw c.spans_of-cell.ensures (know_from _ _ _ _ _ _ _ _ c.requires.fact.0 c.requires.fact.1 some _ (rw c.spans_of-cell.ensures at c.look_back-back.ensures.1));
+    }
 
 pub returns : goal.returns
 returns c = let some : 0 < (spans_at c.args.index.now c.args.count.now c.args.c).size = let e = ap (λ (x : Spans). x.size) c.spans_of-cell.ensures in omega (arith, e, c.if-cell-eq0.false) in

@@ -4,7 +4,6 @@ use lib.ListN.{get_or}
 use Rattle.laws.proofs.Plain.{plain_zero}
 use Rattle.records.proofs.CellLaws.{border-not, region_yes}
 use Rattle.records.proofs.BuildLaws.{added_none}
-use borrow.Author.Rules.{rules}
 use Rattle.records.proofs.build.add_span.Goals as goal
 
 pub returns-then-r : goal.returns-then-r

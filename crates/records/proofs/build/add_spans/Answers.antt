@@ -1,9 +1,6 @@
 -- The answers that the check does not find alone.
-use Prim.Native.Nat.{◌-◌}
 use native.Mathlib.Omega.{arith}
-use Rattle.records.specs.Build.{Entered}
 use Rattle.records.proofs.BuildLaws.{entered_start, entered_room, entered_stand, entered_knowing, entered_next, entered_end}
-use borrow.Author.Rules.{rules}
 use Rattle.records.proofs.build.add_spans.Goals as goal
 
 pub loop-j-init : goal.loop-j-init

@@ -1,10 +1,7 @@
 -- The invariant `Entered`: the first j spans of the cell are added, and what is past the records is as it was.
 -- It starts with none of them; the measure is what is left of the cell.
 use Prim.Native.Nat.{◌-◌}
-use native.Mathlib.Omega.{arith}
 use Rattle.records.specs.Build.{Entered}
-use Rattle.records.proofs.BuildLaws.{entered_start, entered_room, entered_stand, entered_knowing, entered_next, entered_end}
-use borrow.Author.Rules.{rules}
 use Rattle.records.proofs.build.add_spans.Given as goal
 
 abbrev pub invariant-loop-j : goal.invariant-loop-j

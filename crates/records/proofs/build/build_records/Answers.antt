@@ -1,13 +1,12 @@
 -- The answers that the check does not find alone.
-use Prim.Native.Nat.{◌+◌, ◌-◌, ◌*◌, ◌≤◌}
+use Prim.Native.Nat.{◌+◌, ◌*◌, ◌≤◌}
 use mathlib.Core.Path.{refl, ◌∙◌}
 use Rattle.rules.specs.Field.{Field}
 use Rattle.field.specs.Lent.{lent}
 use Rattle.field.proofs.Passed.{sound_reached}
-use Rattle.records.specs.Build.{spans_at, Knowing}
+use Rattle.records.specs.Build.{spans_at}
 use Rattle.records.specs.declared.grow.Plan.{Plan}
-use Rattle.records.proofs.BuildLaws.{Running, run-start, know_start, cell_in, run_enter, run_next, built}
-use borrow.Author.Rules.{rules}
+use Rattle.records.proofs.BuildLaws.{run-start, know_start, cell_in, run_enter, run_next, built}
 use native.Mathlib.Omega.{arith}
 use Rattle.records.proofs.build.build_records.Goals as goal
 

@@ -1,16 +1,10 @@
 -- The invariant `Running`: after the cells before c the records are the rule's after those cells' spans, and what is past them is as it was; and
 -- `Knowing`: those of the last cell's spans have what they take from it.
 -- It starts with new records; the measure is what is left of the cells.
-use Prim.Native.Nat.{◌+◌, ◌-◌, ◌*◌, ◌≤◌}
-use mathlib.Core.Path.{refl, ◌∙◌}
-use Rattle.rules.specs.Field.{Field}
+use Prim.Native.Nat.{◌+◌, ◌-◌, ◌*◌}
 use Rattle.field.specs.Lent.{lent}
-use Rattle.field.proofs.Passed.{sound_reached}
-use Rattle.records.specs.Build.{spans_at, Knowing}
-use Rattle.records.specs.declared.grow.Plan.{Plan}
-use Rattle.records.proofs.BuildLaws.{Running, run-start, know_start, cell_in, run_enter, run_next, built}
-use borrow.Author.Rules.{rules}
-use native.Mathlib.Omega.{arith}
+use Rattle.records.specs.Build.{Knowing}
+use Rattle.records.proofs.BuildLaws.{Running}
 use Rattle.records.proofs.build.build_records.Given as goal
 
 abbrev pub invariant-loop-c : goal.invariant-loop-c

@@ -1,7 +1,6 @@
 -- A span of a region is counted: what it takes from its cell and then its contour are, together, the rule's `counted`.
 -- The records lie before the table, so the net stays.
 use Rattle.records.proofs.BuildLaws.{own_below, own_some, reach_then, added-one}
-use borrow.Author.Rules.{rules}
 use Rattle.records.proofs.build.count_span.Goals as goal
 
 pub add_cell-requires : goal.add_cell-requires

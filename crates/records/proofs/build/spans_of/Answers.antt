@@ -1,4 +1,3 @@
-use borrow.Author.Rules.{rules}
 use Rattle.records.specs.Build.{spans_at}
 use Rattle.records.proofs.build.spans_of.Goals as goal
 

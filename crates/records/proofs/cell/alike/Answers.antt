@@ -1,7 +1,6 @@
 -- Both cells have spans, as many, so they lie among the ids, and what `same` finds of their parts is what the layers have (CellLaws).
 use Prim.Native.Nat.{◌+◌, ◌≤◌}
 use native.Mathlib.Omega.{arith}
-use borrow.Author.Rules.{rules}
 use mathlib.Core.Path.{refl}
 use lib.ListN.{length}
 use Rattle.records.proofs.CellLaws.{alike_ids}

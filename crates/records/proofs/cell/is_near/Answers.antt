@@ -1,7 +1,6 @@
 -- No loop: a prior cell has as many spans and lies among the ids, and so does its span in the span's layer; the answer is the test of the two ids.
 use Prim.Native.Nat.{◌+◌, ◌-◌, ◌<◌}
 use native.Mathlib.Omega.{arith}
-use borrow.Author.Rules.{rules}
 use borrow.Author.Tests.{eqb-true}
 use lib.ListN.{length}
 use mathlib.Core.Bool.{false≢true}

@@ -1,11 +1,6 @@
 -- The answers that the check does not find alone.
-use Prim.Native.Nat.{◌+◌, ◌-◌}
-use mathlib.Core.Path.{◌≡◌}
-use Rattle.rules.specs.Base.{◌or◌}
-use Rattle.records.specs.Cell.{twins, Joining}
 use Rattle.records.proofs.CellLaws.{twins-start, twins_go, twins-end}
 use Rattle.records.proofs.JoinLaws.{join_start, join_room, join_unchanged, join_next, join_end}
-use borrow.Author.Rules.{rules}
 use native.Mathlib.Omega.{arith}
 use Rattle.records.proofs.cell.join.Goals as goal
 

@@ -4,10 +4,6 @@ use Prim.Native.Nat.{◌+◌, ◌-◌}
 use mathlib.Core.Path.{◌≡◌}
 use Rattle.rules.specs.Base.{◌or◌}
 use Rattle.records.specs.Cell.{twins, Joining}
-use Rattle.records.proofs.CellLaws.{twins-start, twins_go, twins-end}
-use Rattle.records.proofs.JoinLaws.{join_start, join_room, join_unchanged, join_next, join_end}
-use borrow.Author.Rules.{rules}
-use native.Mathlib.Omega.{arith}
 use Rattle.records.proofs.cell.join.Given as goal
 
 abbrev pub invariant-loop-j : goal.invariant-loop-j

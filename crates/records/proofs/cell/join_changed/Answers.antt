@@ -1,6 +1,5 @@
 -- No loop: a layer that has the prior cell's id joins to no effect (JoinLaws), since that id is listed, or is none that joins; any other is `join_one`'s.
 use native.Mathlib.Omega.{arith}
-use borrow.Author.Rules.{rules}
 use mathlib.Core.Path.{refl}
 use Rattle.records.proofs.JoinLaws.{join_listed}
 use Rattle.records.proofs.cell.join_changed.Goals as goal

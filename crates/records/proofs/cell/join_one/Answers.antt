@@ -4,7 +4,6 @@ use Rattle.records.proofs.CellLaws.{border-not, region_yes, join_self, join_not,
 use Rattle.laws.proofs.Plain.{plain_zero}
 use mathlib.Core.Path.{refl}
 use lib.ListN.{get_or}
-use borrow.Author.Rules.{rules}
 use Rattle.records.proofs.cell.join_one.Goals as goal
 
 pub returns-then-t-span : goal.returns-then-t-span

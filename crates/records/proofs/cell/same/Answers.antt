@@ -1,10 +1,8 @@
 -- The answers that the check does not find alone.
-use Prim.Native.Nat.{◌-◌}
 use mathlib.Core.Path.{sym}
 use mathlib.Core.Bool.{false≢true}
-use lib.ListN.{length}
 use borrow.Author.Rules.{rules}
-use Rattle.records.proofs.CellLaws.{Agree, agree_start, agree_next, agree_end, differ}
+use Rattle.records.proofs.CellLaws.{agree_start, agree_next, agree_end, differ}
 use Rattle.records.proofs.cell.same.Goals as goal
 
 pub loop-i-init : goal.loop-i-init

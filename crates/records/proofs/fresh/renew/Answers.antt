@@ -1,11 +1,8 @@
 -- The answers that the check does not find alone.
-use Prim.Native.Nat.{◌-◌}
-use mathlib.Core.Path.{◌≡◌, sym, ◌∙◌}
-use Rattle.records.specs.Rows.{slot}
+use mathlib.Core.Path.{sym, ◌∙◌}
 use Rattle.records.specs.Fresh.{Renewed}
 use Rattle.records.proofs.CountLaws.{slot-first, slot_room}
 use Rattle.records.proofs.FreshLaws.{renewed_start, renewed_here, renewed_then, renewed_end, lower_next}
-use borrow.Author.Rules.{rules}
 use native.Mathlib.Omega.{arith}
 use Rattle.records.proofs.fresh.renew.Goals as goal
 

@@ -1,13 +1,9 @@
 -- The invariant `Renewed`: the records before i are new, and `lower` is how many spans have an id below i.
 -- It starts from the counts of all ids; the measure is what is left of the records.
 use Prim.Native.Nat.{◌-◌}
-use mathlib.Core.Path.{◌≡◌, sym, ◌∙◌}
+use mathlib.Core.Path.{◌≡◌}
 use Rattle.records.specs.Rows.{slot}
 use Rattle.records.specs.Fresh.{Renewed}
-use Rattle.records.proofs.CountLaws.{slot-first, slot_room}
-use Rattle.records.proofs.FreshLaws.{renewed_start, renewed_here, renewed_then, renewed_end, lower_next}
-use borrow.Author.Rules.{rules}
-use native.Mathlib.Omega.{arith}
 use Rattle.records.proofs.fresh.renew.Given as goal
 
 abbrev pub invariant-loop-i : goal.invariant-loop-i

@@ -7,7 +7,6 @@ use Rattle.rules.specs.Refusals.{most_spans}
 use Rattle.records.proofs.CountLaws.{slot_room}
 use Rattle.records.proofs.FreshLaws.{floors_fit, renewed_one}
 use native.Mathlib.Omega.{arith}
-use borrow.Author.Rules.{rules}
 use Rattle.records.proofs.fresh.renew_one.Goals as goal
 
 pub overflow_mul-floors-3 : goal.overflow_mul-floors-3

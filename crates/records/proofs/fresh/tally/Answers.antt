@@ -1,9 +1,5 @@
 -- The answers that the check does not find alone.
-use Prim.Native.Nat.{◌-◌}
-use lib.ListN.{length}
-use Rattle.records.specs.Fresh.{Tallied}
 use Rattle.records.proofs.FreshLaws.{tallied_start, tally_fits, tallied_next, tallied_end}
-use borrow.Author.Rules.{rules}
 use Rattle.records.proofs.fresh.tally.Goals as goal
 
 pub loop-k-init : goal.loop-k-init

@@ -3,8 +3,6 @@
 use Prim.Native.Nat.{◌-◌}
 use lib.ListN.{length}
 use Rattle.records.specs.Fresh.{Tallied}
-use Rattle.records.proofs.FreshLaws.{tallied_start, tally_fits, tallied_next, tallied_end}
-use borrow.Author.Rules.{rules}
 use Rattle.records.proofs.fresh.tally.Given as goal
 
 abbrev pub invariant-loop-k : goal.invariant-loop-k

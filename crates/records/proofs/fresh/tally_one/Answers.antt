@@ -2,7 +2,6 @@
 -- The caller shows that the count fits.
 use Rattle.records.proofs.FreshLaws.{tally_past, tally_below}
 use native.Mathlib.Omega.{arith}
-use borrow.Author.Rules.{rules}
 use Rattle.records.proofs.fresh.tally_one.Goals as goal
 
 pub returns-then-m-r : goal.returns-then-m-r

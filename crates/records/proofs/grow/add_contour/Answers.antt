@@ -7,7 +7,6 @@ use Rattle.table.specs.Map.{lists_at}
 use Rattle.records.proofs.RowLaws.{list_parts}
 use Rattle.records.proofs.ContourLaws.{contour_there, none_after, area_keeping, area_tracing, contour-taken}
 use native.Mathlib.Omega.{arith}
-use borrow.Author.Rules.{rules}
 use Rattle.records.proofs.grow.add_contour.Goals as goal
 
 pub start_of-requires : goal.start_of-requires

@@ -7,7 +7,6 @@ use lib.ListN.{get_or}
 use Rattle.records.proofs.RowLaws.{floor_parts}
 use Rattle.records.proofs.FloorLaws.{room_order, room_inside, room_roomy, room_prior, put_room, end_fits, step_floors, step_stays}
 use native.Mathlib.Omega.{arith}
-use borrow.Author.Rules.{rules}
 use Rattle.records.proofs.grow.add_floors.Goals as goal
 
 pub start_of-start-requires : goal.start_of-start-requires
@@ -53,7 +52,7 @@ set_part-requires c = let ea : c.start_of-start.result ≡ start_of c.args.ws.no
     let ez : c.start_of-start.result + 62 * c.at.result ≡ c.start_of-start.result + 62 * get_or c.args.ws.now (c.args.m + c.args.r) 0 = ap (λ (x : ℕ). c.start_of-start.result + 62 * x) c.at.ensures.0 in
     let f = end_fits _ _ _ _ _ c.requires.keeping.0 _ c.requires.keeping.1 _ _ _ ea ee ez _ _ _ c.join-taken.auto.part c.join-taken.ensures.fact in
     record {
-      m_in_bounds = put_room _ _ _ _ _ c.requires.keeping.0 _ c.requires.keeping.1 _ _ _ ea ee ez c.join-taken.last.1.0 c.join-taken.auto.part;
+      m_in_bounds = put_room _ _ _ _ _ c.requires.keeping.0 _ c.requires.keeping.1 _ _ _ ea ee ez _ c.join-taken.auto.part;
       r_lt_m = c.requires.keeping.1;
       a_lt_wide_end = f;
     }

@@ -1,7 +1,6 @@
 -- Record r, which has no list yet, takes the traced one: the pool is filled up to its new end, and its place is stored, then its mark.
 -- It fits: a traced list has at most four ids for each span of the region.
 use Rattle.records.proofs.TraceLaws.{list_fits, list_size, list_step}
-use borrow.Author.Rules.{rules}
 use native.Mathlib.Omega.{arith}
 use Rattle.records.proofs.grow.add_list.Goals as goal
 

@@ -3,6 +3,7 @@
 use Rattle.contour.proofs.PoolLaws.{start_con, start-at}
 use Rattle.records.proofs.TraceLaws.{trace_dir, trace_at, trace_cut_at, trace_none, trace_cut_none}
 use borrow.Author.Rules.{rules}
+use mathlib.Core.Path.{refl}
 use Rattle.records.proofs.grow.trace.Goals as goal
 
 pub connections-cons-requires : goal.connections-cons-requires
@@ -12,16 +13,16 @@ pub first_solid-requires : goal.first_solid-requires
 first_solid-requires c = start-at _ _ _ _ _ _ c.requires _ c.connections-cons.ensures
 
 pub walk_contour-requires : goal.walk_contour-requires
-walk_contour-requires c = (c.requires, trace_dir _ _ _ _ _ _ c.requires _ c.first_solid.ensures.result_value c.first_solid.ensures.value _ c.d-1.given.1)
+walk_contour-requires c = (c.requires, trace_dir _ _ _ _ _ _ c.requires _ c.in-At.ensures.result_value c.in-At.ensures.value _ refl)
 
 pub returns-in-At : goal.returns-in-At
 returns-in-At c = record {
-  fact = trace_at _ _ _ _ _ _ c.requires _ c.first_solid.ensures.result_value c.first_solid.ensures.value _ c.d-1.given.1 _ _ c.walk_contour.ensures.ws_after c.walk_contour.ensures.end_value;
-  cut_value = trace_cut_at _ _ _ _ _ _ c.requires _ c.first_solid.ensures.result_value c.first_solid.ensures.value _ c.d-1.given.1 _ c.walk_contour.ensures.cut_value;
+  fact = trace_at _ _ _ _ _ _ c.requires _ c.in-At.ensures.result_value c.in-At.ensures.value _ refl _ _ c.walk_contour.ensures.ws_after c.walk_contour.ensures.end_value;
+  cut_value = trace_cut_at _ _ _ _ _ _ c.requires _ c.in-At.ensures.result_value c.in-At.ensures.value _ refl _ c.walk_contour.ensures.cut_value;
 }
 
 pub returns-in-Nowhere : goal.returns-in-Nowhere
 returns-in-Nowhere c = record {
-  fact = trace_none _ _ _ _ _ _ c.requires _ c.first_solid.ensures.result_value c.enum_told-1.given.1;
-  cut_value = trace_cut_none _ _ _ _ _ _ c.requires _ c.first_solid.ensures.result_value c.enum_told-1.given.1;
+  fact = trace_none _ _ _ _ _ _ c.requires _ c.in-Nowhere.ensures.result_value refl;
+  cut_value = trace_cut_none _ _ _ _ _ _ c.requires _ c.in-Nowhere.ensures.result_value refl;
 }

@@ -2,7 +2,7 @@
 // written to a list; the refusal is given too.
 ghost use Rattle.rules.specs.Outcomes.{Sizes};
 ghost use Rattle.field.specs.Lent.{lent};
-ghost use Rattle.watershed.specs.Into.{ExplainsInto};
+ghost use Rattle.watershed.specs.Into.{ExplainsInto, ExplainsMeant};
 
 use watershed::into::explain_into;
 
@@ -24,10 +24,13 @@ pub extern "C" fn gussetraft_explain_span_into(
     trail: &mut [u16],
     answer: &mut [u16],
 ) -> u16
-    ensures { (let F = lent w h index.now count.now area.now con.now in
+    ensures into { (let F = lent w h index.now count.now area.now con.now in
         let z : Sizes = record { border = border_size; least = min_region_area; merge = merge_region_area } in
         ExplainsInto F dist.now max_distance z span workspace.old trail.old answer.old
         result workspace.new trail.new answer.new) }
+    ensures meant { (let F = lent w h index.now count.now area.now con.now in
+        let z : Sizes = record { border = border_size; least = min_region_area; merge = merge_region_area } in
+        ExplainsMeant F dist.now max_distance z span workspace.old trail.old answer.old result) }
 {
     explain_into(
         w,

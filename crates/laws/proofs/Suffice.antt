@@ -6,8 +6,8 @@ use native.Mathlib.Omega.{arith}
 use native.Mathlib.Nat.{le_refl}
 use mathlib.Core.Path.{◌≡◌, refl, sym, ap, ◌∙◌}
 use mathlib.Core.Bool.{Bool, true, false, true≢false, false≢true}
-use mathlib.Core.List.{List, [], ◌∷◌, map}
-use lib.ListN.{length, get_or, set, replicate, length-set}
+use mathlib.Core.List.{List, [], ◌∷◌}
+use lib.ListN.{length, get_or, set, length-set}
 use lib.Seq.{get_or-set_same, get_or-set_other}
 use lib.Dec.{eqb}
 use borrow.Author.Tests.{eqb-true, eqb-false, ne_eqb, lt-leb, le-ltb, not-true}
@@ -15,7 +15,7 @@ use Rattle.rules.specs.Base.{◌and◌, ◌or◌, if◌then◌else◌, upto, any
 use Rattle.rules.specs.Field.{Field, none}
 use Rattle.rules.specs.Net.{Net, net_of, spans, area_of, near}
 use Rattle.rules.specs.Growth.{Marks, id_of, put, Taken, look, takes, finds, exceeds, strays, wrote, written, Spread, round, rounds, rounds_stray, expand, expand_strays, Seed, Flow, objects, pushed, visit, flow, flood, floods, Ids, or_else, Turn, loaded, turn, turn_stops, turns_stop, blank, painted, first_id, stops}
-use Rattle.laws.proofs.Basics.{both, neither, either, and_no, if-ind, upto-ind, All, All_map, get_or-set_cases, map_all, zeros-at}
+use Rattle.laws.proofs.Basics.{both, either, and_no, if-ind, upto-ind, All, get_or-set_cases, map_all, zeros-at}
 use Rattle.laws.proofs.Lengths.{written-length, painted-length}
 use Rattle.laws.proofs.NextId.{zeros, zeros_le, zeros_down, zeros-lower, flood-zeros, if_add, ids_suffice}
 use Rattle.laws.proofs.Grows.{Inside, Down, expand_down, down_zeros, Room, blank_inside, loaded_inside, turn_room, first_few}

@@ -3,7 +3,7 @@
 -- each cell followed by its spans, end."
 use Rattle.std.specs.Prelude.{ℕ, zero, suc, ◌+◌, ◌*◌, List, [], ◌∷◌, ◌++◌, length, get_or, take, drop, leb, ltb, eqb}
 use Rattle.rules.specs.Base.{◌and◌, if◌then◌else◌}
-use Rattle.rules.specs.Field.{Field, spans}
+use Rattle.rules.specs.Field.{Field}
 use Rattle.rules.specs.Outcomes.{Sizes}
 
 -- what a file describes: a field, and the region entry's sizes

@@ -6,7 +6,7 @@ use Rattle.rules.specs.Field.{Field, none, spans}
 use Rattle.rules.specs.Net.{Net, net_of, near, corner, area_of}
 use Rattle.rules.specs.Net as net
 use Rattle.rules.specs.Refusals.{region_refusal}
-use Rattle.rules.specs.Growth.{plain, flagged, Marks, id_of, put, painted, first_id, blank, takes, finds, Spread, round, expand, Seed, other, sees, objects, visit, flood, floods, Turn, loaded, turn, grown, stops}
+use Rattle.rules.specs.Growth.{plain, flagged, Marks, id_of, put, painted, first_id, blank, takes, finds, Spread, round, expand, Seed, other, sees, objects, visit, flood, Turn, loaded, turn, grown, stops}
 use Rattle.rules.specs.Records.{Rec, at, has, records}
 use Rattle.rules.specs.Filter.{seen, gather, total, filter_one, filtered}
 use Rattle.rules.specs.Merge.{Merge, merge_one}

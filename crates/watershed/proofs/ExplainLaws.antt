@@ -28,7 +28,7 @@ use Rattle.records.specs.Stock.{Built}
 use Rattle.merge.proofs.ToldLaws.{part_length}
 use Rattle.reasons.specs.Why.{Means}
 use Rattle.watershed.specs.declared.explain.Explanation.{Explanation}
-use Rattle.watershed.specs.Into.{numbers_of, ExplainsInto}
+use Rattle.watershed.specs.Into.{numbers_of, ExplainsInto, ExplainsMeant}
 use Rattle.watershed.specs.Explain.{explained, without_room, with_room, room_reason, Living, Explains}
 
 -- ---------------------------------------------------------------- the refusal
@@ -270,17 +270,22 @@ module _ (F : Field) (dist : List ℕ) (most : ℕ) (z : Sizes) (s : ℕ) (w₀ 
     trail = λ h. absurd (n h);
     other = λ _. e;
     as_was = λ _. (refl, refl, refl);
-    means = λ h. absurd (n h);
   }
 
+  pub meant_other : (k : ℕ) → (length a₀ ≡ 11 → ⊥) → ExplainsMeant F dist most z s w₀ t₀ a₀ k
+  meant_other k n = record { means = λ h. absurd (n h) }
+
   pub into_told : (x : Explanation) (w t a : List ℕ) → length a₀ ≡ 11 → explained x w t ≡ explain_outcome F dist most z s w₀ t₀ → a ≡ numbers_of (explained x [] [])
-      → (x.refusal ≡ 0 → Means F dist most z s (explained x w t)) → ExplainsInto F dist most z s w₀ t₀ a₀ x.refusal w t a
-  into_told x w t a n e f g = record {
+      → ExplainsInto F dist most z s w₀ t₀ a₀ x.refusal w t a
+  into_told x w t a n e f = record {
     refused = λ _. ap (λ (o : ExplainOutcome). o.refused) e;
     numbers = λ _. f ∙ ap numbers_of e;
     workspace = λ _. ap (λ (o : ExplainOutcome). o.workspace) e;
     trail = λ _. ap (λ (o : ExplainOutcome). o.trail) e;
     other = λ h. absurd (h n);
     as_was = λ h. absurd (h n);
-    means = λ _ k. rw (← e) (g k);
   }
+
+  pub meant_told : (x : Explanation) (w t : List ℕ) → explained x w t ≡ explain_outcome F dist most z s w₀ t₀
+      → (x.refusal ≡ 0 → Means F dist most z s (explained x w t)) → ExplainsMeant F dist most z s w₀ t₀ a₀ x.refusal
+  meant_told x w t e g = record { means = λ _ k. rw (← e) (g k) }

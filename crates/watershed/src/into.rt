@@ -3,7 +3,7 @@ ghost use Rattle.std.specs.Prelude.{◌≡◌, [], length};
 ghost use Rattle.rules.specs.Outcomes.{Sizes};
 ghost use Rattle.field.specs.Lent.{lent};
 ghost use Rattle.watershed.specs.Explain.{explained};
-ghost use Rattle.watershed.specs.Into.{numbers_of, ExplainsInto};
+ghost use Rattle.watershed.specs.Into.{numbers_of, ExplainsInto, ExplainsMeant};
 
 use crate::explain::{Explanation, explain_span};
 use checker::wrong_length;
@@ -50,10 +50,13 @@ pub fn explain_into(
     trail: &mut [u16],
     answer: &mut [u16],
 ) -> u16
-    ensures { (let F = lent w h index.now count.now area.now con.now in
+    ensures into { (let F = lent w h index.now count.now area.now con.now in
         let z : Sizes = record { border = border_size; least = min_region_area; merge = merge_region_area } in
         ExplainsInto F dist.now max_distance z span workspace.old trail.old answer.old
         result workspace.new trail.new answer.new) }
+    ensures meant { (let F = lent w h index.now count.now area.now con.now in
+        let z : Sizes = record { border = border_size; least = min_region_area; merge = merge_region_area } in
+        ExplainsMeant F dist.now max_distance z span workspace.old trail.old answer.old result) }
 {
     if answer.len() != NUMBERS {
         return wrong_length(w as usize, h as usize, index, count, area, con);

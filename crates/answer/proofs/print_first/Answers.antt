@@ -1,7 +1,6 @@
 -- `answer::print_first` meets its contract: the parts that are lent are as long as asked, since the lists are.
 use native.Mathlib.Omega.{arith}
 use lib.ListN.{length-take}
-use borrow.Author.Rules.{rules}
 use Rattle.answer.proofs.print_first.Goals as goal
 
 pub slice_bounds-print_field-end : goal.slice_bounds-print_field-end

@@ -1,6 +1,5 @@
 -- The checker's verdict, with lists that are one too long.
 use Rattle.checker.proofs.Lengths.{long_refused, long_sound}
-use native.Mathlib.Omega.{arith}
 use borrow.Author.Rules.{rules}
 use Rattle.checker.proofs.wrong_length.Goals as goal
 

@@ -1,6 +1,5 @@
 -- The entry's answer is the outcome, and its numbers are taken apart unchanged; what they mean is read off the entry's promise.
 use Rattle.gussetraft.proofs.Apart.{gives_distances, leaves_distances}
-use borrow.Author.Rules.{rules}
 use Rattle.gussetraft.proofs.gussetraft_build_distance_field.Goals as goal
 
 pub returns : goal.returns

@@ -1,6 +1,5 @@
 -- The entry's answer is the outcome, and its numbers are taken apart unchanged.
 use Rattle.gussetraft.proofs.Apart.{gives-regions, leaves_rooms}
-use borrow.Author.Rules.{rules}
 use Rattle.gussetraft.proofs.gussetraft_build_regions.Goals as goal
 
 pub returns : goal.returns

@@ -1,7 +1,4 @@
 -- The answers that the check does not find alone.
-use Prim.Native.Nat.{◌≤◌, ◌-◌}
-use mathlib.Core.Path.{◌≡◌}
-use lib.ListN.{length}
 use Rattle.levels.specs.Levels.{any_open}
 use Rattle.levels.proofs.BlockLaws.{any_go, any_all}
 use borrow.Author.Rules.{rules}

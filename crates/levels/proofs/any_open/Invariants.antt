@@ -4,8 +4,6 @@ use Prim.Native.Nat.{◌≤◌, ◌-◌}
 use mathlib.Core.Path.{◌≡◌}
 use lib.ListN.{length}
 use Rattle.levels.specs.Levels.{any_open}
-use Rattle.levels.proofs.BlockLaws.{any_go, any_all}
-use borrow.Author.Rules.{rules}
 use Rattle.levels.proofs.any_open.Given as goal
 
 abbrev pub invariant-loop-i : goal.invariant-loop-i

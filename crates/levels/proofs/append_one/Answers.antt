@@ -1,9 +1,8 @@
 -- An entry of the stack before is a span or used; what remains of it alone is appended.
 -- Its place lies within the stacks, and the requires say that there is room for one more.
 use native.Mathlib.Omega.{arith}
-use borrow.Author.Rules.{rules}
-use Prim.Native.Nat.{◌+◌, ◌*◌, ◌-◌, ◌<◌}
-use lib.ListN.{length, get_or}
+use Prim.Native.Nat.{◌-◌}
+use lib.ListN.{length}
 use Rattle.levels.proofs.LevelLaws.{slot}
 use Rattle.levels.proofs.AppendLaws.{append_used, append-taken, append-put}
 use Rattle.levels.proofs.append_one.Goals as goal

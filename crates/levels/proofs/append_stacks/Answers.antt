@@ -1,10 +1,6 @@
 -- The answers that the check does not find alone.
 use borrow.Author.Rules.{rules}
-use Prim.Native.Nat.{◌≤◌, ◌-◌}
-use mathlib.Core.List.{[]}
-use lib.ListN.{length, get_or, take}
-use Rattle.rules.specs.Growth.{remains}
-use Rattle.levels.specs.Levels.{levels_at, appended, Moved}
+use Prim.Native.Nat.{◌-◌}
 use Rattle.levels.proofs.LevelLaws.{moved_part}
 use Rattle.levels.proofs.AppendLaws.{append-start, append_room, append-span, append_more, append_done, append_stacked}
 use Rattle.levels.proofs.append_stacks.Goals as goal

@@ -1,13 +1,9 @@
 -- The loop's invariant: stack j has got what remains of the first i entries of the stack before, which is not written meanwhile.
 -- There is room: both stacks together have at most n entries (`Stacked`).
-use borrow.Author.Rules.{rules}
 use Prim.Native.Nat.{◌≤◌, ◌-◌}
-use mathlib.Core.List.{[]}
 use lib.ListN.{length, get_or, take}
 use Rattle.rules.specs.Growth.{remains}
 use Rattle.levels.specs.Levels.{levels_at, appended, Moved}
-use Rattle.levels.proofs.LevelLaws.{moved_part}
-use Rattle.levels.proofs.AppendLaws.{append-start, append_room, append-span, append_more, append_done, append_stacked}
 use Rattle.levels.proofs.append_stacks.Given as goal
 
 abbrev pub invariant-loop-i : goal.invariant-loop-i

@@ -2,8 +2,6 @@
 -- No other stack is touched: each has its own n places.
 use native.Mathlib.Omega.{arith}
 use borrow.Author.Rules.{rules}
-use Prim.Native.Nat.{◌+◌, ◌*◌, ◌<◌}
-use lib.ListN.{get_or}
 use Rattle.levels.proofs.LevelLaws.{slot, moved_push}
 use Rattle.levels.proofs.push_level.Goals as goal
 

@@ -1,8 +1,5 @@
 -- The answers that the check does not find alone.
 use borrow.Author.Rules.{rules}
-use Prim.Native.Nat.{◌≤◌, ◌-◌}
-use lib.ListN.{length, replicate}
-use Rattle.levels.specs.Levels.{stack_count, sorted_to, Moved}
 use Rattle.levels.proofs.LevelLaws.{moved_then, moved_lists}
 use Rattle.levels.proofs.SortLaws.{sort_start, sort_done, sort_kept, sort_stacked}
 use Rattle.levels.proofs.sort_cells_by_level.Goals as goal

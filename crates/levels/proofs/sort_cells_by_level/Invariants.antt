@@ -1,11 +1,8 @@
 -- The loop's invariant: the stacks are the rule's sort of the spans below i, written over what was there at entry. Each turn sorts a block.
 -- At the end the rest is sorted too, and all spans are the rule's.
-use borrow.Author.Rules.{rules}
 use Prim.Native.Nat.{◌≤◌, ◌-◌}
 use lib.ListN.{length, replicate}
 use Rattle.levels.specs.Levels.{stack_count, sorted_to, Moved}
-use Rattle.levels.proofs.LevelLaws.{moved_then, moved_lists}
-use Rattle.levels.proofs.SortLaws.{sort_start, sort_done, sort_kept, sort_stacked}
 use Rattle.levels.proofs.sort_cells_by_level.Given as goal
 
 abbrev pub invariant-loop-i : goal.invariant-loop-i

@@ -1,8 +1,5 @@
 -- The answers that the check does not find alone.
 use borrow.Author.Rules.{rules}
-use Prim.Native.Nat.{◌≤◌, ◌-◌}
-use lib.ListN.{length}
-use Rattle.levels.specs.Levels.{sorted_to, Moved}
 use Rattle.levels.proofs.LevelLaws.{moved_none, moved_then, moved_lists}
 use Rattle.levels.proofs.SortLaws.{moved_to}
 use Rattle.levels.proofs.sort_some.Goals as goal

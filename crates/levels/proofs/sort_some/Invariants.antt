@@ -1,11 +1,8 @@
 -- The loop's invariant: the stacks are the rule's sort of the spans below k, written over what was there where the loop begins.
 -- Each turn sorts span k.
-use borrow.Author.Rules.{rules}
 use Prim.Native.Nat.{◌≤◌, ◌-◌}
 use lib.ListN.{length}
 use Rattle.levels.specs.Levels.{sorted_to, Moved}
-use Rattle.levels.proofs.LevelLaws.{moved_none, moved_then, moved_lists}
-use Rattle.levels.proofs.SortLaws.{moved_to}
 use Rattle.levels.proofs.sort_some.Given as goal
 
 abbrev pub invariant-loop-k : goal.invariant-loop-k

@@ -1,7 +1,6 @@
 -- `is_roomy` meets its contract: its four tests are the rule's, one after the other.
 -- Each way out is a law of `Ways.antt`.
 use Rattle.load.proofs.Ways.{roomy_no_index, roomy_no_count, roomy_no_area, roomy_no_con, roomy_all}
-use borrow.Author.Rules.{rules}
 use Rattle.load.proofs.is_roomy.Goals as goal
 
 pub returns-then-index-l : goal.returns-then-index-l

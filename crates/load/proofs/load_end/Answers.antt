@@ -1,6 +1,5 @@
 -- `load_end` meets its contract: a loader that is not going stays as it is.
 use Rattle.load.proofs.Ways.{end-going, end-over}
-use borrow.Author.Rules.{rules}
 use Rattle.load.proofs.load_end.Goals as goal
 
 pub returns-then-is_going : goal.returns-then-is_going

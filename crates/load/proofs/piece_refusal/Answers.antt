@@ -1,7 +1,6 @@
 -- `piece_refusal` meets its contract: a loader that is going asks for room, another does not.
 -- Each way out is a law of `Ways.antt`.
 use Rattle.load.proofs.Ways.{piece_going, piece_short, piece_over}
-use borrow.Author.Rules.{rules}
 use Rattle.load.proofs.piece_refusal.Goals as goal
 
 pub returns-then-is_roomy : goal.returns-then-is_roomy

@@ -1,8 +1,5 @@
 -- The answers that the check does not find alone.
-use Prim.Native.Nat.{◌≤◌, ◌-◌}
-use mathlib.Core.Path.{◌≡◌, refl}
-use lib.ListN.{length}
-use Rattle.paint.specs.Paint.{put_if, walk_in, between}
+use mathlib.Core.Path.{refl}
 use Rattle.paint.proofs.CellLaws.{index_in, cell_inside, cell_done, spans-none, spans_more}
 use borrow.Author.Rules.{rules}
 use Rattle.paint.proofs.paint_cell.Goals as goal

@@ -1,11 +1,9 @@
 -- The loop's invariant: the walkable spans from the cell's index to below i are painted.
 -- At the end those are the cell's spans, since the field is not refused.
 use Prim.Native.Nat.{◌≤◌, ◌-◌}
-use mathlib.Core.Path.{◌≡◌, refl}
+use mathlib.Core.Path.{◌≡◌}
 use lib.ListN.{length}
 use Rattle.paint.specs.Paint.{put_if, walk_in, between}
-use Rattle.paint.proofs.CellLaws.{index_in, cell_inside, cell_done, spans-none, spans_more}
-use borrow.Author.Rules.{rules}
 use Rattle.paint.proofs.paint_cell.Given as goal
 
 abbrev pub invariant-loop-i : goal.invariant-loop-i

@@ -1,11 +1,9 @@
 -- The loop's invariant: the rows from min_z to below z are painted, each from min_x to below max_x.
 -- A row more is a row painted after them.
 use Prim.Native.Nat.{◌≤◌, ◌-◌}
-use mathlib.Core.Path.{◌≡◌, refl}
+use mathlib.Core.Path.{◌≡◌}
 use lib.ListN.{length}
 use Rattle.paint.specs.Paint.{put_if, walk_in, in_rect}
-use Rattle.paint.proofs.CellLaws.{row_in, rows_none, rows_more, rows_done}
-use borrow.Author.Rules.{rules}
 use Rattle.paint.proofs.paint_rect_region.Given as goal
 
 abbrev pub invariant-loop-z : goal.invariant-loop-z

@@ -1,8 +1,5 @@
 -- The answers that the check does not find alone.
-use Prim.Native.Nat.{◌+◌, ◌≤◌, ◌-◌}
-use mathlib.Core.Path.{◌≡◌, refl}
-use lib.ListN.{length}
-use Rattle.paint.specs.Paint.{put_if, walk_in, in_rect}
+use mathlib.Core.Path.{refl}
 use Rattle.paint.proofs.CellLaws.{columns_none, columns_more, columns_done}
 use borrow.Author.Rules.{rules}
 use Rattle.paint.proofs.paint_row.Goals as goal

@@ -1,11 +1,9 @@
 -- The loop's invariant: the cells of row z from min_x to below x are painted.
 -- Cell z * w + x is the one of column x and row z, since x is below w.
 use Prim.Native.Nat.{◌+◌, ◌≤◌, ◌-◌}
-use mathlib.Core.Path.{◌≡◌, refl}
+use mathlib.Core.Path.{◌≡◌}
 use lib.ListN.{length}
 use Rattle.paint.specs.Paint.{put_if, walk_in, in_rect}
-use Rattle.paint.proofs.CellLaws.{columns_none, columns_more, columns_done}
-use borrow.Author.Rules.{rules}
 use Rattle.paint.proofs.paint_row.Given as goal
 
 abbrev pub invariant-loop-x : goal.invariant-loop-x

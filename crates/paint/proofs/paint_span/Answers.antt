@@ -1,7 +1,6 @@
 -- A store of one span, or nothing where it is not walkable.
 -- Either is the list written where the test holds, by its elements.
 use Rattle.paint.proofs.PutLaws.{span_none, span_set}
-use borrow.Author.Rules.{rules}
 use Rattle.paint.proofs.paint_span.Goals as goal
 
 pub returns-then-area-i-eq0 : goal.returns-then-area-i-eq0

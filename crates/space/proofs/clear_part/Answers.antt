@@ -1,5 +1,4 @@
 -- The part is lent and comes back as zeros; nothing else changes (Laws).
-use borrow.Author.Rules.{rules}
 use Rattle.space.proofs.Laws.{part_clear, part_frame}
 use Rattle.space.proofs.clear_part.Goals as goal
 

@@ -1,8 +1,6 @@
 -- The answers that the check does not find alone.
 use borrow.Author.Rules.{rules}
-use Prim.Native.Nat.{◌-◌}
-use lib.ListN.{length}
-use Rattle.space.proofs.Laws.{Copied, copied_none, copied_size, copied_next, copied_all}
+use Rattle.space.proofs.Laws.{copied_none, copied_size, copied_next, copied_all}
 use Rattle.space.proofs.copy.Goals as goal
 
 pub loop-i-init : goal.loop-i-init

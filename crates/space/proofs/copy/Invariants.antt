@@ -1,8 +1,7 @@
 -- The loop's invariant: up to i the list is the other (`Copied`). The measure is what is left.
-use borrow.Author.Rules.{rules}
 use Prim.Native.Nat.{◌-◌}
 use lib.ListN.{length}
-use Rattle.space.proofs.Laws.{Copied, copied_none, copied_size, copied_next, copied_all}
+use Rattle.space.proofs.Laws.{Copied}
 use Rattle.space.proofs.copy.Given as goal
 
 abbrev pub invariant-loop-i : goal.invariant-loop-i

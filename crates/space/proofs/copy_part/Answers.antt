@@ -1,6 +1,5 @@
 -- The part is lent and comes back as the list; nothing else changes (Laws).
 use mathlib.Core.Path.{refl}
-use borrow.Author.Rules.{rules}
 use Rattle.space.proofs.Laws.{put-part, put_frame}
 use Rattle.space.proofs.copy_part.Goals as goal
 

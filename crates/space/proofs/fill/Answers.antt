@@ -4,7 +4,7 @@ use borrow.Author.Fill.{fill_none, fill_more}
 use lib.ListN.{length, set, length-set, drop, replicate}
 use mathlib.Core.List.{List, ◌++◌, append-nil}
 use mathlib.Core.Path.{◌≡◌, refl, ap, ◌∙◌}
-use Prim.Native.Nat.{ℕ, ◌-◌, ◌≤◌}
+use Prim.Native.Nat.{ℕ}
 use borrow.Author.Rules.{rules}
 use native.Mathlib.Omega.{arith}
 use Rattle.space.proofs.fill.Goals as goal

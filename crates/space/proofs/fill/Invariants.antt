@@ -1,12 +1,8 @@
 -- `space::fill` meets its contract. The loop's invariant: v up to i, then the list as it was. At the end i is the length.
-use lib.Seq.{drop-length}
-use borrow.Author.Fill.{fill_none, fill_more}
-use lib.ListN.{length, set, length-set, drop, replicate}
-use mathlib.Core.List.{List, ◌++◌, append-nil}
-use mathlib.Core.Path.{◌≡◌, refl, ap, ◌∙◌}
-use Prim.Native.Nat.{ℕ, ◌-◌, ◌≤◌}
-use borrow.Author.Rules.{rules}
-use native.Mathlib.Omega.{arith}
+use lib.ListN.{length, drop, replicate}
+use mathlib.Core.List.{◌++◌}
+use mathlib.Core.Path.{◌≡◌}
+use Prim.Native.Nat.{◌-◌, ◌≤◌}
 use Rattle.space.proofs.fill.Given as goal
 
 abbrev pub invariant-loop-i : goal.invariant-loop-i

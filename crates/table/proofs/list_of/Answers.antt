@@ -1,6 +1,5 @@
 -- `table::list_of` meets its contract. Straight line: the table's promises say that the part is in order and lies in the workspace.
 use Rattle.table.proofs.ViewLaws.{part_is, part_order, part-within}
-use borrow.Author.Rules.{rules}
 use Rattle.table.proofs.list_of.Goals as goal
 
 pub slice_bounds-result-count : goal.slice_bounds-result-count

@@ -1,6 +1,5 @@
 -- `table::set_part` meets its contract. Two stores of two halves each, in four columns of the table: `placed`.
 use Rattle.table.proofs.PlaceLaws.{placed}
-use borrow.Author.Rules.{rules}
 use Rattle.table.proofs.set_part.Goals as goal
 
 pub returns : goal.returns

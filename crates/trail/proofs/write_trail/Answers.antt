@@ -1,6 +1,5 @@
 -- The ids left, and the id reached past them, are the trail (Steps).
 use native.Mathlib.Omega.{arith}
-use borrow.Author.Rules.{rules}
 use mathlib.Core.Path.{refl}
 use Rattle.trail.proofs.Steps.{follow_room, last-place, trail-place, trail_list}
 use Rattle.trail.proofs.write_trail.Goals as goal

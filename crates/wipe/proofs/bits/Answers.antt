@@ -1,8 +1,6 @@
 -- The answers that the check does not find alone.
 use borrow.Author.Rules.{rules}
-use Prim.Native.Nat.{◌-◌}
-use lib.ListN.{length}
-use Rattle.wipe.proofs.Wiped.{Joined, joined-start, joined_next, joined_all}
+use Rattle.wipe.proofs.Wiped.{joined-start, joined_next, joined_all}
 use Rattle.wipe.proofs.bits.Goals as goal
 
 pub loop-i-init : goal.loop-i-init

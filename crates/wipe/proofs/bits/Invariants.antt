@@ -1,8 +1,7 @@
 -- The loop's invariant: bits put together so far are 0 only where each entry so far is (Wiped).
-use borrow.Author.Rules.{rules}
 use Prim.Native.Nat.{◌-◌}
 use lib.ListN.{length}
-use Rattle.wipe.proofs.Wiped.{Joined, joined-start, joined_next, joined_all}
+use Rattle.wipe.proofs.Wiped.{Joined}
 use Rattle.wipe.proofs.bits.Given as goal
 
 abbrev pub invariant-loop-i : goal.invariant-loop-i

@@ -1,8 +1,7 @@
 -- The answers that the check does not find alone.
-use borrow.Author.Rules.{rules}
-use Prim.Native.Nat.{◌+◌, ◌-◌}
+use Prim.Native.Nat.{◌+◌}
 use lib.ListN.{length}
-use Rattle.wipe.proofs.Wiped.{Wiped, wiped_start, wiped_next, wiped_all}
+use Rattle.wipe.proofs.Wiped.{wiped_start, wiped_next, wiped_all}
 use native.Mathlib.Omega.{arith}
 use Rattle.wipe.proofs.wipe.Goals as goal
 

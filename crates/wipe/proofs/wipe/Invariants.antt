@@ -1,9 +1,7 @@
 -- The loop's invariant: zeros before i; each block adds its own, and the last part what is left (Wiped).
-use borrow.Author.Rules.{rules}
-use Prim.Native.Nat.{◌+◌, ◌-◌}
+use Prim.Native.Nat.{◌-◌}
 use lib.ListN.{length}
-use Rattle.wipe.proofs.Wiped.{Wiped, wiped_start, wiped_next, wiped_all}
-use native.Mathlib.Omega.{arith}
+use Rattle.wipe.proofs.Wiped.{Wiped}
 use Rattle.wipe.proofs.wipe.Given as goal
 
 abbrev pub invariant-loop-ws : goal.invariant-loop-ws

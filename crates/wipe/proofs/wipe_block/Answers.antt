@@ -1,5 +1,4 @@
 -- No bits, no other entries.
-use borrow.Author.Rules.{rules}
 use Rattle.wipe.proofs.wipe_block.Goals as goal
 
 pub returns-else-bits-ne0 : goal.returns-else-bits-ne0

@@ -1,5 +1,4 @@
 -- The part is lent and comes back as zeros; nothing else changes.
-use borrow.Author.Rules.{rules}
 use Rattle.space.proofs.Laws.{part_clear, part_frame}
 use Rattle.wipe.proofs.wipe_part.Goals as goal
 

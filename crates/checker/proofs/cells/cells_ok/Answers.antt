@@ -1,8 +1,4 @@
 -- The answers that the check does not find alone.
-use Prim.Native.Nat.{◌≤◌, ◌*◌, ◌-◌}
-use mathlib.Core.Path.{◌≡◌}
-use lib.ListN.{length, drop}
-use Rattle.rules.specs.Refusals.{good_cells}
 use Rattle.checker.proofs.Checks.{cells_turn, cells_stop, cells_done}
 use borrow.Author.Rules.{rules}
 use Rattle.checker.proofs.cells.cells_ok.Goals as goal

@@ -4,8 +4,6 @@ use Prim.Native.Nat.{◌≤◌, ◌*◌, ◌-◌}
 use mathlib.Core.Path.{◌≡◌}
 use lib.ListN.{length, drop}
 use Rattle.rules.specs.Refusals.{good_cells}
-use Rattle.checker.proofs.Checks.{cells_turn, cells_stop, cells_done}
-use borrow.Author.Rules.{rules}
 use Rattle.checker.proofs.cells.cells_ok.Given as goal
 
 abbrev pub invariant-loop-i : goal.invariant-loop-i

@@ -5,9 +5,6 @@ use mathlib.Core.Bool.{true}
 use Rattle.rules.specs.Base.{every}
 use Rattle.field.specs.Lent.{lent}
 use Rattle.checker.specs.Links.{half_at}
-use Rattle.field.proofs.Loops.{every_go}
-use Rattle.checker.proofs.Checks.{layers_halt, layers_end}
-use borrow.Author.Rules.{rules}
 use Rattle.checker.proofs.links.cell_ok.Given as goal
 
 abbrev pub invariant-loop-j : goal.invariant-loop-j

@@ -2,11 +2,8 @@
 use Prim.Native.Nat.{◌≤◌, ◌-◌}
 use mathlib.Core.Path.{◌≡◌}
 use mathlib.Core.Bool.{true}
-use Rattle.rules.specs.Base.{every}
 use Rattle.field.specs.Lent.{lent}
 use Rattle.checker.specs.Links.{half_at, in_columns}
-use Rattle.checker.proofs.Answered.{columns_go, columns_halt, columns_end}
-use borrow.Author.Rules.{rules}
 use Rattle.checker.proofs.links.columns_ok.Given as goal
 
 abbrev pub invariant-loop-j : goal.invariant-loop-j

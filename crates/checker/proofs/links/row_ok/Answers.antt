@@ -1,10 +1,6 @@
 -- The answers that the check does not find alone.
-use Prim.Native.Nat.{◌≤◌, ◌-◌}
-use mathlib.Core.Path.{◌≡◌}
-use mathlib.Core.Bool.{true}
 use Rattle.rules.specs.Base.{every}
-use Rattle.field.specs.Lent.{lent}
-use Rattle.checker.specs.Links.{half_at, in_columns}
+use Rattle.checker.specs.Links.{in_columns}
 use Rattle.checker.proofs.Answered.{blocks_go, blocks_halt, blocks_end}
 use borrow.Author.Rules.{rules}
 use Rattle.checker.proofs.links.row_ok.Goals as goal

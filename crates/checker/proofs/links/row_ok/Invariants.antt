@@ -2,11 +2,8 @@
 use Prim.Native.Nat.{◌≤◌, ◌-◌}
 use mathlib.Core.Path.{◌≡◌}
 use mathlib.Core.Bool.{true}
-use Rattle.rules.specs.Base.{every}
 use Rattle.field.specs.Lent.{lent}
 use Rattle.checker.specs.Links.{half_at, in_columns}
-use Rattle.checker.proofs.Answered.{blocks_go, blocks_halt, blocks_end}
-use borrow.Author.Rules.{rules}
 use Rattle.checker.proofs.links.row_ok.Given as goal
 
 abbrev pub invariant-loop-x : goal.invariant-loop-x

@@ -5,9 +5,6 @@ use mathlib.Core.Bool.{true}
 use Rattle.rules.specs.Base.{every}
 use Rattle.field.specs.Lent.{lent}
 use Rattle.checker.specs.Links.{half_at, in_row}
-use Rattle.field.proofs.Loops.{every_go}
-use Rattle.checker.proofs.Answered.{rows_halt, rows_end}
-use borrow.Author.Rules.{rules}
 use Rattle.checker.proofs.links.rows_ok.Given as goal
 
 abbrev pub invariant-loop-z : goal.invariant-loop-z

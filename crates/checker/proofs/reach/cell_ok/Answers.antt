@@ -1,10 +1,5 @@
 -- The answers that the check does not find alone.
-use Prim.Native.Nat.{◌≤◌, ◌-◌, ◌+◌}
-use mathlib.Core.Path.{◌≡◌}
-use mathlib.Core.Bool.{true}
 use Rattle.rules.specs.Base.{every}
-use Rattle.field.specs.Lent.{lent}
-use Rattle.checker.specs.Links.{reach_at}
 use Rattle.field.proofs.Loops.{every_go}
 use Rattle.checker.proofs.Checks.{layers_halt, layers_end, layer_reach, con_room}
 use borrow.Author.Rules.{rules}

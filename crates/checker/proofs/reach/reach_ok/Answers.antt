@@ -1,11 +1,5 @@
 -- The answers that the check does not find alone.
-use Prim.Native.Nat.{◌≤◌, ◌-◌}
-use mathlib.Core.Path.{◌≡◌}
-use mathlib.Core.Bool.{true}
-use lib.ListN.{length}
 use Rattle.rules.specs.Base.{every}
-use Rattle.field.specs.Lent.{lent}
-use Rattle.checker.specs.Links.{reach_at, in_cell}
 use Rattle.field.proofs.Loops.{every_go}
 use Rattle.checker.proofs.Checks.{cells_halt, cells_end}
 use borrow.Author.Rules.{rules}

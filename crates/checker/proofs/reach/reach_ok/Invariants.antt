@@ -6,9 +6,6 @@ use lib.ListN.{length}
 use Rattle.rules.specs.Base.{every}
 use Rattle.field.specs.Lent.{lent}
 use Rattle.checker.specs.Links.{reach_at, in_cell}
-use Rattle.field.proofs.Loops.{every_go}
-use Rattle.checker.proofs.Checks.{cells_halt, cells_end}
-use borrow.Author.Rules.{rules}
 use Rattle.checker.proofs.reach.reach_ok.Given as goal
 
 abbrev pub invariant-loop-c : goal.invariant-loop-c

@@ -1,7 +1,4 @@
 -- The answers that the check does not find alone.
-use Prim.Native.Nat.{◌≤◌, ◌-◌}
-use mathlib.Core.Path.{◌≡◌}
-use mathlib.Core.Bool.{true}
 use Rattle.rules.specs.Base.{every}
 use Rattle.checker.specs.Links.{names_at}
 use Rattle.field.proofs.Loops.{every_go, every_halt, every-end}

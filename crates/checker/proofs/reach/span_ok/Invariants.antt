@@ -4,8 +4,6 @@ use mathlib.Core.Path.{◌≡◌}
 use mathlib.Core.Bool.{true}
 use Rattle.rules.specs.Base.{every}
 use Rattle.checker.specs.Links.{names_at}
-use Rattle.field.proofs.Loops.{every_go, every_halt, every-end}
-use borrow.Author.Rules.{rules}
 use Rattle.checker.proofs.reach.span_ok.Given as goal
 
 abbrev pub invariant-loop-d : goal.invariant-loop-d

@@ -1,7 +1,4 @@
 -- The answers that the check does not find alone.
-use Prim.Native.Nat.{◌-◌, ◌%◌, ◌≤◌}
-use mathlib.Core.Path.{◌≡◌}
-use lib.ListN.{length}
 use Rattle.checker.specs.Links.{how_many, links_in}
 use Rattle.checker.proofs.Counted.{most_less, most_in_lem, most_byte, most_whole, parts_turn, parts_fit, part_end}
 use borrow.Author.Rules.{rules}

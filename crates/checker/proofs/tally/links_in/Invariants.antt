@@ -2,9 +2,7 @@
 use Prim.Native.Nat.{◌-◌, ◌%◌, ◌≤◌}
 use mathlib.Core.Path.{◌≡◌}
 use lib.ListN.{length}
-use Rattle.checker.specs.Links.{how_many, links_in}
-use Rattle.checker.proofs.Counted.{most_less, most_in_lem, most_byte, most_whole, parts_turn, parts_fit, part_end}
-use borrow.Author.Rules.{rules}
+use Rattle.checker.specs.Links.{links_in}
 use Rattle.checker.proofs.tally.links_in.Given as goal
 
 abbrev pub invariant-loop-b : goal.invariant-loop-b

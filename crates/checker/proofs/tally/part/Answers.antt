@@ -1,6 +1,4 @@
 -- The answers that the check does not find alone.
-use Prim.Native.Nat.{◌-◌, ◌≤◌}
-use mathlib.Core.Path.{◌≡◌}
 use Rattle.checker.specs.Links.{how_many, links_in}
 use Rattle.checker.proofs.Counted.{part_room, part-turn, part_end}
 use borrow.Author.Rules.{rules}

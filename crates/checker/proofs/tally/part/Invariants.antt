@@ -1,9 +1,7 @@
 -- Invariant: k is how many of the first j connections from b on are in the half. b is the first of a span, so that j alone tells the direction.
 use Prim.Native.Nat.{◌-◌, ◌≤◌}
 use mathlib.Core.Path.{◌≡◌}
-use Rattle.checker.specs.Links.{how_many, links_in}
-use Rattle.checker.proofs.Counted.{part_room, part-turn, part_end}
-use borrow.Author.Rules.{rules}
+use Rattle.checker.specs.Links.{links_in}
 use Rattle.checker.proofs.tally.part.Given as goal
 
 abbrev pub invariant-loop-j : goal.invariant-loop-j

@@ -2,8 +2,6 @@
 -- A neighbour that is there is a span, so it has an id.
 use Rattle.net.proofs.Tables.{slot_in, leads_inside, net_few}
 use Rattle.contour.proofs.EdgeLaws.{across-none, across_some}
-use lib.ListN.{length}
-use Prim.Native.Nat.{◌<◌}
 use native.Mathlib.Omega.{arith}
 use borrow.Author.Rules.{rules}
 use Rattle.contour.proofs.edge.across.Goals as goal

@@ -1,9 +1,4 @@
 -- The answers that the check does not find alone.
-use Prim.Native.Nat.{◌-◌, ◌≤◌}
-use mathlib.Core.Path.{◌≡◌}
-use Rattle.rules.specs.Contour.{first_solid}
-use Rattle.net.specs.Table.{net_at}
-use Rattle.contour.specs.Ways.{first_from}
 use Rattle.contour.proofs.EdgeLaws.{first_from_lem, first-end, none_edge, first_found, found_edge, first_more}
 use borrow.Author.Rules.{rules}
 use Rattle.contour.proofs.edge.first_solid.Goals as goal

@@ -1,11 +1,9 @@
 -- `stride` is the rule's `stride` on the walker and its list in the pool, and the net stays.
 -- There is room where an id is to be listed (`Standing`), and that is in the pool, before the table.
-use Prim.Native.Nat.{◌+◌, ◌<◌, ◌*◌}
 use mathlib.Core.Path.{ap, ◌∙◌}
-use lib.ListN.{length}
 use Rattle.net.proofs.Tables.{slot_in, net_few}
 use Rattle.contour.specs.Pool.{turned}
-use Rattle.contour.proofs.PoolLaws.{stand_con, stand_at, stand_room, stand_in, stride-turn, stride_note, stride-step, noted_dir}
+use Rattle.contour.proofs.PoolLaws.{stand_con, stand_at, stand_in, stride-turn, stride_note, stride-step, noted_dir}
 use native.Mathlib.Omega.{arith}
 use borrow.Author.Rules.{rules}
 use Rattle.contour.proofs.walk.stride.Goals as goal

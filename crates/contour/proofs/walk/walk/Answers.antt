@@ -1,9 +1,6 @@
 -- The answers that the check does not find alone.
-use Prim.Native.Nat.{◌-◌}
 use mathlib.Core.Path.{◌∙◌}
-use Rattle.contour.specs.Walks.{most_strides}
-use Rattle.contour.proofs.WalkLaws.{Going, going_start, going_stand, going_next, going-back, going_end}
-use borrow.Author.Rules.{rules}
+use Rattle.contour.proofs.WalkLaws.{going_start, going_stand, going_next, going-back, going_end}
 use native.Mathlib.Omega.{arith}
 use Rattle.contour.proofs.walk.walk.Goals as goal
 

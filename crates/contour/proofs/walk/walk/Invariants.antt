@@ -1,11 +1,8 @@
 -- The invariant `Going`: after k strides the walker has not been back, and the rest of the rule's walk from here is the whole walk.
 -- It starts with the rule's first walker, and each stride is the rule's; the measure is what is left of 40,000.
 use Prim.Native.Nat.{◌-◌}
-use mathlib.Core.Path.{◌∙◌}
 use Rattle.contour.specs.Walks.{most_strides}
-use Rattle.contour.proofs.WalkLaws.{Going, going_start, going_stand, going_next, going-back, going_end}
-use borrow.Author.Rules.{rules}
-use native.Mathlib.Omega.{arith}
+use Rattle.contour.proofs.WalkLaws.{Going}
 use Rattle.contour.proofs.walk.walk.Given as goal
 
 abbrev pub invariant-loop-k : goal.invariant-loop-k

@@ -1,7 +1,6 @@
 -- The rule's contour is its walk, trimmed: what the walk leaves is the rule's list, and what `trim` makes of it the rule's trimmed list.
 -- The pool before the list and its zeros after it are as the walk left them. The walk was cut short where its last walker is not back.
 use Rattle.contour.proofs.WalkLaws.{trim_there, cut_is, contour_pool, contour-end}
-use borrow.Author.Rules.{rules}
 use Rattle.contour.proofs.walk.walk_contour.Goals as goal
 
 pub trim-requires : goal.trim-requires

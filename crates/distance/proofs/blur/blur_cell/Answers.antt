@@ -1,10 +1,5 @@
 -- The answers that the check does not find alone.
-use Prim.Native.Nat.{◌≤◌, ◌-◌, ◌+◌}
-use mathlib.Core.Path.{◌≡◌}
-use lib.ListN.{length}
 use Rattle.rules.specs.Base.{upto}
-use Rattle.field.specs.Lent.{lent}
-use Rattle.rules.specs.Rows.{blur_to}
 use Rattle.distance.proofs.Walks.{cell-end}
 use Rattle.distance.proofs.Values.{layer_sized, layer_in}
 use Rattle.distance.proofs.Blurs.{blur_go}

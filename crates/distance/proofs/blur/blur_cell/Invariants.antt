@@ -5,10 +5,6 @@ use lib.ListN.{length}
 use Rattle.rules.specs.Base.{upto}
 use Rattle.field.specs.Lent.{lent}
 use Rattle.rules.specs.Rows.{blur_to}
-use Rattle.distance.proofs.Walks.{cell-end}
-use Rattle.distance.proofs.Values.{layer_sized, layer_in}
-use Rattle.distance.proofs.Blurs.{blur_go}
-use borrow.Author.Rules.{rules}
 use Rattle.distance.proofs.blur.blur_cell.Given as goal
 
 abbrev pub invariant-loop-j : goal.invariant-loop-j

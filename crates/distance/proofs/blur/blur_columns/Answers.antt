@@ -1,10 +1,5 @@
 -- The answers that the check does not find alone.
-use Prim.Native.Nat.{◌≤◌, ◌-◌, ◌+◌, ◌*◌}
-use mathlib.Core.Path.{◌≡◌}
-use lib.ListN.{length}
 use Rattle.rules.specs.Base.{upto}
-use Rattle.rules.specs.Rows.{blur_to}
-use Rattle.field.specs.Lent.{lent}
 use Rattle.distance.specs.Walk.{columns_up}
 use Rattle.distance.proofs.Walks.{row_fits, block_fits, place_fits, place_in, columns_step, columns_end}
 use borrow.Author.Rules.{rules}

@@ -2,12 +2,9 @@
 use Prim.Native.Nat.{◌≤◌, ◌-◌, ◌+◌, ◌*◌}
 use mathlib.Core.Path.{◌≡◌}
 use lib.ListN.{length}
-use Rattle.rules.specs.Base.{upto}
 use Rattle.rules.specs.Rows.{blur_to}
 use Rattle.field.specs.Lent.{lent}
 use Rattle.distance.specs.Walk.{columns_up}
-use Rattle.distance.proofs.Walks.{row_fits, block_fits, place_fits, place_in, columns_step, columns_end}
-use borrow.Author.Rules.{rules}
 use Rattle.distance.proofs.blur.blur_columns.Given as goal
 
 abbrev pub invariant-loop-j : goal.invariant-loop-j

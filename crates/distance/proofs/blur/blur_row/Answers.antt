@@ -1,10 +1,5 @@
 -- The answers that the check does not find alone.
-use Prim.Native.Nat.{◌≤◌, ◌-◌}
-use mathlib.Core.Path.{◌≡◌}
-use lib.ListN.{length}
 use Rattle.rules.specs.Base.{upto}
-use Rattle.rules.specs.Rows.{column, blur_to}
-use Rattle.field.specs.Lent.{lent}
 use Rattle.distance.proofs.Walks.{block_go, blur_row_end}
 use borrow.Author.Rules.{rules}
 use Rattle.distance.proofs.blur.blur_row.Goals as goal

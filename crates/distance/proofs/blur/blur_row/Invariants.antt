@@ -5,8 +5,6 @@ use lib.ListN.{length}
 use Rattle.rules.specs.Base.{upto}
 use Rattle.rules.specs.Rows.{column, blur_to}
 use Rattle.field.specs.Lent.{lent}
-use Rattle.distance.proofs.Walks.{block_go, blur_row_end}
-use borrow.Author.Rules.{rules}
 use Rattle.distance.proofs.blur.blur_row.Given as goal
 
 abbrev pub invariant-loop-x : goal.invariant-loop-x

@@ -1,10 +1,5 @@
 -- The answers that the check does not find alone.
-use Prim.Native.Nat.{◌≤◌, ◌-◌}
-use mathlib.Core.Path.{◌≡◌}
-use lib.ListN.{length}
 use Rattle.rules.specs.Base.{upto}
-use Rattle.rules.specs.Rows.{blur_to}
-use Rattle.field.specs.Lent.{lent}
 use Rattle.distance.proofs.Walks.{blur_stands, cells_sized, blur-end}
 use Rattle.distance.proofs.Blurs.{blur-sized, blur_next}
 use borrow.Author.Rules.{rules}

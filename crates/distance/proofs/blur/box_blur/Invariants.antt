@@ -6,9 +6,6 @@ use lib.ListN.{length}
 use Rattle.rules.specs.Base.{upto}
 use Rattle.rules.specs.Rows.{blur_to}
 use Rattle.field.specs.Lent.{lent}
-use Rattle.distance.proofs.Walks.{blur_stands, cells_sized, blur-end}
-use Rattle.distance.proofs.Blurs.{blur-sized, blur_next}
-use borrow.Author.Rules.{rules}
 use Rattle.distance.proofs.blur.box_blur.Given as goal
 
 abbrev pub invariant-loop-s : goal.invariant-loop-s

@@ -1,8 +1,4 @@
 -- The answers that the check does not find alone.
-use Prim.Native.Nat.{◌≤◌, ◌-◌, max}
-use mathlib.Core.Path.{◌≡◌}
-use lib.ListN.{length, drop}
-use Rattle.rules.specs.Distance.{greatest}
 use Rattle.distance.proofs.Blurs.{greatest_go, greatest-end}
 use borrow.Author.Rules.{rules}
 use Rattle.distance.proofs.blur.greatest.Goals as goal

@@ -3,8 +3,6 @@ use Prim.Native.Nat.{◌≤◌, ◌-◌, max}
 use mathlib.Core.Path.{◌≡◌}
 use lib.ListN.{length, drop}
 use Rattle.rules.specs.Distance.{greatest}
-use Rattle.distance.proofs.Blurs.{greatest_go, greatest-end}
-use borrow.Author.Rules.{rules}
 use Rattle.distance.proofs.blur.greatest.Given as goal
 
 abbrev pub invariant-loop-i : goal.invariant-loop-i

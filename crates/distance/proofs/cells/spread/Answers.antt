@@ -1,11 +1,5 @@
 -- The answers that the check does not find alone.
-use Prim.Native.Nat.{◌≤◌, ◌-◌, ◌*◌}
-use mathlib.Core.Path.{◌≡◌}
-use lib.ListN.{length}
 use Rattle.rules.specs.Base.{upto}
-use Rattle.rules.specs.Rows.{over_cell}
-use Rattle.field.specs.Lent.{lent}
-use Rattle.distance.specs.Walk.{note_cell}
 use Rattle.distance.proofs.Walks.{cells_block, spread_end}
 use borrow.Author.Rules.{rules}
 use Rattle.distance.proofs.cells.spread.Goals as goal

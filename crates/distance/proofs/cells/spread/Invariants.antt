@@ -6,8 +6,6 @@ use Rattle.rules.specs.Base.{upto}
 use Rattle.rules.specs.Rows.{over_cell}
 use Rattle.field.specs.Lent.{lent}
 use Rattle.distance.specs.Walk.{note_cell}
-use Rattle.distance.proofs.Walks.{cells_block, spread_end}
-use borrow.Author.Rules.{rules}
 use Rattle.distance.proofs.cells.spread.Given as goal
 
 abbrev pub invariant-loop-c : goal.invariant-loop-c

@@ -1,10 +1,5 @@
 -- The answers that the check does not find alone.
-use Prim.Native.Nat.{◌≤◌, ◌-◌, ◌+◌}
-use mathlib.Core.Path.{◌≡◌}
-use lib.ListN.{length}
 use Rattle.rules.specs.Base.{upto}
-use Rattle.field.specs.Lent.{lent}
-use Rattle.distance.specs.Walk.{note_cell}
 use Rattle.distance.proofs.Walks.{note_go, note_in, note_one, note_one_in, cell-end}
 use borrow.Author.Rules.{rules}
 use Rattle.distance.proofs.cells.spread_cell.Goals as goal

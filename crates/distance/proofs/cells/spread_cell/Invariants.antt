@@ -5,8 +5,6 @@ use lib.ListN.{length}
 use Rattle.rules.specs.Base.{upto}
 use Rattle.field.specs.Lent.{lent}
 use Rattle.distance.specs.Walk.{note_cell}
-use Rattle.distance.proofs.Walks.{note_go, note_in, note_one, note_one_in, cell-end}
-use borrow.Author.Rules.{rules}
 use Rattle.distance.proofs.cells.spread_cell.Given as goal
 
 abbrev pub invariant-loop-j : goal.invariant-loop-j

@@ -1,10 +1,6 @@
 -- The answers that the check does not find alone.
-use Prim.Native.Nat.{◌≤◌, ◌-◌}
-use mathlib.Core.Path.{◌≡◌}
-use lib.ListN.{length}
 use Rattle.rules.specs.Base.{upto}
-use Rattle.field.specs.Lent.{lent}
-use Rattle.distance.specs.Walk.{note_cell, cells_up}
+use Rattle.distance.specs.Walk.{cells_up}
 use Rattle.distance.proofs.Walks.{cells_go, cells_end}
 use borrow.Author.Rules.{rules}
 use Rattle.distance.proofs.cells.spread_cells.Goals as goal

@@ -2,11 +2,8 @@
 use Prim.Native.Nat.{◌≤◌, ◌-◌}
 use mathlib.Core.Path.{◌≡◌}
 use lib.ListN.{length}
-use Rattle.rules.specs.Base.{upto}
 use Rattle.field.specs.Lent.{lent}
 use Rattle.distance.specs.Walk.{note_cell, cells_up}
-use Rattle.distance.proofs.Walks.{cells_go, cells_end}
-use borrow.Author.Rules.{rules}
 use Rattle.distance.proofs.cells.spread_cells.Given as goal
 
 abbrev pub invariant-loop-j : goal.invariant-loop-j

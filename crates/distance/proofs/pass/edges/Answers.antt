@@ -1,12 +1,5 @@
 -- The answers that the check does not find alone.
-use Prim.Native.Nat.{◌≤◌, ◌-◌}
 use native.Mathlib.Omega.{arith}
-use mathlib.Core.Path.{◌≡◌}
-use lib.ListN.{length}
-use Rattle.rules.specs.Rows.{from_start}
-use Rattle.field.specs.Lent.{lent}
-use Rattle.distance.specs.Value.{PassedTo}
-use Rattle.distance.specs.Walk.{spans_up}
 use Rattle.distance.proofs.Values.{span_layers, goes_on, goes_off}
 use Rattle.distance.proofs.Walks.{run-first}
 use Rattle.distance.proofs.Bounds.{edge_run, edge_go}

@@ -1,16 +1,11 @@
 -- Invariant: the spans from s to k lack a neighbour, so that pass 1 gives each of them 0, and the list is that of pass 1 up to k.
 use Prim.Native.Nat.{◌≤◌, ◌-◌}
-use native.Mathlib.Omega.{arith}
 use mathlib.Core.Path.{◌≡◌}
 use lib.ListN.{length}
 use Rattle.rules.specs.Rows.{from_start}
 use Rattle.field.specs.Lent.{lent}
 use Rattle.distance.specs.Value.{PassedTo}
 use Rattle.distance.specs.Walk.{spans_up}
-use Rattle.distance.proofs.Values.{span_layers, goes_on, goes_off}
-use Rattle.distance.proofs.Walks.{run-first}
-use Rattle.distance.proofs.Bounds.{edge_run, edge_go}
-use borrow.Author.Rules.{rules}
 use Rattle.distance.proofs.pass.edges.Given as goal
 
 abbrev pub invariant-loop-k : goal.invariant-loop-k

@@ -1,12 +1,6 @@
 -- The answers that the check does not find alone.
-use Prim.Native.Nat.{◌≤◌, ◌-◌}
 use native.Mathlib.Omega.{arith}
-use mathlib.Core.Path.{◌≡◌, refl}
-use lib.ListN.{length}
-use Rattle.rules.specs.Rows.{from_start}
-use Rattle.field.specs.Lent.{lent}
-use Rattle.distance.specs.Value.{Goes, PassedTo}
-use Rattle.distance.specs.Walk.{spans_up}
+use mathlib.Core.Path.{refl}
 use Rattle.distance.proofs.Walks.{cell_stands, cells_sized, run-first, run_join, pass1-end}
 use Rattle.distance.proofs.Bounds.{flat-first, flat-left, flat_up, flat-run, flat_go, flat-last}
 use borrow.Author.Rules.{rules}

@@ -1,16 +1,12 @@
 -- Invariant: pass 1 has gone through the spans below r .at, the first of them before the loop, each of which came to at most twice its column, that is 510; the span
 -- there, if there is one, has four neighbours. What a span reads is earlier in the order of spans.
 use Prim.Native.Nat.{◌≤◌, ◌-◌}
-use native.Mathlib.Omega.{arith}
-use mathlib.Core.Path.{◌≡◌, refl}
+use mathlib.Core.Path.{◌≡◌}
 use lib.ListN.{length}
 use Rattle.rules.specs.Rows.{from_start}
 use Rattle.field.specs.Lent.{lent}
 use Rattle.distance.specs.Value.{Goes, PassedTo}
 use Rattle.distance.specs.Walk.{spans_up}
-use Rattle.distance.proofs.Walks.{cell_stands, cells_sized, run-first, run_join, pass1-end}
-use Rattle.distance.proofs.Bounds.{flat-first, flat-left, flat_up, flat-run, flat_go, flat-last}
-use borrow.Author.Rules.{rules}
 use Rattle.distance.proofs.pass.pass1.Given as goal
 
 abbrev pub invariant-loop-r : goal.invariant-loop-r

@@ -1,11 +1,6 @@
 -- The answers that the check does not find alone.
-use Prim.Native.Nat.{ℕ, ◌≤◌, ◌<◌, ◌-◌, ◌+◌, ◌*◌}
-use mathlib.Core.Path.{◌≡◌}
 use Rattle.rules.specs.Base.{upto}
-use Rattle.rules.specs.Distance.{far}
 use Rattle.rules.specs.Rows.{from_start}
-use Rattle.field.specs.Lent.{lent}
-use Rattle.distance.specs.Value.{Passing}
 use Rattle.distance.proofs.Walks.{row_fits, column_fits, column_in, column_indexed, cell-end}
 use Rattle.distance.proofs.Bounds.{layer_stood, room_left, room_up, passing_in, start_go, passing_go, layers_go, passing_end}
 use borrow.Author.Rules.{rules}

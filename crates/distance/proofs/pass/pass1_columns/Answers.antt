@@ -1,10 +1,5 @@
 -- The answers that the check does not find alone.
-use Prim.Native.Nat.{◌≤◌, ◌-◌, ◌+◌}
-use mathlib.Core.Path.{◌≡◌}
 use Rattle.rules.specs.Base.{upto}
-use Rattle.rules.specs.Rows.{from_start}
-use Rattle.field.specs.Lent.{lent}
-use Rattle.distance.specs.Value.{Passing}
 use Rattle.distance.specs.Walk.{columns_up}
 use Rattle.distance.proofs.Walks.{columns_go, columns_end}
 use Rattle.distance.proofs.Bounds.{columns_first, columns_next, columns_last}

@@ -1,14 +1,10 @@
 -- Invariant: pass 1 has gone through the columns from x to x + j - 1 of row y.
 use Prim.Native.Nat.{◌≤◌, ◌-◌, ◌+◌}
 use mathlib.Core.Path.{◌≡◌}
-use Rattle.rules.specs.Base.{upto}
 use Rattle.rules.specs.Rows.{from_start}
 use Rattle.field.specs.Lent.{lent}
 use Rattle.distance.specs.Value.{Passing}
 use Rattle.distance.specs.Walk.{columns_up}
-use Rattle.distance.proofs.Walks.{columns_go, columns_end}
-use Rattle.distance.proofs.Bounds.{columns_first, columns_next, columns_last}
-use borrow.Author.Rules.{rules}
 use Rattle.distance.proofs.pass.pass1_columns.Given as goal
 
 abbrev pub invariant-loop-j : goal.invariant-loop-j

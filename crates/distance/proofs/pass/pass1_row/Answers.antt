@@ -1,10 +1,5 @@
 -- The answers that the check does not find alone.
-use Prim.Native.Nat.{◌≤◌, ◌-◌}
-use mathlib.Core.Path.{◌≡◌}
 use Rattle.rules.specs.Base.{upto}
-use Rattle.rules.specs.Rows.{column, from_start}
-use Rattle.field.specs.Lent.{lent}
-use Rattle.distance.specs.Value.{Passing}
 use Rattle.distance.proofs.Walks.{block_go, pass1_row_end}
 use Rattle.distance.proofs.Bounds.{column-first, column-last}
 use borrow.Author.Rules.{rules}

@@ -5,9 +5,6 @@ use Rattle.rules.specs.Base.{upto}
 use Rattle.rules.specs.Rows.{column, from_start}
 use Rattle.field.specs.Lent.{lent}
 use Rattle.distance.specs.Value.{Passing}
-use Rattle.distance.proofs.Walks.{block_go, pass1_row_end}
-use Rattle.distance.proofs.Bounds.{column-first, column-last}
-use borrow.Author.Rules.{rules}
 use Rattle.distance.proofs.pass.pass1_row.Given as goal
 
 abbrev pub invariant-loop-x : goal.invariant-loop-x

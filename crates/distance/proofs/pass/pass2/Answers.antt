@@ -1,13 +1,6 @@
 -- The answers that the check does not find alone.
-use Prim.Native.Nat.{◌≤◌}
 use native.Mathlib.Nat.{le_refl}
 use native.Mathlib.Omega.{arith}
-use mathlib.Core.Path.{◌≡◌}
-use lib.ListN.{length}
-use Rattle.rules.specs.Distance.{lower}
-use Rattle.rules.specs.Rows.{downto}
-use Rattle.field.specs.Lent.{lent}
-use Rattle.distance.specs.Value.{Low}
 use Rattle.distance.proofs.Walks.{low_skip, down_go, last_stands, cells_sized, high_fits, high_next, pass2-end}
 use Rattle.distance.proofs.Bounds.{low_room, low_next, down_next}
 use borrow.Author.Rules.{rules}

@@ -1,17 +1,12 @@
 -- Invariant: the pass as a whole equals the s spans that are to go, done to the list as it is. A turn does the last of them, or passes over those that stay.
 -- It only lowers, so every value stays at most 510.
 use Prim.Native.Nat.{◌≤◌}
-use native.Mathlib.Nat.{le_refl}
-use native.Mathlib.Omega.{arith}
 use mathlib.Core.Path.{◌≡◌}
 use lib.ListN.{length}
 use Rattle.rules.specs.Distance.{lower}
 use Rattle.rules.specs.Rows.{downto}
 use Rattle.field.specs.Lent.{lent}
 use Rattle.distance.specs.Value.{Low}
-use Rattle.distance.proofs.Walks.{low_skip, down_go, last_stands, cells_sized, high_fits, high_next, pass2-end}
-use Rattle.distance.proofs.Bounds.{low_room, low_next, down_next}
-use borrow.Author.Rules.{rules}
 use Rattle.distance.proofs.pass.pass2.Given as goal
 
 abbrev pub invariant-loop-s : goal.invariant-loop-s

@@ -1,10 +1,5 @@
 -- The answers that the check does not find alone.
-use Prim.Native.Nat.{◌≤◌, ◌-◌, ◌+◌}
-use mathlib.Core.Path.{◌≡◌}
 use Rattle.rules.specs.Base.{upto}
-use Rattle.rules.specs.Distance.{lower}
-use Rattle.field.specs.Lent.{lent}
-use Rattle.distance.specs.Value.{Low}
 use Rattle.distance.proofs.Walks.{cell-end}
 use Rattle.distance.proofs.Bounds.{room_low, low_in, pass_go, low_go}
 use borrow.Author.Rules.{rules}

@@ -5,9 +5,6 @@ use Rattle.rules.specs.Base.{upto}
 use Rattle.rules.specs.Distance.{lower}
 use Rattle.field.specs.Lent.{lent}
 use Rattle.distance.specs.Value.{Low}
-use Rattle.distance.proofs.Walks.{cell-end}
-use Rattle.distance.proofs.Bounds.{room_low, low_in, pass_go, low_go}
-use borrow.Author.Rules.{rules}
 use Rattle.distance.proofs.pass.pass2_cell.Given as goal
 
 abbrev pub invariant-loop-j : goal.invariant-loop-j

@@ -1,10 +1,4 @@
 -- The answers that the check does not find alone.
-use Prim.Native.Nat.{◌≤◌, ◌+◌, ◌*◌}
-use mathlib.Core.Path.{◌≡◌}
-use Rattle.rules.specs.Distance.{lower}
-use Rattle.field.specs.Lent.{lent}
-use Rattle.distance.specs.Value.{Low}
-use Rattle.distance.specs.Walk.{columns_down}
 use Rattle.distance.proofs.Walks.{row_fits, block_fits, last_fits, last_in, columns_down_lem, columns_bottom}
 use borrow.Author.Rules.{rules}
 use Rattle.distance.proofs.pass.pass2_columns.Goals as goal

@@ -5,8 +5,6 @@ use Rattle.rules.specs.Distance.{lower}
 use Rattle.rules.specs.Rows.{column, downto}
 use Rattle.field.specs.Lent.{lent}
 use Rattle.distance.specs.Value.{Low}
-use Rattle.distance.proofs.Walks.{block_down, pass2_row_end}
-use borrow.Author.Rules.{rules}
 use Rattle.distance.proofs.pass.pass2_row.Given as goal
 
 abbrev pub invariant-loop-x : goal.invariant-loop-x

@@ -1,7 +1,5 @@
 -- The answers that the check does not find alone.
-use Prim.Native.Nat.{◌≤◌}
-use mathlib.Core.Path.{sym, ◌∙◌, ◌≡◌}
-use Rattle.distance.specs.Walk.{high_to}
+use mathlib.Core.Path.{sym, ◌∙◌}
 use Rattle.distance.proofs.Walks.{high_here, high_go, high_none}
 use borrow.Author.Rules.{rules}
 use Rattle.distance.proofs.pass.unsettled.Goals as goal

@@ -1,9 +1,7 @@
 -- Invariant: none of the values from k to s is above 2, so that the last above 2 is the last before k.
 use Prim.Native.Nat.{◌≤◌}
-use mathlib.Core.Path.{sym, ◌∙◌, ◌≡◌}
+use mathlib.Core.Path.{◌≡◌}
 use Rattle.distance.specs.Walk.{high_to}
-use Rattle.distance.proofs.Walks.{high_here, high_go, high_none}
-use borrow.Author.Rules.{rules}
 use Rattle.distance.proofs.pass.unsettled.Given as goal
 
 abbrev pub invariant-loop-k : goal.invariant-loop-k

@@ -1,6 +1,5 @@
 -- Before the rounds an unused entry is a span of id 0 with its flag up, and what they give is the rule's expansion once the stack is marked (Ends).
 use native.Mathlib.Omega.{arith}
-use borrow.Author.Rules.{rules}
 use Rattle.expand.proofs.Ends.{sizes_part, sizes_apart, entries_at, raised_at, lit_mutual, lit_all, most_some, gone_sizes, gone_entries, settled_at, expanded, expanded_strays, expanded_kept, expanded_given, expanded_told}
 use Rattle.expand.proofs.expand.expand_regions.Goals as goal
 

@@ -1,8 +1,5 @@
 -- The answers that the check does not find alone.
-use Prim.Native.Nat.{◌-◌}
 use borrow.Author.Rules.{rules}
-use lib.ListN.{length}
-use Rattle.expand.specs.Layout.{Filling}
 use Rattle.expand.proofs.Blanks.{filling_start, filling_room, filling_next, filling_end}
 use Rattle.expand.proofs.expand.fill_stack.Goals as goal
 

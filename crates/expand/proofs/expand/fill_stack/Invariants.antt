@@ -1,9 +1,7 @@
 -- The loop's invariant: what is stacked, with the spans from s on that pass the test, is the rule's list (`Filling`). The measure is the spans left.
 use Prim.Native.Nat.{◌-◌}
-use borrow.Author.Rules.{rules}
 use lib.ListN.{length}
 use Rattle.expand.specs.Layout.{Filling}
-use Rattle.expand.proofs.Blanks.{filling_start, filling_room, filling_next, filling_end}
 use Rattle.expand.proofs.expand.fill_stack.Given as goal
 
 abbrev pub invariant-loop-s : goal.invariant-loop-s

@@ -1,7 +1,5 @@
 -- The answers that the check does not find alone.
-use Prim.Native.Nat.{◌-◌}
 use borrow.Author.Rules.{rules}
-use Rattle.expand.specs.Front.{Entering}
 use Rattle.expand.proofs.Walks.{entering_start, entering_at, entering_room, entering_span, entering_next, entering_end}
 use Rattle.expand.proofs.flags.enter_all.Goals as goal
 

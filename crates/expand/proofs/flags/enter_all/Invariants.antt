@@ -1,8 +1,6 @@
 -- The loop's invariant: the entries before j are marked, and the flags of those without an id are up (`Entering`). The measure is the entries left.
 use Prim.Native.Nat.{◌-◌}
-use borrow.Author.Rules.{rules}
 use Rattle.expand.specs.Front.{Entering}
-use Rattle.expand.proofs.Walks.{entering_start, entering_at, entering_room, entering_span, entering_next, entering_end}
 use Rattle.expand.proofs.flags.enter_all.Given as goal
 
 abbrev pub invariant-loop-j : goal.invariant-loop-j

@@ -1,7 +1,5 @@
 -- The answers that the check does not find alone.
-use Prim.Native.Nat.{◌-◌}
 use borrow.Author.Rules.{rules}
-use Rattle.expand.specs.Front.{Leaving}
 use Rattle.expand.proofs.Walks.{leaving_start, leaving_room, leaving_span, leaving_next, leaving_end}
 use Rattle.expand.proofs.flags.leave_all.Goals as goal
 

@@ -1,8 +1,6 @@
 -- The loop's invariant: the flags of the entries before j are down, and those with an id are marked (`Leaving`). The measure is the entries left.
 use Prim.Native.Nat.{◌-◌}
-use borrow.Author.Rules.{rules}
 use Rattle.expand.specs.Front.{Leaving}
-use Rattle.expand.proofs.Walks.{leaving_start, leaving_room, leaving_span, leaving_next, leaving_end}
 use Rattle.expand.proofs.flags.leave_all.Given as goal
 
 abbrev pub invariant-loop-j : goal.invariant-loop-j

@@ -1,12 +1,7 @@
 -- The answers that the check does not find alone.
-use Prim.Native.Nat.{◌-◌}
 use native.Mathlib.Omega.{arith}
 use borrow.Author.Rules.{rules}
-use lib.ListN.{length}
-use Rattle.net.specs.Table.{net_at}
-use Rattle.flood.specs.Stack.{marks_at}
-use Rattle.expand.specs.Layout.{taken_of}
-use Rattle.expand.proofs.Looks.{sight_some, Looking, looking_start, looking_next, looking_done}
+use Rattle.expand.proofs.Looks.{sight_some, looking_start, looking_next, looking_done}
 use Rattle.expand.proofs.look.takes.Goals as goal
 
 pub loop-d-init : goal.loop-d-init

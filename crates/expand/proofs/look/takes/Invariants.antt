@@ -1,12 +1,10 @@
 -- The loop's invariant: what is found so far is what the rule finds in the directions before d (`Looking`). The measure is the directions left.
 use Prim.Native.Nat.{◌-◌}
-use native.Mathlib.Omega.{arith}
-use borrow.Author.Rules.{rules}
 use lib.ListN.{length}
 use Rattle.net.specs.Table.{net_at}
 use Rattle.flood.specs.Stack.{marks_at}
 use Rattle.expand.specs.Layout.{taken_of}
-use Rattle.expand.proofs.Looks.{sight_some, Looking, looking_start, looking_next, looking_done}
+use Rattle.expand.proofs.Looks.{Looking}
 use Rattle.expand.proofs.look.takes.Given as goal
 
 abbrev pub invariant-loop-d : goal.invariant-loop-d

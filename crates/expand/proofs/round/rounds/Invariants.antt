@@ -1,13 +1,10 @@
 -- The loop's invariant: the rounds still to come give, and tell, what all of them do, and what the next one changes is noted (`Going`). The measure is the rounds left.
-use mathlib.Core.Path.{◌≡◌, refl}
-use native.Mathlib.Omega.{arith}
-use borrow.Author.Rules.{rules}
+use mathlib.Core.Path.{◌≡◌}
 use lib.ListN.{length}
 use Rattle.rules.specs.Reasons.{rounds_tell}
 use Rattle.net.specs.Table.{net_at}
 use Rattle.flood.specs.Stories.{story_of}
 use Rattle.expand.specs.Front.{front_of, Going}
-use Rattle.expand.proofs.Wholes.{mutual_closed, lit_board, tried_mutual, tried_begun, going_start, gone_from, going-part, going-spans, going_few, going_end, written-closed, written_board, written-spans, going-last, going_next, going-closed, going_board, going_changes, told_from, told-end, told-last, told_next}
 use Rattle.expand.proofs.round.rounds.Given as goal
 
 abbrev pub invariant-loop-lo : goal.invariant-loop-lo

@@ -1,8 +1,5 @@
 -- The answers that the check does not find alone.
 use borrow.Author.Rules.{rules}
-use Prim.Native.Nat.{◌-◌}
-use lib.ListN.{length}
-use Rattle.expand.specs.Front.{Writing}
 use Rattle.expand.proofs.Writes.{writing_start, writing_span, writing_at, writing_small, writing_wide, writing_next, writing_end}
 use Rattle.expand.proofs.round.write_all.Goals as goal
 

@@ -1,9 +1,7 @@
 -- The loop's invariant: the marks are those that the changes before i give (`Writing`). The measure is the changes left.
-use borrow.Author.Rules.{rules}
 use Prim.Native.Nat.{◌-◌}
 use lib.ListN.{length}
 use Rattle.expand.specs.Front.{Writing}
-use Rattle.expand.proofs.Writes.{writing_start, writing_span, writing_at, writing_small, writing_wide, writing_next, writing_end}
 use Rattle.expand.proofs.round.write_all.Given as goal
 
 abbrev pub invariant-loop-i : goal.invariant-loop-i

@@ -1,8 +1,6 @@
 -- The answers that the check does not find alone.
-use Prim.Native.Nat.{◌-◌}
-use native.Mathlib.Omega.{arith}
 use borrow.Author.Rules.{rules}
-use Rattle.expand.proofs.Tellings.{Seeking, seeking_start, seeking_next, seeking_found, seeking_end}
+use Rattle.expand.proofs.Tellings.{seeking_start, seeking_next, seeking_found, seeking_end}
 use Rattle.expand.proofs.story.queued.Goals as goal
 
 pub loop-i-init : goal.loop-i-init

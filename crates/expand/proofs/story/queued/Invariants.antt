@@ -1,8 +1,6 @@
 -- The loop's invariant: no change before i is of the span (`Seeking`). The measure is the changes left.
 use Prim.Native.Nat.{◌-◌}
-use native.Mathlib.Omega.{arith}
-use borrow.Author.Rules.{rules}
-use Rattle.expand.proofs.Tellings.{Seeking, seeking_start, seeking_next, seeking_found, seeking_end}
+use Rattle.expand.proofs.Tellings.{Seeking}
 use Rattle.expand.proofs.story.queued.Given as goal
 
 abbrev pub invariant-loop-i : goal.invariant-loop-i

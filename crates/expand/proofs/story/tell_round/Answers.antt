@@ -1,6 +1,5 @@
 -- The change that is found is of a span, so it can look around, and its sum is the change's (Tellings).
 use native.Mathlib.Omega.{arith}
-use borrow.Author.Rules.{rules}
 use Rattle.flood.specs.Stories.{story_of}
 use Rattle.expand.proofs.Tellings.{told_none, told_still, sought_span, told_took, told-small, told_sight}
 use Rattle.expand.proofs.story.tell_round.Goals as goal

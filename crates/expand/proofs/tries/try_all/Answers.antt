@@ -1,8 +1,5 @@
 -- The answers that the check does not find alone.
 use borrow.Author.Rules.{rules}
-use Prim.Native.Nat.{◌-◌, ◌≤◌}
-use mathlib.Core.Bool.{false}
-use Rattle.expand.specs.Front.{Moved, Entered}
 use Rattle.expand.proofs.Trying.{moved_none, moved_closed, moved_board, moved_then, entered_start, entered_at, entered_small, entered_entry, entered_next, entered_end}
 use Rattle.expand.proofs.tries.try_all.Goals as goal
 

@@ -1,9 +1,7 @@
 -- The loop's invariant: tries so far leave what tries leave, and the entries before j are tried (`Moved`, `Entered`). The measure is the entries left.
-use borrow.Author.Rules.{rules}
 use Prim.Native.Nat.{◌-◌, ◌≤◌}
 use mathlib.Core.Bool.{false}
 use Rattle.expand.specs.Front.{Moved, Entered}
-use Rattle.expand.proofs.Trying.{moved_none, moved_closed, moved_board, moved_then, entered_start, entered_at, entered_small, entered_entry, entered_next, entered_end}
 use Rattle.expand.proofs.tries.try_all.Given as goal
 
 abbrev pub invariant-loop-j : goal.invariant-loop-j

@@ -1,7 +1,5 @@
 -- The answers that the check does not find alone.
 use borrow.Author.Rules.{rules}
-use Prim.Native.Nat.{◌-◌}
-use Rattle.expand.specs.Front.{Moved, Sides}
 use Rattle.expand.proofs.Trying.{moved_none, moved_closed, moved_board, moved_then, sides_start, sides_next, sides_end}
 use Rattle.expand.proofs.tries.try_around.Goals as goal
 

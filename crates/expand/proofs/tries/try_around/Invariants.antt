@@ -1,9 +1,7 @@
 -- The loop's invariant: tries so far leave what tries leave, and the neighbours in directions before d are tried (`Moved`, `Sides`). The measure is the
 -- directions left.
-use borrow.Author.Rules.{rules}
 use Prim.Native.Nat.{◌-◌}
 use Rattle.expand.specs.Front.{Moved, Sides}
-use Rattle.expand.proofs.Trying.{moved_none, moved_closed, moved_board, moved_then, sides_start, sides_next, sides_end}
 use Rattle.expand.proofs.tries.try_around.Given as goal
 
 abbrev pub invariant-loop-d : goal.invariant-loop-d

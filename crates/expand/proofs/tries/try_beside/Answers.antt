@@ -1,7 +1,5 @@
 -- The answers that the check does not find alone.
 use borrow.Author.Rules.{rules}
-use Prim.Native.Nat.{◌-◌, ◌≤◌}
-use Rattle.expand.specs.Front.{Moved, Beside}
 use Rattle.expand.proofs.Trying.{moved_none, moved_closed, moved_board, moved_then, beside_start, beside_span, beside_next, beside_end}
 use Rattle.expand.proofs.tries.try_beside.Goals as goal
 

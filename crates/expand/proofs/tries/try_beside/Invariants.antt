@@ -1,9 +1,7 @@
 -- The loop's invariant: tries so far leave what tries leave, and the neighbours of the changes before i are tried (`Moved`, `Beside`). The measure is the
 -- changes left.
-use borrow.Author.Rules.{rules}
 use Prim.Native.Nat.{◌-◌, ◌≤◌}
 use Rattle.expand.specs.Front.{Moved, Beside}
-use Rattle.expand.proofs.Trying.{moved_none, moved_closed, moved_board, moved_then, beside_start, beside_span, beside_next, beside_end}
 use Rattle.expand.proofs.tries.try_beside.Given as goal
 
 abbrev pub invariant-loop-i : goal.invariant-loop-i

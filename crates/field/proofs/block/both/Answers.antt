@@ -1,5 +1,4 @@
 -- `both` is the rules' `and`, whose first decides.
-use Rattle.rules.specs.Base.{◌and◌}
 use borrow.Author.Rules.{rules}
 use Rattle.field.proofs.block.both.Goals as goal
 

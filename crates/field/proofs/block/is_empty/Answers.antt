@@ -1,6 +1,4 @@
 -- The answers that the check does not find alone.
-use Prim.Native.Nat.{◌≤◌, ◌-◌}
-use mathlib.Core.Path.{◌≡◌}
 use Rattle.rules.specs.Base.{every}
 use Rattle.field.specs.Blocks.{empty_to}
 use Rattle.field.proofs.Blocks.{block_part, block_go, block_end}

@@ -1,10 +1,7 @@
 -- Invariant: `empty` tells whether the cells below j have no span. A part of a block is not looked at.
 use Prim.Native.Nat.{◌≤◌, ◌-◌}
 use mathlib.Core.Path.{◌≡◌}
-use Rattle.rules.specs.Base.{every}
 use Rattle.field.specs.Blocks.{empty_to}
-use Rattle.field.proofs.Blocks.{block_part, block_go, block_end}
-use borrow.Author.Rules.{rules}
 use Rattle.field.proofs.block.is_empty.Given as goal
 
 abbrev pub invariant-loop-j : goal.invariant-loop-j

@@ -1,19 +1,16 @@
 -- The answers that the check does not find alone.
 use mathlib.Core.Path.{◌≡◌, ◌∙◌}
-use Prim.Native.Nat.{◌+◌, ◌-◌, ◌*◌, ◌<◌, ◌≤◌}
+use Prim.Native.Nat.{◌+◌, ◌<◌, ◌≤◌}
 use native.Mathlib.Omega.{arith}
-use borrow.Author.Rules.{rules}
 use lib.ListN.{length, get_or, length-set}
 use Rattle.rules.specs.Refusals.{most_spans}
 use Rattle.net.specs.Table.{net_at}
 use Rattle.net.proofs.Tables.{lent_same, net_few}
-use Rattle.flood.specs.Looks.{seed_of}
 use Rattle.flood.specs.Stack.{Kept}
-use Rattle.flood.specs.Stories.{story_of}
 use Rattle.flood.proofs.Pushes.{placed_kept, lent_stack_in, net_kept, kept_then}
 use Rattle.flood.proofs.Visits.{good-held}
 use Rattle.flood.proofs.Floods.{begun, start_kept, start_flooding, running_done, running_falls, flooded_past, flooded_is}
-use Rattle.flood.proofs.Stories.{Telling, telling_start, telling_done, telling_on, told_is}
+use Rattle.flood.proofs.Stories.{telling_start, telling_done, telling_on, told_is}
 use Rattle.flood.proofs.flow.flood_region.Goals as goal
 
 pub bounds-area-s : goal.bounds-area-s

@@ -1,9 +1,6 @@
 -- The answers that the check does not find alone.
-use Prim.Native.Nat.{◌-◌}
 use native.Mathlib.Omega.{arith}
-use borrow.Author.Rules.{rules}
-use Rattle.flood.specs.Looks.{seed_of}
-use Rattle.flood.proofs.Pushes.{Pushing, pushing_start, pushing_next, pushing_done}
+use Rattle.flood.proofs.Pushes.{pushing_start, pushing_next, pushing_done}
 use Rattle.flood.proofs.flow.push_all.Goals as goal
 
 pub loop-d-init : goal.loop-d-init

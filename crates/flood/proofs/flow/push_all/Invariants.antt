@@ -1,9 +1,7 @@
 -- The loop's invariant: the flow is the rule's after d directions (`Pushing`), and the stack has room. The measure is the directions left.
 use Prim.Native.Nat.{◌-◌}
-use native.Mathlib.Omega.{arith}
-use borrow.Author.Rules.{rules}
 use Rattle.flood.specs.Looks.{seed_of}
-use Rattle.flood.proofs.Pushes.{Pushing, pushing_start, pushing_next, pushing_done}
+use Rattle.flood.proofs.Pushes.{Pushing}
 use Rattle.flood.proofs.flow.push_all.Given as goal
 
 abbrev pub invariant-loop-d : goal.invariant-loop-d

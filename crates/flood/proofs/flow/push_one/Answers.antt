@@ -1,7 +1,6 @@
 -- Under what has been tested by each return, the flow is the rule's (Pushes); a neighbour that is there is a span, and the stack has room
 -- for it, since it had another id.
 use native.Mathlib.Omega.{arith}
-use borrow.Author.Rules.{rules}
 use lib.ListN.{length, length-set}
 use Prim.Native.Nat.{◌+◌, ◌<◌}
 use Rattle.rules.specs.Refusals.{most_spans}

@@ -1,13 +1,8 @@
 -- The answers that the check does not find alone.
-use Prim.Native.Nat.{◌-◌}
 use native.Mathlib.Omega.{arith}
 use mathlib.Core.Path.{refl}
 use borrow.Author.Rules.{rules}
-use lib.ListN.{length}
-use Rattle.net.specs.Table.{net_at}
-use Rattle.flood.specs.Looks.{seed_of}
-use Rattle.flood.specs.Stack.{marks_at}
-use Rattle.flood.proofs.Sight.{Looking, looking_stops, looking_objects, looking_on, looking_done}
+use Rattle.flood.proofs.Sight.{looking_stops, looking_objects, looking_on, looking_done}
 use Rattle.flood.proofs.look.objects.Goals as goal
 
 pub loop-d-init : goal.loop-d-init

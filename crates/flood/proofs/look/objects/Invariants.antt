@@ -1,14 +1,11 @@
 -- The loop's invariant: what the directions from d on say is what all four say (`Looking`), since those before d said nothing.
 -- The measure is the directions left.
 use Prim.Native.Nat.{◌-◌}
-use native.Mathlib.Omega.{arith}
-use mathlib.Core.Path.{refl}
-use borrow.Author.Rules.{rules}
 use lib.ListN.{length}
 use Rattle.net.specs.Table.{net_at}
 use Rattle.flood.specs.Looks.{seed_of}
 use Rattle.flood.specs.Stack.{marks_at}
-use Rattle.flood.proofs.Sight.{Looking, looking_stops, looking_objects, looking_on, looking_done}
+use Rattle.flood.proofs.Sight.{Looking}
 use Rattle.flood.proofs.look.objects.Given as goal
 
 abbrev pub invariant-loop-d : goal.invariant-loop-d

@@ -1,10 +1,5 @@
 use Rattle.flood.proofs.Stories.{objecting_0, objecting_1, objecting_2, objecting_3}
-use native.Mathlib.Omega.{arith}
 use borrow.Author.Rules.{rules}
-use Rattle.flood.proofs.story.objecting.Reads as reads
-use Rattle.flood.proofs.story.objecting.Lts as lts
-use Rattle.flood.proofs.story.objector.Reads as objector-reads
-use Rattle.flood.proofs.story.objects_at.Reads as objects-at-reads
 use Rattle.flood.proofs.story.objecting.Goals as goal
 
 pub returns-then-objects_at : goal.returns-then-objects_at

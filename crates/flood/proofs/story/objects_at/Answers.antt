@@ -1,9 +1,5 @@
 use Rattle.flood.proofs.Stories.{at_yes, at_no}
-use native.Mathlib.Omega.{arith}
 use borrow.Author.Rules.{rules}
-use Rattle.flood.proofs.story.objects_at.Reads as reads
-use Rattle.flood.proofs.story.objects_at.Lts as lts
-use Rattle.flood.proofs.look.sees.Reads as sees-reads
 use Rattle.flood.proofs.story.objects_at.Goals as goal
 
 pub returns-then-sees-eq-OBJECTION : goal.returns-then-sees-eq-OBJECTION

@@ -1,11 +1,10 @@
 -- The answers that the check does not find alone.
-use Prim.Native.Nat.{◌-◌, ◌≤◌}
+use Prim.Native.Nat.{◌≤◌}
 use mathlib.Core.Path.{◌∙◌}
 use native.Mathlib.Omega.{arith}
 use lib.ListN.{length}
-use Rattle.flood.specs.Stories.{story_of}
 use Rattle.flood.proofs.Pushes.{placed_kept}
-use Rattle.growth.proofs.FloodLaws.{FloodedTo, flooded_start, flooded_lent, flooded_at, flooded_entry, flag_not, flooded_next, flooded_out, flooded_end, blank_past, FloodsTold, told-start, told_next, told-end}
+use Rattle.growth.proofs.FloodLaws.{flooded_start, flooded_lent, flooded_at, flooded_entry, flag_not, flooded_next, flooded_out, flooded_end, blank_past, told-start, told_next, told-end}
 use Rattle.growth.proofs.floods.flood_all.Goals as goal
 
 pub loop-j-init : goal.loop-j-init

@@ -1,11 +1,7 @@
 -- The loop's invariant: floods from the entries from j on give what floods from all give (`FloodedTo`). The measure is the entries left.
-use Prim.Native.Nat.{◌-◌, ◌≤◌}
-use mathlib.Core.Path.{◌∙◌}
-use native.Mathlib.Omega.{arith}
-use lib.ListN.{length}
+use Prim.Native.Nat.{◌-◌}
 use Rattle.flood.specs.Stories.{story_of}
-use Rattle.flood.proofs.Pushes.{placed_kept}
-use Rattle.growth.proofs.FloodLaws.{FloodedTo, flooded_start, flooded_lent, flooded_at, flooded_entry, flag_not, flooded_next, flooded_out, flooded_end, blank_past, FloodsTold, told-start, told_next, told-end}
+use Rattle.growth.proofs.FloodLaws.{FloodedTo, FloodsTold}
 use Rattle.growth.proofs.floods.flood_all.Given as goal
 
 abbrev pub invariant-loop-j : goal.invariant-loop-j

@@ -2,7 +2,6 @@
 use mathlib.Core.Path.{refl}
 use Prim.Native.Nat.{◌<◌}
 use native.Mathlib.Omega.{arith}
-use borrow.Author.Rules.{rules}
 use lib.ListN.{length, get_or}
 use Rattle.growth.proofs.FloodLaws.{next_begins, one_used, one-has_id, failed_one, won_one, failed_below, won_below, tells_used, tells_has_id, tells_flood}
 use Rattle.growth.proofs.floods.flood_one.Goals as goal

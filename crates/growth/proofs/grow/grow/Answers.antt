@@ -1,7 +1,6 @@
 -- Painting and the table of neighbours give what the turns ask; what they leave, with the source distances zeroed, is the rule's growth (FirstLaws).
 use mathlib.Core.Path.{sym, ◌∙◌}
 use native.Mathlib.Omega.{arith}
-use borrow.Author.Rules.{rules}
 use Rattle.growth.proofs.FirstLaws.{reached-first, cells_first, few_first, size_first, plot_first, between_first, rule_story, full, whole}
 use Rattle.growth.proofs.grow.grow.Goals as goal
 

@@ -2,7 +2,6 @@
 use Prim.Native.Nat.{◌+◌, ◌/◌, ◌%◌}
 use mathlib.Core.Path.{◌≡◌}
 use native.Mathlib.Omega.{arith}
-use borrow.Author.Rules.{rules}
 use Rattle.growth.specs.Grow.{turns_for}
 use Rattle.growth.proofs.KeptLaws.{flags_at}
 use Rattle.growth.proofs.GrowLaws.{grew_stopped, last_mutual, last_ready, grew_strayed, grew, grew_told}

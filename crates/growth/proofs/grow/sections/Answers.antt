@@ -1,6 +1,5 @@
 -- The sections follow one another, and the table is past them.
 use mathlib.Core.Path.{refl}
-use borrow.Author.Rules.{rules}
 use Rattle.growth.proofs.grow.sections.Goals as goal
 
 pub returns : goal.returns

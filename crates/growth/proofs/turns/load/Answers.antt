@@ -2,7 +2,6 @@
 use Prim.Native.Nat.{◌+◌}
 use native.Mathlib.Omega.{arith}
 use native.Mathlib.Nat.{mod-lt}
-use borrow.Author.Rules.{rules}
 use Rattle.growth.proofs.LoadLaws.{sort_lists, append-part, left_fits, left_stacked, loaded-sorted, loaded-appended}
 use Rattle.growth.proofs.turns.load.Goals as goal
 

@@ -2,7 +2,6 @@
 use mathlib.Core.Path.{◌≡◌, ◌∙◌}
 use native.Mathlib.Omega.{arith}
 use lib.ListN.{length}
-use borrow.Author.Rules.{rules}
 use Rattle.growth.proofs.KeptLaws.{few_spans, flags_at}
 use Rattle.growth.proofs.ExpandTurn.{given_as, expanded_as, strays_as, held_as, told_as}
 use Rattle.growth.proofs.FloodTurn.{between_placed, flooded}

@@ -1,6 +1,5 @@
 -- The eight stacks lie within nine times n, so the place fits.
 use native.Mathlib.Omega.{arith}
-use borrow.Author.Rules.{rules}
 use Rattle.levels.proofs.LevelLaws.{slots}
 use Rattle.growth.proofs.turns.turn_stack.Goals as goal
 

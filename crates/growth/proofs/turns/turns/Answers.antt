@@ -1,13 +1,7 @@
 -- The answers that the check does not find alone.
 use mathlib.Core.Path.{◌≡◌, ◌∙◌}
-use Prim.Native.Nat.{suc, ◌-◌, ◌*◌, ◌≤◌}
+use Prim.Native.Nat.{suc, ◌-◌}
 use native.Mathlib.Omega.{arith}
-use borrow.Author.Rules.{rules}
-use lib.ListN.{length}
-use Rattle.rules.specs.Reasons.{turns_tell}
-use Rattle.net.specs.Table.{net_at}
-use Rattle.flood.specs.Stories.{story_of}
-use Rattle.growth.specs.Turns.{begun, SomeTurns}
 use Rattle.growth.proofs.TurnsLaws.{told-first, turns_start, turns_next, turns_told, turns_stopped, turns_end}
 use Rattle.growth.proofs.turns.turns.Goals as goal
 

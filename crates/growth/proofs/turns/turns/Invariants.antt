@@ -1,15 +1,12 @@
 -- The loop's invariant: what is there is what the turns so far leave (`SomeTurns`), count - left of them; each turn adds one (TurnsLaws). The measure
 -- is the turns left.
-use mathlib.Core.Path.{◌≡◌, ◌∙◌}
-use Prim.Native.Nat.{suc, ◌-◌, ◌*◌, ◌≤◌}
-use native.Mathlib.Omega.{arith}
-use borrow.Author.Rules.{rules}
+use mathlib.Core.Path.{◌≡◌}
+use Prim.Native.Nat.{◌-◌, ◌*◌, ◌≤◌}
 use lib.ListN.{length}
 use Rattle.rules.specs.Reasons.{turns_tell}
 use Rattle.net.specs.Table.{net_at}
 use Rattle.flood.specs.Stories.{story_of}
 use Rattle.growth.specs.Turns.{begun, SomeTurns}
-use Rattle.growth.proofs.TurnsLaws.{told-first, turns_start, turns_next, turns_told, turns_stopped, turns_end}
 use Rattle.growth.proofs.turns.turns.Given as goal
 
 abbrev pub invariant-loop-left : goal.invariant-loop-left

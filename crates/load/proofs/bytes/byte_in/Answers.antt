@@ -1,6 +1,5 @@
 -- `bytes::byte_in` meets its contract: a loader that is not going stays as it is.
 use Rattle.load.proofs.Ways.{byte_going, byte_over}
-use borrow.Author.Rules.{rules}
 use Rattle.load.proofs.bytes.byte_in.Goals as goal
 
 pub returns-then-is_going : goal.returns-then-is_going

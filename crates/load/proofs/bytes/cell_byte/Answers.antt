@@ -1,7 +1,6 @@
 -- `bytes::cell_byte` meets its contract: over the limit nothing is stored.
 -- Its promise holds for any areas and connections, which it is not lent.
 use Rattle.load.proofs.Ways.{cell-over, cell_fits}
-use borrow.Author.Rules.{rules}
 use Rattle.load.proofs.bytes.cell_byte.Goals as goal
 
 pub returns-then-l-b : goal.returns-then-l-b

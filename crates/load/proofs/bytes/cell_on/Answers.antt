@@ -1,6 +1,5 @@
 -- `bytes::cell_on` meets its contract: one cell more, with its spans due.
 use Rattle.load.proofs.Ways.{cell-counted}
-use borrow.Author.Rules.{rules}
 use Rattle.load.proofs.bytes.cell_on.Goals as goal
 
 pub returns : goal.returns

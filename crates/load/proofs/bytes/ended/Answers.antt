@@ -1,7 +1,6 @@
 -- `bytes::ended` meets its contract: with the end record read the loader is closed, otherwise the file is cut short.
 use Rattle.load.proofs.Ways.{end_read, end_cut}
 use Rattle.rules.specs.Load.{closed}
-use borrow.Author.Rules.{rules}
 use Rattle.load.proofs.bytes.ended.Goals as goal
 
 pub returns-then-l-eq-END : goal.returns-then-l-eq-END

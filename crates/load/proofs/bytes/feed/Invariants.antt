@@ -3,10 +3,8 @@
 use mathlib.Core.Path.{◌≡◌}
 use Prim.Native.Nat.{◌≤◌, ◌-◌}
 use lib.ListN.{length, drop}
-use Rattle.load.proofs.Ways.{feed_next, feed_done}
 use Rattle.rules.specs.Load.{feed}
 use Rattle.load.specs.Numbers.{loading}
-use borrow.Author.Rules.{rules}
 use Rattle.load.proofs.bytes.feed.Given as goal
 
 abbrev pub invariant-loop-i : goal.invariant-loop-i

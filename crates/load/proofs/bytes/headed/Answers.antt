@@ -1,6 +1,5 @@
 -- `bytes::headed` meets its contract: over the limit it is refused at its kind byte.
 use Rattle.load.proofs.Ways.{headed-over, headed_fits}
-use borrow.Author.Rules.{rules}
 use Rattle.load.proofs.bytes.headed.Goals as goal
 
 pub returns-then-l-product : goal.returns-then-l-product

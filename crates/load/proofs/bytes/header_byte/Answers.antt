@@ -1,6 +1,5 @@
 -- `bytes::header_byte` meets its contract: the tenth byte ends the header.
 use Rattle.load.proofs.Ways.{header_on, header-last}
-use borrow.Author.Rules.{rules}
 use Rattle.load.proofs.bytes.header_byte.Goals as goal
 
 pub returns-then-l-lt9 : goal.returns-then-l-lt9

@@ -1,6 +1,5 @@
 -- `bytes::kind_byte` meets its contract: the byte is the kind in place, or is refused there.
 use Rattle.load.proofs.Ways.{kind_right, kind_wrong}
-use borrow.Author.Rules.{rules}
 use Rattle.load.proofs.bytes.kind_byte.Goals as goal
 
 pub returns-then-kind-wanted : goal.returns-then-kind-wanted

@@ -1,7 +1,6 @@
 -- `bytes::number_with` meets its contract: the low byte, the high byte, or neither.
 -- Two bytes make a number of 16 bits, so the sum fits.
 use Rattle.load.proofs.Ways.{number_low, number_high, number_other}
-use borrow.Author.Rules.{rules}
 use Rattle.load.proofs.bytes.number_with.Goals as goal
 
 pub returns-then-got-i : goal.returns-then-got-i

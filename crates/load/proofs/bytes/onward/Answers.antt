@@ -1,7 +1,6 @@
 -- `bytes::onward` meets its contract: four numbers are set, the others stay.
 use Rattle.rules.specs.Load.{onward}
 use mathlib.Core.Path.{refl}
-use borrow.Author.Rules.{rules}
 use Rattle.load.proofs.bytes.onward.Goals as goal
 
 pub returns : goal.returns

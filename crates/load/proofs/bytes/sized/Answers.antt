@@ -1,7 +1,6 @@
 -- `bytes::sized` meets its contract: each of the five numbers is the rule's.
 use Rattle.rules.specs.Load.{sized}
 use mathlib.Core.Path.{refl}
-use borrow.Author.Rules.{rules}
 use Rattle.load.proofs.bytes.sized.Goals as goal
 
 pub returns : goal.returns

@@ -1,6 +1,5 @@
 -- `bytes::span_on` meets its contract: the fifth byte ends the span.
 use Rattle.load.proofs.Ways.{span_more, span_last}
-use borrow.Author.Rules.{rules}
 use Rattle.load.proofs.bytes.span_on.Goals as goal
 
 pub returns-then-l-lt4 : goal.returns-then-l-lt4

@@ -1,7 +1,6 @@
 -- `bytes::wanted` meets its contract: its four ways out are those of the rule.
 -- Each is a law of `Ways.antt` over the tests that led there.
 use Rattle.load.proofs.Ways.{wants_header, wants_span, wants_cell, wants_end}
-use borrow.Author.Rules.{rules}
 use Rattle.load.proofs.bytes.wanted.Goals as goal
 
 pub returns-then-l-eq0 : goal.returns-then-l-eq0

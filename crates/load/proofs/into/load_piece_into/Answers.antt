@@ -1,9 +1,6 @@
 -- `into::load_piece_into` meets its contract: with 17 places the outcome, otherwise 3.
 use Rattle.load.proofs.Stored.{piece_3, piece_given}
-use Prim.Native.Nat.{ℕ, ◌<◌}
 use native.Mathlib.Omega.{arith}
-use lib.ListN.{get_or}
-use borrow.Author.Rules.{rules}
 use Rattle.load.proofs.into.load_piece_into.Goals as goal
 
 pub returns-then-loader-ne-NUMBERS : goal.returns-then-loader-ne-NUMBERS

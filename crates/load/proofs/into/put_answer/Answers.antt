@@ -1,6 +1,5 @@
 -- `into::put_answer` meets its contract: the loader is written, or a list was too short and nothing is.
 use Rattle.load.proofs.Stored.{put-taken, put_short}
-use borrow.Author.Rules.{rules}
 use Rattle.load.proofs.into.put_answer.Goals as goal
 
 pub returns-in-Taken : goal.returns-in-Taken

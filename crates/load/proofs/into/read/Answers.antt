@@ -2,7 +2,6 @@
 -- The list has 17.
 use Rattle.load.specs.Into.{loader_in}
 use mathlib.Core.Path.{refl}
-use borrow.Author.Rules.{rules}
 use Rattle.load.proofs.into.read.Goals as goal
 
 pub returns : goal.returns

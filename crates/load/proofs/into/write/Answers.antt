@@ -2,7 +2,6 @@
 -- What is cited path by path is what each call promises of the list.
 use Rattle.load.specs.Numbers.{loader_of}
 use Rattle.load.proofs.Stored.{stored}
-use borrow.Author.Rules.{rules}
 use Rattle.load.proofs.into.write.Goals as goal
 
 pub returns : goal.returns

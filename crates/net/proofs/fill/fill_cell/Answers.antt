@@ -1,7 +1,4 @@
 -- The answers that the check does not find alone.
-use Prim.Native.Nat.{◌≤◌, ◌-◌}
-use mathlib.Core.Path.{◌≡◌}
-use Rattle.field.specs.Lent.{lent}
 use Rattle.field.proofs.Places.{stands_at}
 use Rattle.net.specs.Fill.{filled}
 use Rattle.net.proofs.Fills.{filled_go, filled_size, filled_room, filled-end}

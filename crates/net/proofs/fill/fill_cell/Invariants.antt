@@ -2,10 +2,7 @@
 use Prim.Native.Nat.{◌≤◌, ◌-◌}
 use mathlib.Core.Path.{◌≡◌}
 use Rattle.field.specs.Lent.{lent}
-use Rattle.field.proofs.Places.{stands_at}
 use Rattle.net.specs.Fill.{filled}
-use Rattle.net.proofs.Fills.{filled_go, filled_size, filled_room, filled-end}
-use borrow.Author.Rules.{rules}
 use Rattle.net.proofs.fill.fill_cell.Given as goal
 
 abbrev pub invariant-loop-j : goal.invariant-loop-j

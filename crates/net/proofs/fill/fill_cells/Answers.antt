@@ -1,8 +1,5 @@
 -- The answers that the check does not find alone.
-use Prim.Native.Nat.{◌≤◌, ◌-◌}
-use mathlib.Core.Path.{◌≡◌}
 use Rattle.rules.specs.Base.{upto}
-use Rattle.field.specs.Lent.{lent}
 use Rattle.net.specs.Fill.{filled_cells}
 use Rattle.net.proofs.Fills.{cells_go, cells_end, cells_size, cells_room}
 use borrow.Author.Rules.{rules}

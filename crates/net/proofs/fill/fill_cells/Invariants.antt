@@ -1,11 +1,8 @@
 -- Invariant: the spans of the cells from c to c + j - 1 are filled.
 use Prim.Native.Nat.{◌≤◌, ◌-◌}
 use mathlib.Core.Path.{◌≡◌}
-use Rattle.rules.specs.Base.{upto}
 use Rattle.field.specs.Lent.{lent}
 use Rattle.net.specs.Fill.{filled_cells}
-use Rattle.net.proofs.Fills.{cells_go, cells_end, cells_size, cells_room}
-use borrow.Author.Rules.{rules}
 use Rattle.net.proofs.fill.fill_cells.Given as goal
 
 abbrev pub invariant-loop-j : goal.invariant-loop-j

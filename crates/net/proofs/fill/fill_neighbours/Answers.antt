@@ -1,6 +1,5 @@
 -- The answers that the check does not find alone.
-use Prim.Native.Nat.{◌≤◌, ◌-◌, ◌*◌}
-use mathlib.Core.Path.{◌≡◌}
+use Prim.Native.Nat.{◌≤◌, ◌*◌}
 use Rattle.field.specs.Lent.{lent}
 use Rattle.field.proofs.Places.{first_of}
 use Rattle.net.specs.Fill.{filled}

@@ -4,9 +4,6 @@ use mathlib.Core.Path.{◌≡◌}
 use Rattle.field.specs.Lent.{lent}
 use Rattle.field.proofs.Places.{first_of}
 use Rattle.net.specs.Fill.{filled}
-use Rattle.net.proofs.Fills.{block_more, filled_size, filled_room, table_filled, rest_kept}
-use native.Mathlib.Omega.{arith}
-use borrow.Author.Rules.{rules}
 use Rattle.net.proofs.fill.fill_neighbours.Given as goal
 
 abbrev pub invariant-loop-c : goal.invariant-loop-c

@@ -1,6 +1,5 @@
 -- `pool::absorb::join_lists` meets its contract. Two lists joined apart from both, and renamed.
 use Rattle.pool.proofs.AbsorbLaws.{join_first, join_second, join_entry, join_entry_2, join_room, join_top, joined_list_lem, joined_short, joined_frame}
-use borrow.Author.Rules.{rules}
 use Rattle.pool.proofs.absorb.join_lists.Goals as goal
 
 pub join-end-requires : goal.join-end-requires

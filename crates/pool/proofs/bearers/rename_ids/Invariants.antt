@@ -3,8 +3,7 @@
 use Prim.Native.Nat.{◌<◌}
 use lib.ListN.{length}
 use mathlib.Core.Path.{◌≡◌}
-use Rattle.pool.proofs.BearerLaws.{steps, Handing, hand_start, hand_room, hand_inside, hand_next, hand_falls, hand_done}
-use borrow.Author.Rules.{rules}
+use Rattle.pool.proofs.BearerLaws.{steps, Handing}
 use Rattle.pool.proofs.bearers.rename_ids.Given as goal
 
 abbrev pub invariant-loop-m : goal.invariant-loop-m

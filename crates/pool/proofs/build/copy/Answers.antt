@@ -1,11 +1,8 @@
 -- The answers that the check does not find alone.
-use lib.ListN.{length, length-set}
-use Rattle.pool.specs.Part.{Copied}
-use Rattle.space.specs.Space.{Frame}
+use lib.ListN.{length-set}
 use Rattle.space.proofs.Laws.{frame_none}
 use Rattle.pool.proofs.PartLaws.{copied_none, copy_read, copy_write, copy_frame, copy_go, copy_done}
-use Prim.Native.Nat.{◌≤◌, ◌-◌, ◌+◌}
-use mathlib.Core.Path.{◌≡◌, refl}
+use mathlib.Core.Path.{refl}
 use borrow.Author.Rules.{rules}
 use Rattle.pool.proofs.build.copy.Goals as goal
 

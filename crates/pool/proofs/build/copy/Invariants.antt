@@ -1,12 +1,9 @@
 -- `pool::build::copy` meets its contract. The loop's invariant: k numbers stand in the new place, and nothing else changed; the old part lies apart.
-use lib.ListN.{length, length-set}
+use lib.ListN.{length}
 use Rattle.pool.specs.Part.{Copied}
 use Rattle.space.specs.Space.{Frame}
-use Rattle.space.proofs.Laws.{frame_none}
-use Rattle.pool.proofs.PartLaws.{copied_none, copy_read, copy_write, copy_frame, copy_go, copy_done}
 use Prim.Native.Nat.{◌≤◌, ◌-◌, ◌+◌}
-use mathlib.Core.Path.{◌≡◌, refl}
-use borrow.Author.Rules.{rules}
+use mathlib.Core.Path.{◌≡◌}
 use Rattle.pool.proofs.build.copy.Given as goal
 
 abbrev pub invariant-loop-k : goal.invariant-loop-k

@@ -4,8 +4,6 @@ use Prim.Native.Nat.{◌≤◌}
 use mathlib.Core.Path.{◌≡◌}
 use lib.ListN.{length}
 use Rattle.pool.specs.Pool.{Carried}
-use Rattle.pool.proofs.CarryLaws.{carried_none, carry_source, carry_go, carry_done}
-use borrow.Author.Rules.{rules}
 use Rattle.pool.proofs.carry.carry_all.Given as goal
 
 abbrev pub invariant-loop-x : goal.invariant-loop-x

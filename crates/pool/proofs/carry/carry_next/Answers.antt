@@ -1,6 +1,5 @@
 -- `pool::carry::carry_next` meets its contract. By cases: i and n are passed by.
 use Rattle.pool.proofs.CarryLaws.{next_i, next_n, next_moved}
-use borrow.Author.Rules.{rules}
 use Rattle.pool.proofs.carry.carry_next.Goals as goal
 
 pub returns-then-x-pair : goal.returns-then-x-pair

@@ -1,8 +1,5 @@
 -- The answers that the check does not find alone.
-use Prim.Native.Nat.{◌-◌, ◌≤◌}
-use mathlib.Core.Path.{◌≡◌}
-use lib.ListN.{length}
-use Rattle.pool.proofs.LinkLaws.{Linking, linking_none, room_same, linking_go, linking_all, linking_kept}
+use Rattle.pool.proofs.LinkLaws.{linking_none, room_same, linking_go, linking_all, linking_kept}
 use borrow.Author.Rules.{rules}
 use Rattle.pool.proofs.links.link_all.Goals as goal
 

@@ -3,8 +3,7 @@
 use Prim.Native.Nat.{◌-◌, ◌≤◌}
 use mathlib.Core.Path.{◌≡◌}
 use lib.ListN.{length}
-use Rattle.pool.proofs.LinkLaws.{Linking, linking_none, room_same, linking_go, linking_all, linking_kept}
-use borrow.Author.Rules.{rules}
+use Rattle.pool.proofs.LinkLaws.{Linking}
 use Rattle.pool.proofs.links.link_all.Given as goal
 
 abbrev pub invariant-loop-q : goal.invariant-loop-q

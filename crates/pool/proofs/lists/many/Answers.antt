@@ -1,10 +1,5 @@
 -- The answers that the check does not find alone.
-use lib.ListN.{length, drop}
-use lib.Dec.{eqb}
-use Rattle.rules.specs.Base.{many}
 use Rattle.pool.proofs.ListLaws.{many_go, many-end}
-use Prim.Native.Nat.{◌≤◌, ◌-◌, ◌+◌}
-use mathlib.Core.Path.{◌≡◌}
 use borrow.Author.Rules.{rules}
 use Rattle.pool.proofs.lists.many.Goals as goal
 

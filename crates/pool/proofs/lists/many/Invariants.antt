@@ -2,10 +2,8 @@
 use lib.ListN.{length, drop}
 use lib.Dec.{eqb}
 use Rattle.rules.specs.Base.{many}
-use Rattle.pool.proofs.ListLaws.{many_go, many-end}
 use Prim.Native.Nat.{◌≤◌, ◌-◌, ◌+◌}
 use mathlib.Core.Path.{◌≡◌}
-use borrow.Author.Rules.{rules}
 use Rattle.pool.proofs.lists.many.Given as goal
 
 abbrev pub invariant-loop-i : goal.invariant-loop-i

@@ -1,9 +1,4 @@
 -- The answers that the check does not find alone.
-use Prim.Native.Nat.{◌≤◌, ◌-◌, ◌+◌}
-use mathlib.Core.Path.{◌≡◌, refl}
-use mathlib.Core.List.{◌++◌}
-use lib.ListN.{length, drop, take}
-use Rattle.laws.specs.Squeeze.{squeeze}
 use Rattle.pool.proofs.ListLaws.{squeeze_go, squeeze_done}
 use borrow.Author.Rules.{rules}
 use Rattle.pool.proofs.lists.squeeze.Goals as goal

@@ -1,11 +1,9 @@
 -- `pool::lists::squeeze` meets its contract. The loop's invariant: the kept entries, and the rest squeezed, are the whole squeezed; w never passes i.
-use Prim.Native.Nat.{◌≤◌, ◌-◌, ◌+◌}
-use mathlib.Core.Path.{◌≡◌, refl}
+use Prim.Native.Nat.{◌≤◌, ◌-◌}
+use mathlib.Core.Path.{◌≡◌}
 use mathlib.Core.List.{◌++◌}
 use lib.ListN.{length, drop, take}
 use Rattle.laws.specs.Squeeze.{squeeze}
-use Rattle.pool.proofs.ListLaws.{squeeze_go, squeeze_done}
-use borrow.Author.Rules.{rules}
 use Rattle.pool.proofs.lists.squeeze.Given as goal
 
 abbrev pub invariant-loop-i : goal.invariant-loop-i

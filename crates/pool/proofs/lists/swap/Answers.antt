@@ -1,9 +1,7 @@
 -- The answers that the check does not find alone.
-use lib.ListN.{length, length-set}
-use Rattle.pool.specs.Lists.{map_to, swap_one}
+use lib.ListN.{length-set}
 use Rattle.pool.proofs.ListLaws.{map_to-start, map_to_go, map_to-end}
-use Prim.Native.Nat.{◌≤◌, ◌-◌}
-use mathlib.Core.Path.{◌≡◌, refl}
+use mathlib.Core.Path.{refl}
 use borrow.Author.Rules.{rules}
 use Rattle.pool.proofs.lists.swap.Goals as goal
 

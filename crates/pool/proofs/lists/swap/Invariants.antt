@@ -1,10 +1,8 @@
 -- `pool::lists::swap` meets its contract. The loop's invariant: the first i entries are swapped, the others as they were.
-use lib.ListN.{length, length-set}
+use lib.ListN.{length}
 use Rattle.pool.specs.Lists.{map_to, swap_one}
-use Rattle.pool.proofs.ListLaws.{map_to-start, map_to_go, map_to-end}
 use Prim.Native.Nat.{◌≤◌, ◌-◌}
-use mathlib.Core.Path.{◌≡◌, refl}
-use borrow.Author.Rules.{rules}
+use mathlib.Core.Path.{◌≡◌}
 use Rattle.pool.proofs.lists.swap.Given as goal
 
 abbrev pub invariant-loop-i : goal.invariant-loop-i

@@ -1,8 +1,5 @@
 -- The answers that the check does not find alone.
-use Prim.Native.Nat.{◌-◌, ◌≤◌}
-use mathlib.Core.Path.{◌≡◌}
-use lib.ListN.{length}
-use Rattle.pool.proofs.OwnLaws.{Owning, owning_none, owning_stands, owning_go, owning_all, owning_kept}
+use Rattle.pool.proofs.OwnLaws.{owning_none, owning_stands, owning_go, owning_all, owning_kept}
 use borrow.Author.Rules.{rules}
 use Rattle.pool.proofs.own.own_all.Goals as goal
 

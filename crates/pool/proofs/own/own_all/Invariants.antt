@@ -3,8 +3,7 @@
 use Prim.Native.Nat.{◌-◌, ◌≤◌}
 use mathlib.Core.Path.{◌≡◌}
 use lib.ListN.{length}
-use Rattle.pool.proofs.OwnLaws.{Owning, owning_none, owning_stands, owning_go, owning_all, owning_kept}
-use borrow.Author.Rules.{rules}
+use Rattle.pool.proofs.OwnLaws.{Owning}
 use Rattle.pool.proofs.own.own_all.Given as goal
 
 abbrev pub invariant-loop-x : goal.invariant-loop-x

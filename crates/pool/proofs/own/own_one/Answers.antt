@@ -1,6 +1,5 @@
 -- `pool::own::own_one` meets its contract. Straight line: a list lies in its half, so the part beside it lies in the other one.
 use Rattle.pool.proofs.OwnLaws.{own_from, own_order, own_in, own_fits, own_marked}
-use borrow.Author.Rules.{rules}
 use Rattle.pool.proofs.own.own_one.Goals as goal
 
 pub own_part-requires : goal.own_part-requires

@@ -1,6 +1,5 @@
 -- `pool::own::own_part` meets its contract. Straight line: the part beside a .. e is filled with x.
 use Rattle.pool.proofs.OwnLaws.{marked_is}
-use borrow.Author.Rules.{rules}
 use Rattle.pool.proofs.own.own_part.Goals as goal
 
 pub returns : goal.returns

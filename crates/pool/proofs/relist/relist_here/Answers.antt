@@ -2,7 +2,6 @@
 -- and mention what the lists name once the ids are renamed too: `laid_here`.
 use mathlib.Core.Path.{refl, sym, ◌∙◌}
 use Rattle.pool.proofs.RelistLaws.{target_here, searched_here, relisted_here, laid_here}
-use borrow.Author.Rules.{rules}
 use Rattle.pool.proofs.relist.relist_here.Goals as goal
 
 pub absorb-e-requires : goal.absorb-e-requires

@@ -2,7 +2,6 @@
 -- `relisted_there`, `laid_there`. All lists together fit the half.
 use mathlib.Core.Path.{refl}
 use Rattle.pool.proofs.RelistLaws.{target_there, sources_there, standing_there, link_room, relisted_there, laid_there}
-use borrow.Author.Rules.{rules}
 use Rattle.pool.proofs.relist.relist_there.Goals as goal
 
 pub absorb-e-requires : goal.absorb-e-requires

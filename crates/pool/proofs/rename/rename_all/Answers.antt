@@ -1,8 +1,5 @@
 -- The answers that the check does not find alone.
-use mathlib.Core.Path.{◌≡◌}
-use lib.ListN.{length}
-use Rattle.pool.proofs.BearerLaws.{steps}
-use Rattle.pool.proofs.SeekLaws.{Searching, search_start, search_reached, search_in, search_room, search_falls, search_next, search_done}
+use Rattle.pool.proofs.SeekLaws.{search_start, search_reached, search_in, search_room, search_falls, search_next, search_done}
 use borrow.Author.Rules.{rules}
 use Rattle.pool.proofs.rename.rename_all.Goals as goal
 

@@ -3,8 +3,7 @@
 use mathlib.Core.Path.{◌≡◌}
 use lib.ListN.{length}
 use Rattle.pool.proofs.BearerLaws.{steps}
-use Rattle.pool.proofs.SeekLaws.{Searching, search_start, search_reached, search_in, search_room, search_falls, search_next, search_done}
-use borrow.Author.Rules.{rules}
+use Rattle.pool.proofs.SeekLaws.{Searching}
 use Rattle.pool.proofs.rename.rename_all.Given as goal
 
 abbrev pub invariant-loop-y : goal.invariant-loop-y

@@ -1,6 +1,5 @@
 -- `pool::rename::rename_list` meets its contract. By cases on whether the list's end has moved.
 use Rattle.pool.proofs.RenameLaws.{rename_order, rename_within, renamed-same, renamed_less}
-use borrow.Author.Rules.{rules}
 use Rattle.pool.proofs.rename.rename_list.Goals as goal
 
 pub replace_neighbour-left-requires : goal.replace_neighbour-left-requires

@@ -2,8 +2,7 @@
 -- ones that did have been met. Links and the records beside the places are in no list, so they stay, and a link leads to an earlier place: q falls.
 use mathlib.Core.Path.{◌≡◌}
 use lib.ListN.{length}
-use Rattle.pool.proofs.SweepLaws.{Walked, walked_none, walked_rows, walked_ids, walked_go, walked_less, walked_all}
-use borrow.Author.Rules.{rules}
+use Rattle.pool.proofs.SweepLaws.{Walked}
 use Rattle.pool.proofs.rename.rename_named.Given as goal
 
 abbrev pub invariant-loop-q : goal.invariant-loop-q

@@ -1,6 +1,5 @@
 -- `pool::rename::rename_one` meets its contract. By cases: a dead record's list stays, i and n are passed by.
 use Rattle.pool.proofs.RenameLaws.{passed_dead, passed_i, passed_n, passed_renamed}
-use borrow.Author.Rules.{rules}
 use Rattle.pool.proofs.rename.rename_one.Goals as goal
 
 pub returns-then-ws-x-eq0 : goal.returns-then-ws-x-eq0

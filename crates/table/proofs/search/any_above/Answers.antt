@@ -1,9 +1,4 @@
 -- The answers that the check does not find alone.
-use Prim.Native.Nat.{◌≤◌, ◌-◌}
-use mathlib.Core.Path.{◌≡◌, refl}
-use lib.ListN.{length, drop}
-use lib.Dec.{ltb}
-use Rattle.rules.specs.Base.{any}
 use Rattle.table.proofs.SearchLaws.{above_here, above_next, above_none}
 use borrow.Author.Rules.{rules}
 use Rattle.table.proofs.search.any_above.Goals as goal

@@ -1,11 +1,9 @@
 -- `table::search::any_above` meets its contract. The loop's invariant: the rest of the list answers for the whole, since no entry so far is above.
 use Prim.Native.Nat.{◌≤◌, ◌-◌}
-use mathlib.Core.Path.{◌≡◌, refl}
+use mathlib.Core.Path.{◌≡◌}
 use lib.ListN.{length, drop}
 use lib.Dec.{ltb}
 use Rattle.rules.specs.Base.{any}
-use Rattle.table.proofs.SearchLaws.{above_here, above_next, above_none}
-use borrow.Author.Rules.{rules}
 use Rattle.table.proofs.search.any_above.Given as goal
 
 abbrev pub invariant-loop-i : goal.invariant-loop-i

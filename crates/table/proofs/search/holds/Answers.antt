@@ -1,9 +1,4 @@
 -- The answers that the check does not find alone.
-use Prim.Native.Nat.{◌≤◌, ◌-◌}
-use mathlib.Core.Path.{◌≡◌}
-use lib.ListN.{length, drop}
-use Rattle.rules.specs.Base.{◌or◌}
-use Rattle.rules.specs.Records.{has}
 use Rattle.laws.proofs.Basics.{any_go, any_done}
 use borrow.Author.Rules.{rules}
 use Rattle.table.proofs.search.holds.Goals as goal

@@ -4,8 +4,6 @@ use mathlib.Core.Path.{◌≡◌}
 use lib.ListN.{length, drop}
 use Rattle.rules.specs.Base.{◌or◌}
 use Rattle.rules.specs.Records.{has}
-use Rattle.laws.proofs.Basics.{any_go, any_done}
-use borrow.Author.Rules.{rules}
 use Rattle.table.proofs.search.holds.Given as goal
 
 abbrev pub invariant-loop-i : goal.invariant-loop-i

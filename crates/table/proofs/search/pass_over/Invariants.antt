@@ -4,8 +4,6 @@ use Prim.Native.Nat.{◌≤◌, ◌-◌, ◌+◌}
 use mathlib.Core.Path.{◌≡◌}
 use lib.ListN.{length, drop}
 use Rattle.rules.specs.Merge.{place}
-use Rattle.table.proofs.SearchLaws.{place_block}
-use borrow.Author.Rules.{rules}
 use Rattle.table.proofs.search.pass_over.Given as goal
 
 abbrev pub invariant-loop-i : goal.invariant-loop-i

@@ -1,8 +1,4 @@
 -- The answers that the check does not find alone.
-use Prim.Native.Nat.{◌≤◌, ◌-◌, ◌+◌}
-use mathlib.Core.Path.{◌≡◌}
-use lib.ListN.{length, drop}
-use Rattle.rules.specs.Merge.{place}
 use Rattle.table.proofs.SearchLaws.{place_here, place_next, place_end}
 use borrow.Author.Rules.{rules}
 use Rattle.table.proofs.search.scan.Goals as goal

@@ -3,8 +3,6 @@ use Prim.Native.Nat.{◌≤◌, ◌-◌, ◌+◌}
 use mathlib.Core.Path.{◌≡◌}
 use lib.ListN.{length, drop}
 use Rattle.rules.specs.Merge.{place}
-use Rattle.table.proofs.SearchLaws.{place_here, place_next, place_end}
-use borrow.Author.Rules.{rules}
 use Rattle.table.proofs.search.scan.Given as goal
 
 abbrev pub invariant-loop-i : goal.invariant-loop-i

@@ -1,5 +1,4 @@
 -- The records lie in the part that is lent, and come back in it (`built_in`).
-use borrow.Author.Rules.{rules}
 use mathlib.Core.Path.{sym}
 use Rattle.merge.proofs.ToldLaws.{part_length}
 use Rattle.watershed.proofs.ExplainLaws.{built_in}

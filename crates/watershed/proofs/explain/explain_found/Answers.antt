@@ -1,6 +1,5 @@
 -- What refusals 1 to 8 leave is what growth asks; where it is not stopped the reason is told, and the workspace is zeros either way (ExplainLaws).
 use native.Mathlib.Omega.{arith}
-use borrow.Author.Rules.{rules}
 use Prim.Native.Nat.{ℕ}
 use mathlib.Core.Path.{sym, ap, ◌∙◌}
 use lib.ListN.{replicate}

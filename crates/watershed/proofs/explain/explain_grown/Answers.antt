@@ -1,6 +1,5 @@
 -- The rule's cases in its order: walkable, flagged, reached (ExplainLaws). Zeros are left for reasons 1 to 3.
 use native.Mathlib.Omega.{arith}
-use borrow.Author.Rules.{rules}
 use Prim.Native.Nat.{ℕ, ◌<◌}
 use mathlib.Core.Path.{◌≡◌}
 use lib.ListN.{length, get_or}

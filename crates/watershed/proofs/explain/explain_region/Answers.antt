@@ -1,7 +1,6 @@
 -- The records are built before `end`, the merges noted past it, and what is told of the span's record is the rule's (GrownLaws); the trail is laid in the
 -- list of ids, which holds one number a span.
 use native.Mathlib.Omega.{arith}
-use borrow.Author.Rules.{rules}
 use Prim.Native.Nat.{ℕ, ◌-◌, ◌<◌}
 use mathlib.Core.Path.{refl, ap, ◌∙◌}
 use lib.ListN.{get_or}

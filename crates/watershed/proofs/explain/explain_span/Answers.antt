@@ -1,5 +1,4 @@
 -- A refusal is given before anything is written; else the outcome is that of a field that is not refused (ExplainLaws).
-use borrow.Author.Rules.{rules}
 use native.Mathlib.Omega.{arith}
 use Prim.Native.Nat.{ℕ, ◌<◌}
 use lib.ListN.{get_or}

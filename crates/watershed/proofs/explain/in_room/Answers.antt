@@ -1,5 +1,4 @@
 -- Flooded where the span took no other's id, else expanded (ExplainLaws).
-use borrow.Author.Rules.{rules}
 use mathlib.Core.Path.{◌∙◌}
 use Rattle.watershed.proofs.ExplainLaws.{tells_flooded, tells_expanded}
 use Rattle.watershed.proofs.explain.in_room.Goals as goal

@@ -1,5 +1,4 @@
 -- The trail is written over zeros (`trail_laid`).
-use borrow.Author.Rules.{rules}
 use Rattle.rules.specs.Reasons.{trail}
 use Rattle.trail.specs.Noted.{mergings_from}
 use Rattle.watershed.proofs.ExplainLaws.{trail_laid}

@@ -1,5 +1,4 @@
 -- Each number is the rule's.
-use borrow.Author.Rules.{rules}
 use mathlib.Core.Path.{refl}
 use Rattle.watershed.specs.Explain.{with_room}
 use Rattle.watershed.proofs.explain.with_room.Goals as goal

@@ -1,7 +1,6 @@
 -- By cases of the form: the compared one is as it came, the dense one lowered.
 -- Both ways out are the definition's.
 use Rattle.watershed.proofs.FormLaws.{form_compared, form_dense}
-use borrow.Author.Rules.{rules}
 use Rattle.watershed.proofs.form.give_form.Goals as goal
 
 pub returns-in-Compared : goal.returns-in-Compared

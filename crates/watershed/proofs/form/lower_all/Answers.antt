@@ -1,10 +1,6 @@
 -- The answers that the check does not find alone.
 use lib.ListN.{length-set}
-use mathlib.Core.Path.{◌≡◌, refl}
-use Prim.Native.Nat.{◌≤◌, ◌-◌}
-use lib.ListN.{length}
-use Rattle.rooms.specs.Dense.{lower}
-use Rattle.pool.specs.Lists.{map_to}
+use mathlib.Core.Path.{refl}
 use Rattle.pool.proofs.ListLaws.{map_to-start, map_to_go, map_to-end}
 use borrow.Author.Rules.{rules}
 use Rattle.watershed.proofs.form.lower_all.Goals as goal

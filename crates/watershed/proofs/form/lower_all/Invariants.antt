@@ -1,13 +1,10 @@
 -- The loop's invariant: the first s ids are lowered, the others as they were.
 -- Each turn lowers one.
-use lib.ListN.{length-set}
-use mathlib.Core.Path.{◌≡◌, refl}
+use mathlib.Core.Path.{◌≡◌}
 use Prim.Native.Nat.{◌≤◌, ◌-◌}
 use lib.ListN.{length}
 use Rattle.rooms.specs.Dense.{lower}
 use Rattle.pool.specs.Lists.{map_to}
-use Rattle.pool.proofs.ListLaws.{map_to-start, map_to_go, map_to-end}
-use borrow.Author.Rules.{rules}
 use Rattle.watershed.proofs.form.lower_all.Given as goal
 
 abbrev pub invariant-loop-s : goal.invariant-loop-s

@@ -2,7 +2,6 @@
 use Prim.Native.Nat.{ℕ, ◌<◌}
 use native.Mathlib.Omega.{arith}
 use mathlib.Core.Path.{refl, ◌∙◌, ap}
-use borrow.Author.Rules.{rules}
 use lib.ListN.{get_or, replicate}
 use Rattle.watershed.proofs.StageLaws.{areas_are_bytes, few, can_ready, given, fits, blank, ready, whole, finds_stop, finds-regions}
 use Rattle.watershed.proofs.regions.find_regions.Goals as goal

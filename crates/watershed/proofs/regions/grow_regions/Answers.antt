@@ -1,7 +1,6 @@
 -- The ids stand past the table, which growth leaves alone, so they can be put back where it is stopped (StageLaws).
 use native.Mathlib.Omega.{arith}
 use mathlib.Core.Path.{refl, ◌∙◌}
-use borrow.Author.Rules.{rules}
 use Rattle.watershed.proofs.StageLaws.{few, kept_room, poised, raised, put_back}
 use Rattle.watershed.proofs.regions.grow_regions.Goals as goal
 

@@ -1,6 +1,5 @@
 -- The part that is lent is the section (StageLaws).
 use mathlib.Core.Path.{refl}
-use borrow.Author.Rules.{rules}
 use lib.ListN.{length}
 use Rattle.watershed.proofs.StageLaws.{part_is}
 use Rattle.watershed.proofs.regions.put_back.Goals as goal

@@ -1,6 +1,5 @@
 -- Zeros where growth worked, and zeros from there to the floors (StageLaws).
 use native.Mathlib.Omega.{arith}
-use borrow.Author.Rules.{rules}
 use Rattle.watershed.proofs.StageLaws.{readied_more, readied_none}
 use Rattle.watershed.proofs.regions.ready_records.Goals as goal
 

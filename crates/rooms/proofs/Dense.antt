@@ -9,7 +9,7 @@ use mathlib.Core.List.{List, [], ◌∷◌, map}
 use lib.ListN.{length, get_or, length-map, get_or-map}
 use lib.Dec.{eqb}
 use borrow.Author.Tests.{eq-eqb, leb-true, leb-false}
-use Rattle.rules.specs.Base.{◌and◌, if◌then◌else◌, any}
+use Rattle.rules.specs.Base.{if◌then◌else◌, any}
 use Rattle.rules.specs.Field.{Field}
 use Rattle.rules.specs.Growth.{flagged, plain, first_id}
 use Rattle.rules.specs.Records.{has}

@@ -7,8 +7,7 @@ use mathlib.Core.Bool.{false}
 use mathlib.Core.List.{List, [], ◌∷◌, ◌++◌}
 use lib.ListN.{length, set, length-set}
 use borrow.Author.Tests.{eqb-false, leb-false}
-use Rattle.rules.specs.Base.{◌and◌}
-use Rattle.rules.specs.Net.{Net, spans, near, area_of}
+use Rattle.rules.specs.Net.{Net, near, area_of}
 use Rattle.rules.specs.Growth.{flagged}
 use Rattle.rules.specs.Records.{Rec, at}
 use Rattle.rules.specs.Filter.{seen, removed, Gather, reach, gather, remove_all, filter_one, filtered}

@@ -14,7 +14,6 @@ use Rattle.rules.specs.Records.{Rec, at, has, once}
 use Rattle.rules.specs.Merge.{place}
 use Rattle.rules.specs.Numbering.{live}
 use Rattle.laws.proofs.Basics.{either, if-ind, upto-ind, All, All_map, Distinct, nonzero_in, append_all, or_right, all_at}
-use Rattle.rooms.proofs.Listing.{under}
 use Rattle.rooms.proofs.Merging.{any_none}
 
 -- ---------------------------------------------------------------- lists

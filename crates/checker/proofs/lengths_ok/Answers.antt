@@ -1,7 +1,7 @@
 -- `lengths_ok` is the rule's conjunction, test by test; w and h of at most 256 have a product that fits.
 use Rattle.checker.proofs.Checks.{not-not}
 use borrow.Author.Tests.{eq-eqb, ne_eqb}
-use Rattle.rules.specs.Base.{every}
+use Rattle.rules.specs.Base.{◌and◌, every}
 use Rattle.rules.specs.Refusals.{wrong_length}
 use Rattle.field.proofs.Loops.{product_small}
 use native.Mathlib.Omega.{arith}

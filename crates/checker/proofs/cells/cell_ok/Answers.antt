@@ -1,5 +1,6 @@
 -- `cell_ok` is the rule's test of one cell, branch by branch.
 use borrow.Author.Tests.{lt-leb, le-leb, eq-eqb, ne_eqb}
+use Rattle.rules.specs.Base.{◌and◌, ◌or◌}
 use borrow.Author.Rules.{rules}
 use Rattle.checker.proofs.cells.cell_ok.Goals as goal
 

@@ -1,4 +1,5 @@
 -- `is_inner` is the conjunction of the two tests, one by one.
+use Rattle.rules.specs.Base.{◌and◌}
 use Rattle.checker.specs.Links.{inner_at}
 use Rattle.checker.proofs.Answered.{zero_ltb, some_ltb}
 use borrow.Author.Rules.{rules}

@@ -1,4 +1,5 @@
 -- `both` is the rules' `and`, whose first decides.
+use Rattle.rules.specs.Base.{◌and◌}
 use borrow.Author.Rules.{rules}
 use Rattle.field.proofs.block.both.Goals as goal
 

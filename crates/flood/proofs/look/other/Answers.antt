@@ -1,5 +1,6 @@
 -- `other` is the rule's test, in two tests.
 use borrow.Author.Tests.{eq-eqb, ne_eqb}
+use Rattle.rules.specs.Base.{◌and◌}
 use Rattle.flood.proofs.look.other.Goals as goal
 
 pub returns-then-region : goal.returns-then-region

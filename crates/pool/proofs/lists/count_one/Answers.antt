@@ -1,4 +1,5 @@
 -- `pool::lists::count_one` meets its contract. Straight line.
+use Rattle.rules.specs.Base.{if◌then◌else◌}
 use borrow.Author.Tests.{eq-eqb, ne_eqb}
 use borrow.Author.Rules.{rules}
 use Rattle.pool.proofs.lists.count_one.Goals as goal

@@ -1,5 +1,6 @@
 -- `pool::lists::swap_one` meets its contract. Straight line.
 use Rattle.pool.specs.Lists.{swap_one}
+use Rattle.rules.specs.Base.{if◌then◌else◌}
 use borrow.Author.Tests.{eq-eqb, ne_eqb}
 use Rattle.pool.proofs.lists.swap_one.Goals as goal
 

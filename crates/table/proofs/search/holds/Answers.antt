@@ -1,4 +1,5 @@
 -- The answers that the check does not find alone.
+use Rattle.rules.specs.Base.{◌or◌}
 use Rattle.laws.proofs.Basics.{any_go, any_done}
 use borrow.Author.Rules.{rules}
 use Rattle.table.proofs.search.holds.Goals as goal

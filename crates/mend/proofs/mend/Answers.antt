@@ -5,7 +5,7 @@ use borrow.Author.Rules.{rules}
 use Rattle.mend.proofs.mend.Goals as goal
 
 pub mend_all-requires : goal.mend_all-requires
-mend_all-requires c = ends_mends _ _ _ _ _ _ _ refl c.check.result c.check.ensures _ c.r-1.given.1 _ c.past_cells.ensures c.if-past_cells.true
+mend_all-requires c = ends_mends _ _ _ _ _ _ _ refl _ c.in-Refused.ensures _ refl _ c.past_cells.ensures c.if-past_cells.true
 
 pub returns-in-Sound : goal.returns-in-Sound
 returns-in-Sound c = search (rules, ends_sound)

@@ -1,8 +1,4 @@
 -- The answers that the check does not find alone.
-use Prim.Native.Nat.{◌≤◌, ◌-◌, ◌*◌}
-use mathlib.Core.Path.{◌≡◌}
-use lib.ListN.{length}
-use Rattle.mend.specs.Walk.{state, ground, walk}
 use Rattle.mend.proofs.WalkLaws.{ready_span, walk_none, walk_layer, walk_layers}
 use borrow.Author.Rules.{rules}
 use Rattle.mend.proofs.mend_cell.Goals as goal

@@ -3,8 +3,6 @@ use Prim.Native.Nat.{◌≤◌, ◌-◌, ◌*◌}
 use mathlib.Core.Path.{◌≡◌}
 use lib.ListN.{length}
 use Rattle.mend.specs.Walk.{state, ground, walk}
-use Rattle.mend.proofs.WalkLaws.{ready_span, walk_none, walk_layer, walk_layers}
-use borrow.Author.Rules.{rules}
 use Rattle.mend.proofs.mend_cell.Given as goal
 
 abbrev pub invariant-loop-j : goal.invariant-loop-j

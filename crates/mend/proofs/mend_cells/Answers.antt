@@ -1,9 +1,4 @@
 -- The answers that the check does not find alone.
-use Prim.Native.Nat.{◌≤◌, ◌-◌, ◌*◌}
-use mathlib.Core.Path.{◌≡◌}
-use lib.ListN.{length}
-use Rattle.field.proofs.Places.{first_of}
-use Rattle.mend.specs.Walk.{state, ground, walk}
 use Rattle.mend.proofs.WalkLaws.{ready_cell, walk_start, walk-cell, walk_all}
 use borrow.Author.Rules.{rules}
 use Rattle.mend.proofs.mend_cells.Goals as goal

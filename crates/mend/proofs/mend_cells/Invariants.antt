@@ -4,8 +4,6 @@ use mathlib.Core.Path.{◌≡◌}
 use lib.ListN.{length}
 use Rattle.field.proofs.Places.{first_of}
 use Rattle.mend.specs.Walk.{state, ground, walk}
-use Rattle.mend.proofs.WalkLaws.{ready_cell, walk_start, walk-cell, walk_all}
-use borrow.Author.Rules.{rules}
 use Rattle.mend.proofs.mend_cells.Given as goal
 
 abbrev pub invariant-loop-c : goal.invariant-loop-c

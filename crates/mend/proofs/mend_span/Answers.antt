@@ -1,9 +1,5 @@
 -- The answers that the check does not find alone.
-use lib.ListN.{length}
 use Rattle.mend.proofs.WalkLaws.{ready_link, walk_none, walk-one, walk_end}
-use Prim.Native.Nat.{◌≤◌, ◌-◌, ◌*◌}
-use mathlib.Core.Path.{◌≡◌}
-use Rattle.mend.specs.Walk.{state, ground, walk}
 use borrow.Author.Rules.{rules}
 use Rattle.mend.proofs.mend_span.Goals as goal
 

@@ -1,10 +1,8 @@
 -- Invariant: the walk over the directions below d. What a walk needs is there for the rest of it, since it keeps lengths and finds one change a step at most.
 use lib.ListN.{length}
-use Rattle.mend.proofs.WalkLaws.{ready_link, walk_none, walk-one, walk_end}
 use Prim.Native.Nat.{◌≤◌, ◌-◌, ◌*◌}
 use mathlib.Core.Path.{◌≡◌}
 use Rattle.mend.specs.Walk.{state, ground, walk}
-use borrow.Author.Rules.{rules}
 use Rattle.mend.proofs.mend_span.Given as goal
 
 abbrev pub invariant-loop-d : goal.invariant-loop-d

@@ -1,13 +1,13 @@
 -- Whole numbers as 64-bit floats, multiplied, and divided by a power of two: nothing is rounded, since every product stays below 2 to the 53.
 -- What is worked out step by step is the one value a / c that the rule names. Assumes nothing.
-use Prim.Native.Nat.{ℕ, suc, ◌*◌, ◌^◌, ◌≤◌, ◌<◌}
+use Prim.Native.Nat.{ℕ, ◌*◌, ◌^◌, ◌≤◌, ◌<◌}
 use native.Mathlib.Omega.{arith}
-use native.Mathlib.Nat.{mul-one, one-mul, mul_assoc, mul_comm, mul-pos, mul_right_comm, mul-mul-mul_comm, mul-le-mul}
+use native.Mathlib.Nat.{mul-one, one-mul, mul_assoc, mul-pos, mul_right_comm, mul-mul-mul_comm, mul-le-mul}
 use mathlib.Core.Path.{◌≡◌, refl, sym, ap, ◌∙◌, subst}
 use mathlib.Core.Bool.{true, false, true≢false}
-use lib.IntN.{pos, negsuc}
+use lib.IntN.{pos}
 use lib.Pow.{pow_pos}
-use lib.Ieee.{Float, nan, inf, fin, binary64, low, up, down, round, mul, div, of_int, of_bits}
+use lib.Ieee.{Float, nan, inf, fin, binary64, up, down, round, mul, div, of_int, of_bits}
 use lib.Ieee.Exact.{HasValue}
 use lib.Ieee.Scale.{round_same}
 use lib.Ieee.Fits.{down_pos}

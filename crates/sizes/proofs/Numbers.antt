@@ -12,7 +12,6 @@ use Rattle.rules.specs.Sizes.{RoomSize, MeasureOutcome, measure_outcome, zero64}
 use Rattle.checker.specs.Answer.{number_of}
 use Rattle.checker.specs.declared.Refusal.{Refusal}
 use Rattle.checker.specs.declared.Refusal.TheVariants.{TooWide, TooMany, WrongLength, WrongCells, WrongReach, WrongBack, TooShort, TooFar, NoIds, NoSum}
-use Rattle.checker.specs.declared.Verdict.{Verdict}
 use Rattle.checker.proofs.Numbers.{number_pos, number_same}
 use Rattle.sizes.specs.declared.metres.Room.{Room}
 use Rattle.sizes.specs.declared.RoomAnswer.{RoomAnswer}

@@ -1,17 +1,17 @@
 -- The entry's ways out are the cases of its outcome: 9 is asked for where 1 to 6 have passed, 10 where 9 has too. Assumes nothing.
-use Prim.Native.Nat.{ℕ, ◌*◌, ◌≤◌}
+use Prim.Native.Nat.{ℕ, ◌*◌}
 use native.Mathlib.Omega.{arith}
 use mathlib.Core.Path.{◌≡◌, refl, sym, ap, ◌∙◌}
-use mathlib.Core.Bool.{Bool, true, false, not}
+use mathlib.Core.Bool.{Bool, true, false}
 use mathlib.Core.List.{List, [], ◌∷◌}
 use lib.ListN.{length}
 use lib.Dec.{eqb}
 use lib.Ieee.{Float}
 use borrow.Author.Tests.{eqb-true, eq-eqb, ne_eqb, not-false}
-use Rattle.rules.specs.Base.{◌and◌, if◌then◌else◌, every, any}
+use Rattle.rules.specs.Base.{◌and◌, if◌then◌else◌, every}
 use Rattle.rules.specs.Field.{Field, spans}
 use Rattle.rules.specs.Refusals.{wrong_length, refusal}
-use Rattle.rules.specs.Sizes.{Extent, RoomSize, shown, extent, extent_of, nothing, metres, sized, wrong_scale, wrong_ids, too_great, measure_refusal, MeasureOutcome, measure_outcome, zeros}
+use Rattle.rules.specs.Sizes.{Extent, RoomSize, shown, extent, extent_of, nothing, metres, sized, wrong_scale, wrong_ids, measure_refusal, measure_outcome}
 use Rattle.laws.proofs.Basics.{neither}
 use Rattle.checker.specs.Answer.{number_of, verdict_number}
 use Rattle.checker.specs.declared.Refusal.{Refusal}
@@ -21,7 +21,6 @@ use Rattle.checker.proofs.Numbers.{number_pos}
 use Rattle.field.specs.Lent.{Celled}
 use Rattle.field.proofs.Passed.{reached_of}
 use Rattle.sizes.specs.declared.metres.Room.{Room}
-use Rattle.sizes.specs.declared.RoomAnswer.{RoomAnswer}
 use Rattle.sizes.specs.declared.RoomAnswer.TheVariants.{Refused, WrongScale, WrongIds, Measured}
 use Rattle.sizes.specs.Answer.{room_of, outcome}
 

@@ -5,16 +5,15 @@ use native.Mathlib.Omega.{arith}
 use native.Mathlib.Nat.{mod-le, div-le_self}
 use native.Mathlib.Numerals.{add-one}
 use mathlib.Core.Path.{◌≡◌, refl, sym, ap, ◌∙◌}
-use mathlib.Core.List.{List, []}
+use mathlib.Core.List.{List}
 use lib.ListN.{length, get_or}
 use lib.Dec.{eqb}
-use borrow.Author.Tests.{eq-eqb, ne_eqb, not-false}
+use borrow.Author.Tests.{eq-eqb, ne_eqb}
 use Rattle.rules.specs.Base.{if◌then◌else◌, upto}
-use Rattle.rules.specs.Field.{Field, spans, cell_of, area_of}
-use Rattle.rules.specs.Refusals.{most_spans}
+use Rattle.rules.specs.Field.{Field, spans, area_of}
 use Rattle.rules.specs.Sizes.{Extent, nothing, added, noted, extent}
 use Rattle.laws.proofs.Basics.{if-ind, upto-ind, upto_join, upto_ext, upto_next, get_d_any}
-use Rattle.laws.proofs.Cells.{before, before_next, before_none, before_lt, cell_of_at, cells_sum}
+use Rattle.laws.proofs.Cells.{before, before_next, before_none, cell_of_at, cells_sum}
 use Rattle.extents.proofs.Meaning.{added_count}
 use Rattle.field.specs.Lent.{lent, Celled}
 use Rattle.sizes.specs.Walk.{note_at}

@@ -1,12 +1,7 @@
 -- The answers that the check does not find alone.
-use Prim.Native.Nat.{◌≤◌, ◌-◌}
-use mathlib.Core.Path.{◌≡◌}
-use lib.ListN.{length, drop}
-use Rattle.rules.specs.Base.{◌or◌, any}
-use Rattle.rules.specs.Sizes.{too_great}
+use Rattle.rules.specs.Base.{◌or◌}
 use Rattle.laws.proofs.Basics.{any_go, any_done}
 use borrow.Author.Rules.{rules}
-use native.Mathlib.Omega.{arith}
 use Rattle.sizes.proofs.any_too_great.Goals as goal
 
 pub loop-i-init : goal.loop-i-init

@@ -4,9 +4,6 @@ use mathlib.Core.Path.{◌≡◌}
 use lib.ListN.{length, drop}
 use Rattle.rules.specs.Base.{◌or◌, any}
 use Rattle.rules.specs.Sizes.{too_great}
-use Rattle.laws.proofs.Basics.{any_go, any_done}
-use borrow.Author.Rules.{rules}
-use native.Mathlib.Omega.{arith}
 use Rattle.sizes.proofs.any_too_great.Given as goal
 
 abbrev pub invariant-loop-i : goal.invariant-loop-i

@@ -3,7 +3,6 @@ use mathlib.Core.Path.{ap}
 use Rattle.rules.specs.Sizes.{Extent}
 use Rattle.sizes.proofs.Outcome.{extent-shown, extent-none}
 use native.Mathlib.Omega.{arith}
-use borrow.Author.Rules.{rules}
 use Rattle.sizes.proofs.extent_of.Goals as goal
 
 pub returns-then-is_shown : goal.returns-then-is_shown

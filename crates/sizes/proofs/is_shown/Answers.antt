@@ -1,7 +1,6 @@
 -- Each return is one case of the rule (Tests).
 use Rattle.sizes.proofs.Tests.{shown-none, shown_past, shown-flagged, shown_is}
 use borrow.Author.Rules.{rules}
-use native.Mathlib.Omega.{arith}
 use Rattle.sizes.proofs.is_shown.Goals as goal
 
 pub returns-then-id-eq0 : goal.returns-then-id-eq0

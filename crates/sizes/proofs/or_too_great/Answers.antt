@@ -1,6 +1,5 @@
 -- The code's `|` is the rules' `or`.
 use Rattle.sizes.proofs.Tests.{or_great}
-use native.Mathlib.Omega.{arith}
 use borrow.Author.Rules.{rules}
 use Rattle.sizes.proofs.or_too_great.Goals as goal
 

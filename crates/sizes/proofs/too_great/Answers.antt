@@ -1,7 +1,6 @@
 -- Each return is one case of the rule (Tests).
 use Rattle.sizes.proofs.Tests.{great_flagged, great_plain}
 use borrow.Author.Rules.{rules}
-use native.Mathlib.Omega.{arith}
 use Rattle.sizes.proofs.too_great.Goals as goal
 
 pub returns-then-r : goal.returns-then-r

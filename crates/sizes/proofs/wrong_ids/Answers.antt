@@ -1,6 +1,5 @@
 -- Each return is one case of the rule (Tests).
 use Rattle.sizes.proofs.Tests.{ids_long, ids_held}
-use native.Mathlib.Omega.{arith}
 use borrow.Author.Rules.{rules}
 use Rattle.sizes.proofs.wrong_ids.Goals as goal
 

@@ -1,7 +1,6 @@
 -- Each return is one case of the rule (Tests).
 use Rattle.sizes.proofs.Tests.{scale_none, scale_some}
 use borrow.Author.Rules.{rules}
-use native.Mathlib.Omega.{arith}
 use Rattle.sizes.proofs.wrong_scale.Goals as goal
 
 pub returns-then-k-eq0 : goal.returns-then-k-eq0

@@ -1,6 +1,5 @@
 -- With five and three places the values are the outcome's; otherwise nothing is written (Numbers).
 use Rattle.sizes.proofs.Numbers.{into_five, into_three, into_done}
-use native.Mathlib.Omega.{arith}
 use borrow.Author.Rules.{rules}
 use Rattle.sizes.proofs.into.measure_into.Goals as goal
 

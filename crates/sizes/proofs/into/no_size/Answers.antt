@@ -1,7 +1,5 @@
 -- The literal's bits are zero's.
 use Rattle.sizes.proofs.Numbers.{zero_is}
-use borrow.Author.Rules.{rules}
-use native.Mathlib.Omega.{arith}
 use Rattle.sizes.proofs.into.no_size.Goals as goal
 
 pub returns : goal.returns

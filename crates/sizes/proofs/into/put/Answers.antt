@@ -1,6 +1,5 @@
 -- Each arm writes the values of its answer (Numbers).
 use Rattle.sizes.proofs.Numbers.{number_refused, sizes_refused, list_refused, number_scale, sizes_scale, list_scale, number_ids, sizes_ids, list_ids, number_room, sizes_room, list_room}
-use native.Mathlib.Omega.{arith}
 use borrow.Author.Rules.{rules}
 use Rattle.sizes.proofs.into.put.Goals as goal
 

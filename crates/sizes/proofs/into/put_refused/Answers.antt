@@ -1,6 +1,5 @@
 -- Zeros for the sizes, the refusal and zeros for the numbers.
 use Rattle.sizes.proofs.Numbers.{all_zero}
-use native.Mathlib.Omega.{arith}
 use borrow.Author.Rules.{rules}
 use Rattle.sizes.proofs.into.put_refused.Goals as goal
 

@@ -1,6 +1,5 @@
 -- Three stores are the three values.
 use Rattle.sizes.proofs.Numbers.{three}
-use borrow.Author.Rules.{rules}
 use Rattle.sizes.proofs.into.write_numbers.Goals as goal
 
 pub returns : goal.returns

@@ -1,7 +1,5 @@
 -- Five stores are the five values.
 use Rattle.sizes.proofs.Numbers.{five, last-place}
-use native.Mathlib.Omega.{arith}
-use borrow.Author.Rules.{rules}
 use Rattle.sizes.proofs.into.write_sizes.Goals as goal
 
 pub bounds-to-4 : goal.bounds-to-4

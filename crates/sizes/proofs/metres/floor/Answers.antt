@@ -1,5 +1,4 @@
 -- The casts, products and quotient of the code are the rule's value (Exact).
-use borrow.Author.Rules.{rules}
 use native.Mathlib.Omega.{arith}
 use Rattle.sizes.proofs.Exact.{floor_is_lem}
 use Rattle.sizes.proofs.metres.floor.Goals as goal

@@ -1,7 +1,5 @@
 -- Each value is the rule's (`sized_is`).
 use Rattle.sizes.proofs.Outcome.{sized_is}
-use native.Mathlib.Omega.{arith}
-use borrow.Author.Rules.{rules}
 use Rattle.sizes.proofs.metres.measured.Goals as goal
 
 pub returns : goal.returns

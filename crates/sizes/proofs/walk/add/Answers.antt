@@ -1,6 +1,5 @@
 -- The first span, or one more (WalkLaws).
 use Rattle.sizes.proofs.WalkLaws.{add_first, add_more}
-use native.Mathlib.Omega.{arith}
 use borrow.Author.Rules.{rules}
 use Rattle.sizes.proofs.walk.add.Goals as goal
 

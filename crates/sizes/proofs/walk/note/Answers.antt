@@ -1,6 +1,5 @@
 -- The span has the id, or not (WalkLaws).
 use Rattle.sizes.proofs.WalkLaws.{note_has, note_not}
-use native.Mathlib.Omega.{arith}
 use borrow.Author.Rules.{rules}
 use Rattle.sizes.proofs.walk.note.Goals as goal
 

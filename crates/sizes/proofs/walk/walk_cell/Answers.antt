@@ -1,8 +1,5 @@
 -- The answers that the check does not find alone.
-use Prim.Native.Nat.{◌-◌}
-use Rattle.sizes.specs.Walk.{extent_at}
-use Rattle.sizes.proofs.WalkLaws.{Seen, seen_none, seen_next, seen_all}
-use borrow.Author.Rules.{rules}
+use Rattle.sizes.proofs.WalkLaws.{seen_none, seen_next, seen_all}
 use native.Mathlib.Omega.{arith}
 use Rattle.sizes.proofs.walk.walk_cell.Goals as goal
 

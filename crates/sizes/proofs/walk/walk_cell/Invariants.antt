@@ -1,9 +1,7 @@
 -- The loop's invariant: j spans of the cell are noted (`Seen`). The measure is the spans left.
 use Prim.Native.Nat.{◌-◌}
 use Rattle.sizes.specs.Walk.{extent_at}
-use Rattle.sizes.proofs.WalkLaws.{Seen, seen_none, seen_next, seen_all}
-use borrow.Author.Rules.{rules}
-use native.Mathlib.Omega.{arith}
+use Rattle.sizes.proofs.WalkLaws.{Seen}
 use Rattle.sizes.proofs.walk.walk_cell.Given as goal
 
 abbrev pub invariant-loop-j : goal.invariant-loop-j

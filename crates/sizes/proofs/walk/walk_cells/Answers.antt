@@ -1,11 +1,7 @@
 -- The answers that the check does not find alone.
-use Prim.Native.Nat.{◌-◌}
-use Rattle.sizes.specs.Walk.{extent_at}
 use mathlib.Core.Path.{refl}
-use Rattle.field.specs.Lent.{lent}
 use Rattle.laws.proofs.Passes.{wide_pos}
-use Rattle.sizes.proofs.WalkLaws.{rest_le, part_le, Walked, walked_none, walked_next, walked_fits, walked_all}
-use borrow.Author.Rules.{rules}
+use Rattle.sizes.proofs.WalkLaws.{rest_le, part_le, walked_none, walked_next, walked_fits, walked_all}
 use native.Mathlib.Omega.{arith}
 use Rattle.sizes.proofs.walk.walk_cells.Goals as goal
 

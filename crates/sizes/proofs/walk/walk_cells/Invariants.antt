@@ -1,12 +1,8 @@
 -- The loop's invariant: the spans of c cells are noted (`Walked`). The measure is the cells left.
 use Prim.Native.Nat.{◌-◌}
 use Rattle.sizes.specs.Walk.{extent_at}
-use mathlib.Core.Path.{refl}
 use Rattle.field.specs.Lent.{lent}
-use Rattle.laws.proofs.Passes.{wide_pos}
-use Rattle.sizes.proofs.WalkLaws.{rest_le, part_le, Walked, walked_none, walked_next, walked_fits, walked_all}
-use borrow.Author.Rules.{rules}
-use native.Mathlib.Omega.{arith}
+use Rattle.sizes.proofs.WalkLaws.{Walked}
 use Rattle.sizes.proofs.walk.walk_cells.Given as goal
 
 abbrev pub invariant-loop-c : goal.invariant-loop-c

@@ -1,9 +1,6 @@
 -- The answers that the check does not find alone.
-use mathlib.Core.Path.{refl, ◌≡◌}
+use mathlib.Core.Path.{refl}
 use Rattle.file.proofs.Writing.{byte_first, byte_next, byte_last}
-use Rattle.file.specs.Written.{written}
-use Prim.Native.Nat.{◌≤◌, ◌-◌, ◌+◌}
-use lib.ListN.{length, drop}
 use borrow.Author.Rules.{rules}
 use Rattle.file.proofs.put.put_all.Goals as goal
 

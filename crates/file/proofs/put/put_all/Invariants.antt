@@ -1,11 +1,9 @@
 -- `put::put_all` meets its contract. The loop's invariant: what is left of the text, written from here on, gives what the whole text gives.
 -- Each turn moves one byte from what is left into the list.
-use mathlib.Core.Path.{refl, ◌≡◌}
-use Rattle.file.proofs.Writing.{byte_first, byte_next, byte_last}
+use mathlib.Core.Path.{◌≡◌}
 use Rattle.file.specs.Written.{written}
 use Prim.Native.Nat.{◌≤◌, ◌-◌, ◌+◌}
 use lib.ListN.{length, drop}
-use borrow.Author.Rules.{rules}
 use Rattle.file.proofs.put.put_all.Given as goal
 
 abbrev pub invariant-loop-i : goal.invariant-loop-i

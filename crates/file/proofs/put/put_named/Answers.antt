@@ -1,7 +1,6 @@
 -- `put::put_named` meets its contract: a text written after another is both written.
 use Rattle.file.specs.Shown.{named}
 use Rattle.file.proofs.Writing.{room_first, room_then, wrote_then}
-use borrow.Author.Rules.{rules}
 use Rattle.file.proofs.put.put_named.Goals as goal
 
 pub put_all-next-requires : goal.put_all-next-requires

@@ -1,6 +1,5 @@
 -- `read::load_whole` meets its contract: begin, one piece, the end.
 use Rattle.file.proofs.Told.{whole_loaded}
-use borrow.Author.Rules.{rules}
 use Rattle.file.proofs.read.load_whole.Goals as goal
 
 pub returns : goal.returns

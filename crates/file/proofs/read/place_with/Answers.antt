@@ -2,8 +2,7 @@
 -- Elements of the file are bytes: that is what the slice's rule gives.
 use Rattle.file.proofs.Told.{whole_place}
 use native.Mathlib.Omega.{arith}
-use borrow.Author.Rules.{rules}
 use Rattle.file.proofs.read.place_with.Goals as goal
 
 pub returns : goal.returns
-returns c = whole_place _ _ _ _ _ _ _ _ _ _ c.load_whole-l.ensures c.requires (λ i. omega (arith, c.shared_slice_known-1.given i)) _ c.place_in.ensures
+returns c = whole_place _ _ _ _ _ _ _ _ _ _ c.load_whole-l.ensures c.requires (λ i. omega (arith, c.type_inv.bytes i)) _ c.place_in.ensures

@@ -1,6 +1,5 @@
 -- `read::reading` meets its contract: its three ways out are the answer's three cases.
 use Rattle.file.proofs.Told.{header_short, reading_loaded, reading_large, reading_bad}
-use borrow.Author.Rules.{rules}
 use Rattle.file.proofs.read.reading.Goals as goal
 
 pub header_of-requires : goal.header_of-requires

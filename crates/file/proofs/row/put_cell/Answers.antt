@@ -1,6 +1,5 @@
 -- `row::put_cell` meets its contract: the two cases of the rule.
 use Rattle.file.proofs.Joins.{empty_room, empty_wrote, full_room, full_inside, full_wrote}
-use borrow.Author.Rules.{rules}
 use Rattle.file.proofs.row.put_cell.Goals as goal
 
 pub put-requires : goal.put-requires

@@ -1,6 +1,5 @@
 -- `row::put_layer` meets its contract: the first layer stands bare, and a later one after a byte.
 use Rattle.file.proofs.Joins.{bare_room, bare-wrote, byte_room, after_room, after-wrote}
-use borrow.Author.Rules.{rules}
 use Rattle.file.proofs.row.put_layer.Goals as goal
 
 pub put_decimal-requires : goal.put_decimal-requires

@@ -1,7 +1,5 @@
 -- The answers that the check does not find alone.
-use Rattle.file.specs.Shown.{layers_text, leds, layer_text}
-use Rattle.file.proofs.Joins.{Underway, layers_first, layers_room, layers_next, layers_done}
-use Prim.Native.Nat.{◌≤◌, ◌-◌}
+use Rattle.file.proofs.Joins.{layers_first, layers_room, layers_next, layers_done}
 use borrow.Author.Rules.{rules}
 use Rattle.file.proofs.row.put_layers.Goals as goal
 

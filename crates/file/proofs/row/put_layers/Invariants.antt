@@ -1,9 +1,8 @@
 -- `row::put_layers` meets its contract. The loop's invariant is `Underway`: the layers that are left, written from here on, give what the whole cell gives.
 -- Each turn writes the first of those that are left.
 use Rattle.file.specs.Shown.{layers_text, leds, layer_text}
-use Rattle.file.proofs.Joins.{Underway, layers_first, layers_room, layers_next, layers_done}
+use Rattle.file.proofs.Joins.{Underway}
 use Prim.Native.Nat.{◌≤◌, ◌-◌}
-use borrow.Author.Rules.{rules}
 use Rattle.file.proofs.row.put_layers.Given as goal
 
 abbrev pub invariant-loop-j : goal.invariant-loop-j

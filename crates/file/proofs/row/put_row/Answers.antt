@@ -1,9 +1,5 @@
 -- The answers that the check does not find alone.
-use Rattle.file.proofs.Joins.{Underway, row_first, row_fits, cell_fits, cell_index, cell_count, cell_room, cell_ids, cell_next, row_room, row_done}
-use Rattle.file.specs.Shown.{leds, cell_at, shown}
-use Rattle.rules.specs.Listing.{row_text}
-use Prim.Native.Nat.{◌≤◌, ◌-◌, ◌*◌}
-use mathlib.Core.List.{[], ◌∷◌, ◌++◌}
+use Rattle.file.proofs.Joins.{row_first, row_fits, cell_fits, cell_index, cell_count, cell_room, cell_ids, cell_next, row_room, row_done}
 use borrow.Author.Rules.{rules}
 use Rattle.file.proofs.row.put_row.Goals as goal
 

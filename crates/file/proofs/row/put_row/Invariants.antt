@@ -1,11 +1,10 @@
 -- `row::put_row` meets its contract. The loop's invariant is `Underway`: the cells that are left and the line's end, written from here on, give what the whole row gives.
 -- Cell x of row z is z·w + x, which is in the grid.
-use Rattle.file.proofs.Joins.{Underway, row_first, row_fits, cell_fits, cell_index, cell_count, cell_room, cell_ids, cell_next, row_room, row_done}
+use Rattle.file.proofs.Joins.{Underway}
 use Rattle.file.specs.Shown.{leds, cell_at, shown}
 use Rattle.rules.specs.Listing.{row_text}
 use Prim.Native.Nat.{◌≤◌, ◌-◌, ◌*◌}
 use mathlib.Core.List.{[], ◌∷◌, ◌++◌}
-use borrow.Author.Rules.{rules}
 use Rattle.file.proofs.row.put_row.Given as goal
 
 abbrev pub invariant-loop-x : goal.invariant-loop-x

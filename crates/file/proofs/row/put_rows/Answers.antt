@@ -1,8 +1,5 @@
 -- The answers that the check does not find alone.
-use Rattle.file.proofs.Joins.{Underway, rows_first, rows_room, rows_next, rows_done}
-use Rattle.file.specs.Shown.{shown}
-use Rattle.rules.specs.Listing.{rows_text}
-use Prim.Native.Nat.{◌≤◌, ◌-◌}
+use Rattle.file.proofs.Joins.{rows_first, rows_room, rows_next, rows_done}
 use borrow.Author.Rules.{rules}
 use Rattle.file.proofs.row.put_rows.Goals as goal
 

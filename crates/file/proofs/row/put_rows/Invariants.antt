@@ -1,10 +1,9 @@
 -- `row::put_rows` meets its contract. The loop's invariant is `Underway`: the rows that are left, written from here on, give what all rows give.
 -- Each turn writes the first of those that are left.
-use Rattle.file.proofs.Joins.{Underway, rows_first, rows_room, rows_next, rows_done}
+use Rattle.file.proofs.Joins.{Underway}
 use Rattle.file.specs.Shown.{shown}
 use Rattle.rules.specs.Listing.{rows_text}
 use Prim.Native.Nat.{◌≤◌, ◌-◌}
-use borrow.Author.Rules.{rules}
 use Rattle.file.proofs.row.put_rows.Given as goal
 
 abbrev pub invariant-loop-z : goal.invariant-loop-z

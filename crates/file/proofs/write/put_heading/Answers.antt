@@ -1,7 +1,6 @@
 -- `write::put_heading` meets its contract: five pieces, each written after the one before it, are the rule's line.
 -- The byte strings are the rule's texts, by computation.
 use Rattle.file.proofs.Lines.{heading_room, heading_room₁, heading_room₂, heading_room₃, heading_room₄, heading_done, name_distance, name_region, name_overlaps, name_cut}
-use borrow.Author.Rules.{rules}
 use Rattle.file.proofs.write.put_heading.Goals as goal
 
 pub put_named-a-requires : goal.put_named-a-requires

@@ -1,7 +1,6 @@
 -- `write::write_listing` meets its contract: the first line and then the rows are the rule's listing.
 -- There is room for both, by `Bounds.antt`.
 use Rattle.file.proofs.Bounds.{listing-first, listing_rows, listing-filled, listing_done}
-use borrow.Author.Rules.{rules}
 use Rattle.file.proofs.write.write_listing.Goals as goal
 
 pub put_heading-next-requires : goal.put_heading-next-requires

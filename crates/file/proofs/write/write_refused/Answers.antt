@@ -1,7 +1,6 @@
 -- `write::write_refused` meets its contract: two pieces are the rule's line.
 -- The byte string is the rule's text, by computation.
 use Rattle.file.proofs.Lines.{refused_room, refused_end, refused_done, name_refused}
-use borrow.Author.Rules.{rules}
 use Rattle.file.proofs.write.write_refused.Goals as goal
 
 pub put_named-next-requires : goal.put_named-next-requires

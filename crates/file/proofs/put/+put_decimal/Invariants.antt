@@ -1,0 +1,5 @@
+-- The number falls by a division by ten.
+use Rattle.file.proofs.put.+put_decimal.Given as goal
+
+abbrev pub decreases-put_decimal : goal.decreases-put_decimal
+decreases-put_decimal l = l.v

@@ -10,7 +10,6 @@ use Rattle.rules.specs.Refusals.{refusal}
 use Rattle.rules.specs.Refresh.{Rect, RefreshOutcome, refresh_outcome}
 use Rattle.checker.specs.Answer.{number_of}
 use Rattle.checker.specs.declared.Refusal.{Refusal}
-use Rattle.checker.specs.declared.Verdict.{Verdict}
 use Rattle.refresh.specs.Answer.{refresh_refused_by, refresh_given}
 use Rattle.refresh.specs.Into.{numbers_of, GivesInto}
 use Rattle.refresh.specs.declared.RefreshAnswer.{RefreshAnswer}

@@ -13,11 +13,11 @@ use lib.ListN.{length, get_or, set, length-set}
 use lib.Seq.{ext_get_or, get_or-set_same, get_or-set_other}
 use lib.Dec.{eqb, leb}
 use borrow.Author.Tests.{eq-eqb, le-leb}
-use Rattle.rules.specs.Base.{◌and◌, if◌then◌else◌, upto, every}
+use Rattle.rules.specs.Base.{◌and◌, if◌then◌else◌, upto}
 use Rattle.rules.specs.Field.{Field, spans, cell_of}
 use Rattle.rules.specs.Distance.{far}
 use Rattle.rules.specs.Rows.{downto, pass1_row, pass2_row, blur_row}
-use Rattle.rules.specs.Refresh.{cell_as_stored, as_stored, Redone, onward, backward, value_to, values_row, from_pass1, Rows, blur_rows}
+use Rattle.rules.specs.Refresh.{cell_as_stored, as_stored, Redone, onward, backward, value_to, values_row, from_pass1, blur_rows}
 use Rattle.laws.proofs.Basics.{and_no, same_test, every-at, every_all, upto-ind, get_d_any}
 use Rattle.laws.proofs.Cells.{passed}
 use Rattle.meaning.proofs.Places.{layer_in}

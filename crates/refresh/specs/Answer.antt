@@ -11,7 +11,6 @@ use Rattle.refresh.specs.declared.RefreshAnswer.{RefreshAnswer}
 use Rattle.refresh.specs.declared.RefreshAnswer.TheVariants.{Refused, WrongRect, WrongStored, Done}
 use Rattle.refresh.specs.declared.RefreshVerdict.{RefreshVerdict}
 use Rattle.refresh.specs.declared.RefreshVerdict.TheVariants as fine
-use Rattle.refresh.specs.declared.Refreshed.{Refreshed}
 
 -- the rectangle that a caller gives
 abbrev pub rect : ℕ → ℕ → ℕ → ℕ → Rect

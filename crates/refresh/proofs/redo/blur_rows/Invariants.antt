@@ -3,10 +3,7 @@ use Prim.Native.Nat.{◌≤◌, ◌-◌, ◌+◌}
 use mathlib.Core.Path.{◌≡◌}
 use lib.ListN.{length}
 use Rattle.field.specs.Lent.{lent}
-use Rattle.field.proofs.Passed.{sound_reached}
 use Rattle.refresh.specs.Redo.{blur_till}
-use Rattle.refresh.proofs.Turns.{blur_go, blur-first, blur-last}
-use borrow.Author.Rules.{rules}
 use Rattle.refresh.proofs.redo.blur_rows.Given as goal
 
 abbrev pub invariant-loop-y : goal.invariant-loop-y

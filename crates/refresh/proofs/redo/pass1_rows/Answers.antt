@@ -1,11 +1,6 @@
 -- The answers that the check does not find alone.
-use Prim.Native.Nat.{◌≤◌, ◌-◌}
-use mathlib.Core.Path.{◌≡◌}
-use Rattle.field.specs.Lent.{lent}
 use Rattle.field.proofs.Passed.{sound_reached}
-use Rattle.distance.specs.Value.{Low}
 use Rattle.distance.proofs.Bounds.{low_before}
-use Rattle.refresh.specs.Redo.{pass1_rows}
 use Rattle.refresh.proofs.Turns.{pass1_go, pass1-first, pass1-last, pass1_low}
 use borrow.Author.Rules.{rules}
 use Rattle.refresh.proofs.redo.pass1_rows.Goals as goal

@@ -1,9 +1,4 @@
 -- The answers that the check does not find alone.
-use Prim.Native.Nat.{◌≤◌, ◌-◌}
-use mathlib.Core.Path.{◌≡◌}
-use Rattle.field.specs.Lent.{lent}
-use Rattle.distance.specs.Value.{Low}
-use Rattle.refresh.specs.Redo.{pass2_rows}
 use Rattle.refresh.proofs.Turns.{pass2_go, pass2-last}
 use borrow.Author.Rules.{rules}
 use Rattle.refresh.proofs.redo.pass2_rows.Goals as goal

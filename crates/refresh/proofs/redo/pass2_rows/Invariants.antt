@@ -1,11 +1,9 @@
 -- Invariant: the rows from a to y are left.
-use Prim.Native.Nat.{◌≤◌, ◌-◌}
+use Prim.Native.Nat.{◌≤◌}
 use mathlib.Core.Path.{◌≡◌}
 use Rattle.field.specs.Lent.{lent}
 use Rattle.distance.specs.Value.{Low}
 use Rattle.refresh.specs.Redo.{pass2_rows}
-use Rattle.refresh.proofs.Turns.{pass2_go, pass2-last}
-use borrow.Author.Rules.{rules}
 use Rattle.refresh.proofs.redo.pass2_rows.Given as goal
 
 abbrev pub invariant-loop-y : goal.invariant-loop-y

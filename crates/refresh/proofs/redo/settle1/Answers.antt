@@ -1,11 +1,4 @@
 -- The answers that the check does not find alone.
-use Prim.Native.Nat.{◌≤◌, ◌-◌, ◌+◌}
-use mathlib.Core.Path.{◌≡◌}
-use lib.ListN.{length}
-use Rattle.rules.specs.Refresh.{onward}
-use Rattle.field.specs.Lent.{lent}
-use Rattle.distance.specs.Value.{Low}
-use Rattle.refresh.specs.Redo.{Kept}
 use Rattle.refresh.proofs.Turns.{onward_go, onward_stop, onward-end, kept_up, kept_none, kept_all, kept_size}
 use borrow.Author.Rules.{rules}
 use Rattle.refresh.proofs.redo.settle1.Goals as goal

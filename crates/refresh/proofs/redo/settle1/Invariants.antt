@@ -6,8 +6,6 @@ use Rattle.rules.specs.Refresh.{onward}
 use Rattle.field.specs.Lent.{lent}
 use Rattle.distance.specs.Value.{Low}
 use Rattle.refresh.specs.Redo.{Kept}
-use Rattle.refresh.proofs.Turns.{onward_go, onward_stop, onward-end, kept_up, kept_none, kept_all, kept_size}
-use borrow.Author.Rules.{rules}
 use Rattle.refresh.proofs.redo.settle1.Given as goal
 
 abbrev pub invariant-loop-y : goal.invariant-loop-y

@@ -1,11 +1,4 @@
 -- The answers that the check does not find alone.
-use Prim.Native.Nat.{◌≤◌, ◌-◌, ◌+◌}
-use mathlib.Core.Path.{◌≡◌}
-use lib.ListN.{length}
-use Rattle.rules.specs.Refresh.{backward}
-use Rattle.field.specs.Lent.{lent}
-use Rattle.distance.specs.Value.{Low}
-use Rattle.refresh.specs.Redo.{Kept}
 use Rattle.refresh.proofs.Turns.{backward_go, backward_stop, backward-end, kept_down, kept_none, kept_zero, kept_size}
 use borrow.Author.Rules.{rules}
 use Rattle.refresh.proofs.redo.settle2.Goals as goal

@@ -1,9 +1,5 @@
 -- The answers that the check does not find alone.
-use Rattle.refresh.specs.Part.{part_to}
 use Rattle.refresh.proofs.Parts.{copy_first}
-use Prim.Native.Nat.{◌≤◌, ◌-◌}
-use mathlib.Core.Path.{◌≡◌}
-use lib.ListN.{length}
 use Rattle.refresh.proofs.Parts.{copy_go, copy_end}
 use borrow.Author.Rules.{rules}
 use Rattle.refresh.proofs.rows.copy_part.Goals as goal

@@ -1,11 +1,8 @@
 -- Invariant: the part as far as i is copied.
 use Rattle.refresh.specs.Part.{part_to}
-use Rattle.refresh.proofs.Parts.{copy_first}
 use Prim.Native.Nat.{◌≤◌, ◌-◌}
 use mathlib.Core.Path.{◌≡◌}
 use lib.ListN.{length}
-use Rattle.refresh.proofs.Parts.{copy_go, copy_end}
-use borrow.Author.Rules.{rules}
 use Rattle.refresh.proofs.rows.copy_part.Given as goal
 
 abbrev pub invariant-loop-i : goal.invariant-loop-i

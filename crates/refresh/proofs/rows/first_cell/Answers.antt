@@ -1,6 +1,5 @@
 -- The answers that the check does not find alone.
-use Prim.Native.Nat.{◌≤◌, ◌-◌}
-use Rattle.refresh.proofs.Parts.{Empty_to, first_go, first_found, first-none}
+use Rattle.refresh.proofs.Parts.{first_go, first_found, first-none}
 use borrow.Author.Rules.{rules}
 use native.Mathlib.Omega.{arith}
 use Rattle.refresh.proofs.rows.first_cell.Goals as goal

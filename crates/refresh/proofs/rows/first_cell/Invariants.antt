@@ -1,8 +1,6 @@
 -- Invariant: the cells before number x are empty.
 use Prim.Native.Nat.{◌≤◌, ◌-◌}
-use Rattle.refresh.proofs.Parts.{Empty_to, first_go, first_found, first-none}
-use borrow.Author.Rules.{rules}
-use native.Mathlib.Omega.{arith}
+use Rattle.refresh.proofs.Parts.{Empty_to}
 use Rattle.refresh.proofs.rows.first_cell.Given as goal
 
 abbrev pub invariant-loop-x : goal.invariant-loop-x

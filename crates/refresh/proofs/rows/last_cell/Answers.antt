@@ -1,6 +1,5 @@
 -- The answers that the check does not find alone.
-use Prim.Native.Nat.{◌≤◌, ◌-◌}
-use Rattle.refresh.proofs.Parts.{Empty_from, last_go, last_found, last_none}
+use Rattle.refresh.proofs.Parts.{last_go, last_found, last_none}
 use borrow.Author.Rules.{rules}
 use native.Mathlib.Omega.{arith}
 use Rattle.refresh.proofs.rows.last_cell.Goals as goal

@@ -1,8 +1,6 @@
 -- Invariant: the cells from number x on are empty.
-use Prim.Native.Nat.{◌≤◌, ◌-◌}
-use Rattle.refresh.proofs.Parts.{Empty_from, last_go, last_found, last_none}
-use borrow.Author.Rules.{rules}
-use native.Mathlib.Omega.{arith}
+use Prim.Native.Nat.{◌≤◌}
+use Rattle.refresh.proofs.Parts.{Empty_from}
 use Rattle.refresh.proofs.rows.last_cell.Given as goal
 
 abbrev pub invariant-loop-x : goal.invariant-loop-x

@@ -1,9 +1,5 @@
 -- The answers that the check does not find alone.
-use Rattle.refresh.specs.Part.{same_part}
 use Rattle.refresh.proofs.Parts.{alike_first}
-use Prim.Native.Nat.{◌≤◌, ◌-◌}
-use mathlib.Core.Path.{◌≡◌}
-use mathlib.Core.Bool.{true}
 use Rattle.refresh.proofs.Parts.{alike_go, alike_stop, alike_end}
 use borrow.Author.Rules.{rules}
 use Rattle.refresh.proofs.rows.same_part.Goals as goal

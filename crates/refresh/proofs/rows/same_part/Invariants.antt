@@ -1,11 +1,8 @@
 -- Invariant: the part as far as i is the same.
 use Rattle.refresh.specs.Part.{same_part}
-use Rattle.refresh.proofs.Parts.{alike_first}
 use Prim.Native.Nat.{◌≤◌, ◌-◌}
 use mathlib.Core.Path.{◌≡◌}
 use mathlib.Core.Bool.{true}
-use Rattle.refresh.proofs.Parts.{alike_go, alike_stop, alike_end}
-use borrow.Author.Rules.{rules}
 use Rattle.refresh.proofs.rows.same_part.Given as goal
 
 abbrev pub invariant-loop-i : goal.invariant-loop-i

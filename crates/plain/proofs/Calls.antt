@@ -2,13 +2,12 @@
 -- is never refused 12. Assumes nothing.
 use Prim.Native.Nat.{ℕ, ◌≤◌, ◌<◌}
 use native.Mathlib.Omega.{arith}
-use mathlib.Core.Path.{◌≡◌, refl, sym, ap, ◌∙◌}
+use mathlib.Core.Path.{◌≡◌, sym, ap, ◌∙◌}
 use mathlib.Core.Bool.{not}
 use mathlib.Core.List.{List, [], ◌∷◌}
 use lib.ListN.{length, get_or}
 use lib.Dec.{eqb, ltb}
 use borrow.Author.Tests.{eqb-true, eqb-false, ltb-true, ltb-false, not-true, not-false}
-use Rattle.rules.specs.Base.{if◌then◌else◌}
 use Rattle.rules.specs.Field.{Field, Bytes, spans}
 use Rattle.rules.specs.Field as field
 use Rattle.rules.specs.Refusals.{too_wide, too_many, wrong_length, wrong_cells, wrong_reach, wrong_back, too_short, refusal}
@@ -17,11 +16,9 @@ use Rattle.laws.proofs.Basics.{if-ind, get_d_any}
 use Rattle.field.specs.Lent.{lent}
 use Rattle.plain.specs.declared.RoomsAnswer.{RoomsAnswer}
 use Rattle.plain.specs.declared.RoomsAnswer.TheVariants.{Refused}
-use Rattle.plain.specs.declared.RoomsAnswer.TheVariants as answer
 use Rattle.plain.specs.PlainRooms.{PlainRooms}
-use Rattle.plain.specs.Answer.{rooms_refused_by, rooms_most_in, outcome, GivesPlainRooms}
+use Rattle.plain.specs.Answer.{rooms_refused_by, outcome, GivesPlainRooms}
 use Rattle.checker.specs.declared.Refusal.{Refusal}
-use Rattle.checker.specs.Answer.{number_of}
 use Rattle.checker.proofs.Numbers.{number_pos}
 use Rattle.plain.proofs.Checks.{rooms_accepted}
 use Rattle.plain.proofs.Meaning.{plain_rooms_lem, few_spans_few_rooms}

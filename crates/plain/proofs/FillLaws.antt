@@ -2,17 +2,16 @@
 -- and each turn takes one away. Assumes nothing.
 use Prim.Native.Nat.{ℕ, zero, suc, ◌+◌, ◌-◌, ◌≤◌, ◌<◌}
 use native.Mathlib.Omega.{arith}
-use mathlib.Core.Path.{◌≡◌, refl, sym, ◌∙◌}
+use mathlib.Core.Path.{◌≡◌, refl, ◌∙◌}
 use mathlib.Core.List.{List, [], ◌∷◌}
 use lib.ListN.{length, get_or, set, length-set}
-use lib.Dec.{eqb}
 use borrow.Author.Tests.{eqb-true, eq-eqb, ne_eqb}
-use Rattle.rules.specs.Base.{◌and◌, upto}
-use Rattle.rules.specs.Net.{Net, spans, near, area_of}
+use Rattle.rules.specs.Base.{upto}
+use Rattle.rules.specs.Net.{Net, spans, near}
 use Rattle.rules.specs.Plain.{Fill, joins, fill}
 use Rattle.laws.proofs.Basics.{both, if-ind, upto-ind}
 use Rattle.laws.proofs.FloodEnds.{has_area}
-use Rattle.space.specs.Space.{ind, tally}
+use Rattle.space.specs.Space.{tally}
 use Rattle.space.proofs.Laws.{tally-set}
 use Rattle.plain.specs.Stack.{Filling}
 

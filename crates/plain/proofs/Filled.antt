@@ -2,20 +2,18 @@
 -- so the rule's fuel, one for each span, is not used up. Assumes nothing.
 use Prim.Native.Nat.{ℕ, ◌+◌, ◌-◌, ◌≤◌, ◌<◌}
 use native.Mathlib.Omega.{arith}
-use native.Mathlib.Nat.{zero-add}
 use mathlib.Core.Path.{◌≡◌, refl, sym, ap, ◌∙◌}
 use mathlib.Core.List.{List, [], ◌∷◌}
 use lib.ListN.{length, get_or, set, drop, length-set}
 use lib.Seq.{get_or-set_same, drop-set-lt}
 use Rattle.rules.specs.Base.{upto}
-use Rattle.rules.specs.Net.{spans, area_of}
 use Rattle.rules.specs.Plain.{Fill, joins, fill, room_from}
 use Rattle.space.specs.Space.{tally, stack_at}
 use Rattle.space.proofs.Laws.{length-stack_at, stack_at_pop, tally_le}
 use Rattle.net.specs.Table.{net_at}
 use Rattle.net.proofs.Tables.{spans-at, area_at}
 use Rattle.plain.specs.Stack.{Held, Filling, fill_at, Waits}
-use Rattle.plain.proofs.FillLaws.{left, fewer, joins_all, rest_filling, fill-turn, fill_done}
+use Rattle.plain.proofs.FillLaws.{left, fewer, joins_all, fill-turn, fill_done}
 use Rattle.plain.proofs.Joining.{net_kept, held_kept}
 
 -- ---------------------------------------------------------------- the start

@@ -14,7 +14,7 @@ use Rattle.rules.specs.Base.{◌and◌, if◌then◌else◌, upto}
 use Rattle.rules.specs.Field.{none}
 use Rattle.rules.specs.Net.{near, area_of}
 use Rattle.rules.specs.Refusals.{most_spans}
-use Rattle.rules.specs.Plain.{Fill, joins}
+use Rattle.rules.specs.Plain.{joins}
 use Rattle.laws.proofs.Basics.{upto_next}
 use Rattle.space.specs.Space.{tally, stack_at}
 use Rattle.space.proofs.Laws.{length-stack_at, stack_at_push, sec-drop}

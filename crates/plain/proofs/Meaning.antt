@@ -3,21 +3,20 @@
 use Prim.Native.Nat.{ℕ, ◌≤◌, ◌<◌}
 use native.Mathlib.Omega.{arith}
 use native.Mathlib.Decide.{ℕ_discrete, dec_lt}
-use mathlib.Core.Path.{◌≡◌, refl, sym, ap, ◌∙◌}
+use mathlib.Core.Path.{◌≡◌, refl, sym, ◌∙◌}
 use mathlib.Core.List.{List}
-use lib.ListN.{length, get_or}
-use Rattle.rules.specs.Base.{upto}
+use lib.ListN.{get_or}
 use Rattle.rules.specs.Field.{Field, Bytes}
 use Rattle.rules.specs.Field as field
-use Rattle.rules.specs.Net.{net_of, spans, near, area_of}
-use Rattle.rules.specs.Growth.{painted, first_id}
+use Rattle.rules.specs.Net.{net_of, near, area_of}
+use Rattle.rules.specs.Growth.{painted}
 use Rattle.rules.specs.Refusals.{refusal}
-use Rattle.rules.specs.Plain.{Rooms, begins, plain_rooms, most_rooms}
-use Rattle.laws.proofs.Cells.{Passed, passed}
+use Rattle.rules.specs.Plain.{plain_rooms, most_rooms}
+use Rattle.laws.proofs.Cells.{passed}
 use Rattle.laws.proofs.Lengths.{painted-length}
 use Rattle.laws.proofs.Nets.{near_net, linked, net_bytes}
 use Rattle.laws.proofs.Strides.{answered}
-use Rattle.rooms.specs.Rooms.{Bears, Joined, stay, goes}
+use Rattle.rooms.specs.Rooms.{Joined, stay, goes}
 use Rattle.rooms.specs.Linked.{Linked}
 use Rattle.rooms.proofs.Joins.{joined-head, joined_sym, joined-map}
 use Rattle.rooms.proofs.Forward.{forward}

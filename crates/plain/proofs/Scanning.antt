@@ -4,17 +4,15 @@ use Prim.Native.Nat.{ℕ, suc, ◌+◌, ◌%◌, ◌≤◌, ◌<◌}
 use native.Mathlib.Omega.{arith}
 use native.Mathlib.Decide.{ℕ_discrete, dec_lt}
 use mathlib.Core.Path.{◌≡◌, refl, sym, ap, ◌∙◌}
-use mathlib.Core.Bool.{true, false, true≢false}
+use mathlib.Core.Bool.{true≢false}
 use mathlib.Core.List.{List}
 use lib.ListN.{length, get_or}
-use lib.Dec.{eqb}
-use borrow.Author.Tests.{eqb-true, eqb-false, eq-eqb, ne_eqb, not-true, not-false}
-use Rattle.rules.specs.Base.{◌and◌, upto}
-use Rattle.rules.specs.Field.{none}
+use borrow.Author.Tests.{eqb-true, eqb-false, eq-eqb, ne_eqb, not-true}
+use Rattle.rules.specs.Base.{upto}
 use Rattle.rules.specs.Net.{Net, spans, near, area_of}
 use Rattle.rules.specs.Growth.{walkable}
-use Rattle.rules.specs.Plain.{Rooms, room_from, begins}
-use Rattle.laws.proofs.Basics.{both, and_both, if-ind, upto-ind, nonzero_in}
+use Rattle.rules.specs.Plain.{Rooms, begins}
+use Rattle.laws.proofs.Basics.{both, and_both, if-ind, upto-ind}
 use Rattle.laws.proofs.FloodEnds.{has_area}
 use Rattle.laws.proofs.Strides.{Answered}
 use Rattle.rooms.specs.Linked.{Linked}

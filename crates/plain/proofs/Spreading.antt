@@ -1,22 +1,20 @@
 -- What the filling of one room leaves: its spans had no id and are joined to the first by spans of its class, the others are as they were, and no
 -- neighbour of its area is left without an id, once nothing waits. Assumes nothing.
-use Prim.Native.Nat.{ℕ, zero, suc, ◌+◌, ◌≤◌, ◌<◌}
+use Prim.Native.Nat.{ℕ, zero, suc, ◌<◌}
 use native.Mathlib.Omega.{arith}
 use native.Mathlib.Decide.{ℕ_discrete}
 use mathlib.Core.Path.{◌≡◌, refl, sym, ap, ◌∙◌}
-use mathlib.Core.Bool.{true, false, true≢false}
+use mathlib.Core.Bool.{true≢false}
 use mathlib.Core.List.{List, [], ◌∷◌}
 use lib.ListN.{length, get_or, set, length-set}
 use lib.Seq.{get_or-set_same, get_or-set_other}
-use lib.Dec.{eqb}
 use borrow.Author.Tests.{eqb-true, eq-eqb}
-use Rattle.rules.specs.Base.{◌and◌, upto}
+use Rattle.rules.specs.Base.{upto}
 use Rattle.rules.specs.Net.{Net, spans, near, area_of}
 use Rattle.rules.specs.Plain.{Fill, joins, fill, room_from}
 use Rattle.laws.proofs.Basics.{both, and_both, if-ind, upto-ind, All, get_or-set_cases}
 use Rattle.laws.proofs.FloodEnds.{has_area}
 use Rattle.rooms.specs.Linked.{Linked, stay, comes}
-use Rattle.space.specs.Space.{tally}
 use Rattle.space.proofs.Laws.{tally_le}
 use Rattle.plain.specs.Stack.{Filling}
 use Rattle.plain.proofs.FillLaws.{fewer, fill_ends}

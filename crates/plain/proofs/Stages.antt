@@ -2,7 +2,7 @@
 -- between the stack and the table, where none of them writes. Assumes nothing.
 use Prim.Native.Nat.{ℕ, ◌+◌, ◌-◌, ◌*◌, ◌≤◌, ◌<◌}
 use native.Mathlib.Omega.{arith}
-use mathlib.Core.Path.{◌≡◌, refl, sym, ap, ◌∙◌}
+use mathlib.Core.Path.{◌≡◌, refl, ap, ◌∙◌}
 use mathlib.Core.List.{List, []}
 use lib.ListN.{length, take, drop, replicate, length-replicate}
 use Rattle.rules.specs.Base.{upto}
@@ -17,7 +17,7 @@ use Rattle.space.proofs.Laws.{sec_before}
 use Rattle.field.specs.Lent.{lent, Reached}
 use Rattle.field.proofs.Passed.{sound_reached}
 use Rattle.paint.specs.Paint.{Plot}
-use Rattle.net.specs.Table.{net_at, last_place}
+use Rattle.net.specs.Table.{net_at}
 use Rattle.net.proofs.Fills.{mutual_of}
 use Rattle.plain.specs.Stack.{Held, rooms_at}
 use Rattle.plain.specs.Stages.{Admitted, Finds}

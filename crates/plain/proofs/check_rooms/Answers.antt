@@ -2,13 +2,14 @@
 use Rattle.plain.proofs.Checks.{check_refused, check_few, check_short, check_sound}
 use native.Mathlib.Omega.{arith}
 use borrow.Author.Rules.{rules}
+use mathlib.Core.Path.{refl}
 use Rattle.plain.proofs.check_rooms.Goals as goal
 
 pub overflow_mul-area : goal.overflow_mul-area
-overflow_mul-area c = omega (arith, check_few _ _ c.check.result c.check.ensures c.enum_told-1.given.1)
+overflow_mul-area c = omega (arith, check_few _ _ _ c.in-Sound.ensures refl)
 
 pub overflow_add-area : goal.overflow_add-area
-overflow_add-area c = omega (arith, check_few _ _ c.check.result c.check.ensures c.enum_told-1.given.1)
+overflow_add-area c = omega (arith, check_few _ _ _ c.in-Sound.ensures refl)
 
 pub returns-then-work-area : goal.returns-then-work-area
 returns-then-work-area c = search (rules, check_short)

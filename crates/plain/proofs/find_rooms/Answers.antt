@@ -1,7 +1,6 @@
 -- Each stage has what it asks, and the caller's ids stand where none of them writes (Stages).
 use native.Mathlib.Omega.{arith}
 use mathlib.Core.Path.{◌∙◌}
-use borrow.Author.Rules.{rules}
 use Rattle.plain.proofs.Stages.{field_reached, field_few, cells_are, plot_of, zeros_are, zeros_long, held, painted_long, finds_rooms, finds-none}
 use Rattle.plain.proofs.find_rooms.Goals as goal
 

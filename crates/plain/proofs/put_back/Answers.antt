@@ -2,8 +2,6 @@
 use mathlib.Core.Path.{refl}
 use lib.ListN.{length}
 use Rattle.plain.proofs.Stages.{part_is}
-use native.Mathlib.Omega.{arith}
-use borrow.Author.Rules.{rules}
 use Rattle.plain.proofs.put_back.Goals as goal
 
 pub returns : goal.returns

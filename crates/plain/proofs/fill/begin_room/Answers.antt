@@ -1,6 +1,5 @@
 -- Under what has been tested by each return, ids and number are the rule's (Numbered).
 use native.Mathlib.Omega.{arith}
-use borrow.Author.Rules.{rules}
 use mathlib.Core.Path.{refl}
 use Rattle.plain.proofs.Joining.{few}
 use Rattle.plain.proofs.Numbered.{begin_bare, begin_none, begin_new}

@@ -1,12 +1,10 @@
 -- The answers that the check does not find alone.
 use mathlib.Core.Path.{◌≡◌, ◌∙◌}
-use Prim.Native.Nat.{◌+◌, ◌≤◌, ◌<◌}
+use Prim.Native.Nat.{◌≤◌, ◌<◌}
 use native.Mathlib.Omega.{arith}
-use borrow.Author.Rules.{rules}
 use lib.ListN.{length, get_or, length-set}
-use Rattle.space.specs.Space.{tally}
 use Rattle.plain.proofs.Joining.{few, held_kept}
-use Rattle.plain.proofs.Filled.{start_filling, start_past, Running, running_start, top_in, running_done, span_in_lem, rest_held, running_falls, running_on, filled_is}
+use Rattle.plain.proofs.Filled.{start_filling, start_past, running_start, top_in, running_done, span_in_lem, rest_held, running_falls, running_on, filled_is}
 use Rattle.plain.proofs.fill.fill_room.Goals as goal
 
 pub bounds-area-s : goal.bounds-area-s
@@ -34,18 +32,18 @@ pub at16-c-requires : goal.at16-c-requires
 at16-c-requires c = omega (arith, c.loop-top-test.true, top_in _ _ _ _ _ _ _ _ _ c.loop-top.invariant, c.loop-top.invariant.held.past, c.loop-top.invariant.held.room)
 
 pub join_all-top-requires : goal.join_all-top-requires
-join_all-top-requires c = let byte : get_or c.args.area.now c.args.from.0 0 < 256 = omega (arith, c.shared_slice_known-2-1.given c.args.from.0) in
+join_all-top-requires c = let byte : get_or c.args.area.now c.args.from.0 0 < 256 = omega (arith, c.type_inv.area c.args.from.0) in
     record {
       held = (c.loop-top.invariant.held, span_in_lem _ _ _ _ _ _ _ _ _ c.loop-top.invariant c.loop-top-test.true _ c.at16-c.ensures.0, byte);
       filling = (rest_held _ _ _ _ _ _ _ _ _ c.loop-top.invariant c.loop-top-test.true _ c.at16-c.ensures.0, c.requires.2);
     }
 
 pub loop-top-smaller : goal.loop-top-smaller
-loop-top-smaller c = let byte : get_or c.args.area.now c.args.from.0 0 < 256 = omega (arith, c.shared_slice_known-2-1.given c.args.from.0) in
+loop-top-smaller c = let byte : get_or c.args.area.now c.args.from.0 0 < 256 = omega (arith, c.type_inv.area c.args.from.0) in
     running_falls _ _ _ _ _ _ _ _ _ c.loop-top.invariant c.loop-top-test.true _ c.at16-c.ensures.0 byte c.requires.2 _ _ _ c.join_all-top.ensures.result_after
 
 pub loop-top-preserved : goal.loop-top-preserved
-loop-top-preserved c = let byte : get_or c.args.area.now c.args.from.0 0 < 256 = omega (arith, c.shared_slice_known-2-1.given c.args.from.0) in
+loop-top-preserved c = let byte : get_or c.args.area.now c.args.from.0 0 < 256 = omega (arith, c.type_inv.area c.args.from.0) in
     running_on _ _ _ _ _ _ _ _ _ c.loop-top.invariant c.loop-top-test.true _ c.at16-c.ensures.0 byte c.requires.2 _ _ _ c.join_all-top.ensures.result_after
     c.join_all-top.auto.ids c.join_all-top.auto.ws c.join_all-top.ensures.ws_unchanged
 

@@ -1,8 +1,6 @@
 -- The answers that the check does not find alone.
-use Prim.Native.Nat.{◌-◌}
 use native.Mathlib.Omega.{arith}
-use borrow.Author.Rules.{rules}
-use Rattle.plain.proofs.Joining.{Joining, joining_start, joining_next, joining_done}
+use Rattle.plain.proofs.Joining.{joining_start, joining_next, joining_done}
 use Rattle.plain.proofs.fill.join_all.Goals as goal
 
 pub loop-d-init : goal.loop-d-init

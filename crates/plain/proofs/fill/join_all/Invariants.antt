@@ -1,8 +1,6 @@
 -- The loop's invariant: the room is the rule's after d directions (`Joining`). The measure is the directions left.
 use Prim.Native.Nat.{◌-◌}
-use native.Mathlib.Omega.{arith}
-use borrow.Author.Rules.{rules}
-use Rattle.plain.proofs.Joining.{Joining, joining_start, joining_next, joining_done}
+use Rattle.plain.proofs.Joining.{Joining}
 use Rattle.plain.proofs.fill.join_all.Given as goal
 
 abbrev pub invariant-loop-d : goal.invariant-loop-d

@@ -1,11 +1,10 @@
 -- Under what has been tested by each return, the room is the rule's (Joining); a neighbour that is there is a span, and one without an id
 -- has its place on the stack.
 use native.Mathlib.Omega.{arith}
-use borrow.Author.Rules.{rules}
 use mathlib.Core.Path.{refl}
 use lib.ListN.{length, length-set}
 use Prim.Native.Nat.{◌<◌}
-use Rattle.plain.proofs.Joining.{few, filling_size, slot_in, inside, skip_none, skip_area, skip_id, top_in, join_room, join_past}
+use Rattle.plain.proofs.Joining.{few, filling_size, inside, skip_none, skip_area, skip_id, top_in, join_room, join_past}
 use Rattle.plain.proofs.fill.join_one.Goals as goal
 
 pub neighbour-t-requires : goal.neighbour-t-requires

@@ -1,10 +1,6 @@
 -- The answers that the check does not find alone.
-use Prim.Native.Nat.{◌-◌}
-use native.Mathlib.Omega.{arith}
 use mathlib.Core.Path.{◌∙◌}
-use borrow.Author.Rules.{rules}
-use lib.ListN.{length}
-use Rattle.plain.proofs.Numbered.{Numbering, numbering_start, numbering_next, numbering_done}
+use Rattle.plain.proofs.Numbered.{numbering_start, numbering_next, numbering_done}
 use Rattle.plain.proofs.fill.number_rooms.Goals as goal
 
 pub loop-s-init : goal.loop-s-init

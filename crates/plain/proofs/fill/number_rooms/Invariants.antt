@@ -1,10 +1,7 @@
 -- The loop's invariant: after s spans ids and number are the rule's (`Numbering`). The measure is the spans left.
 use Prim.Native.Nat.{◌-◌}
-use native.Mathlib.Omega.{arith}
-use mathlib.Core.Path.{◌∙◌}
-use borrow.Author.Rules.{rules}
 use lib.ListN.{length}
-use Rattle.plain.proofs.Numbered.{Numbering, numbering_start, numbering_next, numbering_done}
+use Rattle.plain.proofs.Numbered.{Numbering}
 use Rattle.plain.proofs.fill.number_rooms.Given as goal
 
 abbrev pub invariant-loop-s : goal.invariant-loop-s

@@ -7,13 +7,13 @@ use mathlib.Core.Bool.{Bool, true, false}
 use mathlib.Core.List.{List, [], ◌∷◌, ◌++◌}
 use lib.ListN.{length, length-append}
 use lib.Dec.{eqb, ltb, leb}
-use borrow.Author.Tests.{eq-eqb, ne_eqb, ltb-true, lt-ltb, le-leb, leb-true, leb-false}
+use borrow.Author.Tests.{eq-eqb, ne_eqb, ltb-true, lt-ltb, le-leb, leb-true}
 use Rattle.rules.specs.Base.{◌and◌, if◌then◌else◌}
 use Rattle.rules.specs.File.{word}
 use Rattle.rules.specs.Stored.{two, four, span_record, run_record, mark_record, joins, old_fine, old_ids, runs_of, marks_fit, packed}
 use Rattle.laws.proofs.Basics.{same_test}
 use Rattle.forms.proofs.Runs.{joined}
-use Rattle.file.specs.Written.{written, Room, Wrote}
+use Rattle.file.specs.Written.{Room, Wrote}
 use Rattle.file.proofs.Writing.{written_none, room_first, room_then, wrote_then}
 use Rattle.stored.specs.Parts.{grown, five, next_run, turned, run_then, run_bytes, ended, ended_bytes, mark_fits, end_fits}
 use Rattle.stored.proofs.Places.{old_length, runs_left, fits_left, left-first, fits_first, left_next, fits_next, left_end, fits_end, packed_none, grown_le, turned_below}

@@ -2,13 +2,12 @@
 -- The halving's fuel is never seen: it is no less than the stretches that are left. Assumes nothing.
 use Prim.Native.Nat.{ℕ, zero, suc, ◌+◌, ◌*◌, ◌-◌, ◌/◌, ◌%◌, ◌≤◌, ◌<◌}
 use native.Mathlib.Omega.{arith}
-use native.Mathlib.Decide.{ℕ_discrete}
-use mathlib.Core.Path.{◌≡◌, refl, sym, ap, subst, ◌∙◌}
-use mathlib.Core.Bool.{Bool, true, false, true≢false}
-use mathlib.Core.List.{List, [], ◌∷◌, ◌++◌}
+use mathlib.Core.Path.{◌≡◌, refl, sym, ap, ◌∙◌}
+use mathlib.Core.Bool.{Bool, true, false}
+use mathlib.Core.List.{List}
 use lib.ListN.{length, get_or, drop}
 use lib.Dec.{eqb, ltb, leb}
-use borrow.Author.Tests.{eqb-true, eq-eqb, ne_eqb, ltb-true, lt-ltb, le-ltb, leb-true, le-leb, lt-leb}
+use borrow.Author.Tests.{eq-eqb, ne_eqb, lt-ltb, le-ltb, le-leb, lt-leb}
 use Rattle.rules.specs.Base.{◌and◌, if◌then◌else◌}
 use Rattle.rules.specs.File.{word}
 use Rattle.rules.specs.Stored.{IdOutcome, four_of, marks_in, mark_at, halving, chosen, spans_before, within, id_at, id_whole, read_refusal, new_fine, new_runs, seek}
@@ -21,7 +20,7 @@ use Rattle.stored.specs.declared.Checked.TheVariants as checked
 use Rattle.stored.proofs.Places.{drop-last}
 use Rattle.stored.proofs.NewPlaces.{drop_record}
 use Rattle.stored.proofs.Ends.{number_some}
-use Rattle.stored.specs.Ids.{holds, stretch_after, low_after, high_after, is_run, ends_at}
+use Rattle.stored.specs.Ids.{holds, low_after, high_after, is_run, ends_at}
 
 pub mark_is : (l : List ℕ) (k r : ℕ) → r ≡ long_word l (325 * k + 321) → r ≡ mark_at l k
 unfolding long_word word mark_at four_of

@@ -1,14 +1,14 @@
 -- The same for the new form, record by record, and the spans that are made of it.
 -- A record is a number of spans exactly if 64 runs of a stretch are before it. Assumes nothing.
-use Prim.Native.Nat.{ℕ, zero, suc, ◌+◌, ◌*◌, ◌-◌, ◌/◌, ◌%◌, ◌≤◌, ◌<◌}
+use Prim.Native.Nat.{ℕ, zero, suc, ◌+◌, ◌*◌, ◌/◌, ◌%◌, ◌≤◌, ◌<◌}
 use native.Mathlib.Omega.{arith}
 use mathlib.Core.Path.{◌≡◌, refl, sym, ap, ◌∙◌}
-use mathlib.Core.Bool.{Bool, true, false, not, true≢false}
+use mathlib.Core.Bool.{Bool, true, false, not}
 use mathlib.Core.List.{List, [], ◌∷◌, ◌++◌, append_assoc}
-use lib.ListN.{length, get_or, drop, replicate, length-append}
+use lib.ListN.{length, get_or, drop, replicate}
 use lib.Dec.{eqb, ltb, leb}
-use borrow.Author.Tests.{eqb-true, eqb-false, eq-eqb, ne_eqb, ltb-true, lt-ltb, le-ltb, leb-true}
-use Rattle.rules.specs.Base.{◌and◌, ◌or◌, if◌then◌else◌}
+use borrow.Author.Tests.{eqb-false, lt-ltb, le-ltb, leb-true}
+use Rattle.rules.specs.Base.{◌and◌, if◌then◌else◌}
 use Rattle.rules.specs.File.{word}
 use Rattle.rules.specs.Stored.{Run, four_of, two, span_record, old_bytes, spread, longest_after, longest, new_fine_from, new_fine, new_runs_from, new_runs, right_from, right_numbers, unpacked}
 use Rattle.laws.proofs.Basics.{both, and_no, or_yes, if-ind}

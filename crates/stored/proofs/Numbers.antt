@@ -1,6 +1,6 @@
 -- Answers into lists of numbers, and that two results which satisfy a promise coincide.
 -- A promise is one equation, and no two answers have the same numbers. Assumes nothing.
-use Prim.Native.Nat.{ℕ, zero, suc}
+use Prim.Native.Nat.{ℕ}
 use native.Mathlib.Omega.{arith}
 use mathlib.Core.Path.{◌≡◌, refl, sym, ap, ◌∙◌}
 use mathlib.Core.List.{List, [], ◌∷◌}

@@ -1,8 +1,8 @@
 -- One span's id: the numbers of an answer, and steps of the rules as the code takes them.
-use Rattle.std.specs.Prelude.{ℕ, suc, ◌+◌, ◌*◌, Bool, true, false, List, get_or, drop, leb, ltb, eqb}
+use Rattle.std.specs.Prelude.{ℕ, suc, ◌+◌, Bool, false, List, get_or, leb, ltb, eqb}
 use Rattle.rules.specs.Base.{◌and◌, if◌then◌else◌}
 use Rattle.rules.specs.File.{word}
-use Rattle.rules.specs.Stored.{IdOutcome, new_runs_from, seek}
+use Rattle.rules.specs.Stored.{IdOutcome}
 use Rattle.stored.specs.Answer.{stored_number}
 use Rattle.stored.specs.declared.id.IdAnswer.{IdAnswer}
 use Rattle.stored.specs.declared.id.IdAnswer.TheVariants.{Refused, Beyond, Found}

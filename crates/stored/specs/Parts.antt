@@ -1,6 +1,6 @@
 -- Steps of the rules, as the code takes them.
-use Rattle.std.specs.Prelude.{ℕ, suc, ◌+◌, Bool, true, not, List, [], ◌∷◌, ◌++◌, get_or, replicate, leb, ltb, eqb}
-use Rattle.rules.specs.Base.{◌and◌, ◌or◌, if◌then◌else◌}
+use Rattle.std.specs.Prelude.{ℕ, suc, ◌+◌, Bool, true, not, List, [], ◌∷◌, ◌++◌, replicate, leb, eqb}
+use Rattle.rules.specs.Base.{◌or◌, if◌then◌else◌}
 use Rattle.rules.specs.File.{word}
 use Rattle.rules.specs.Stored.{two, span_record, run_record, mark_record, most_long, joins}
 

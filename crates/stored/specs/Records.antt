@@ -2,7 +2,6 @@
 use Rattle.std.specs.Prelude.{ℕ, suc, ◌+◌, ◌*◌, Bool, true, List, [], get_or, leb, ltb, eqb}
 use Rattle.rules.specs.Base.{◌and◌, if◌then◌else◌}
 use Rattle.rules.specs.File.{word}
-use Rattle.rules.specs.Stored.{Run}
 use Rattle.stored.specs.Parts.{may_follow, run_spans}
 
 -- it is the record that is due

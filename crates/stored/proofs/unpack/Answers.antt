@@ -16,4 +16,4 @@ pub returns-in-Refused : goal.returns-in-Refused
 returns-in-Refused c = search (rules, unpack_refused, unpack_full, unpack_done)
 
 pub returns-then-unpack_fits : goal.returns-then-unpack_fits
-returns-then-unpack_fits c = search (rules, unpack_refused, unpack_full, unpack_done)
+returns-then-unpack_fits c = search (rules, unpack_done)

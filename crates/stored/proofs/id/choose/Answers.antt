@@ -1,6 +1,5 @@
 -- The answers that the check does not find alone.
-use Prim.Native.Nat.{◌-◌}
-use Rattle.stored.proofs.Halving.{Halves, halves-first, halves_next, halves_less, halves_done}
+use Rattle.stored.proofs.Halving.{halves-first, halves_next, halves_less, halves_done}
 use borrow.Author.Rules.{rules}
 use Rattle.stored.proofs.id.choose.Goals as goal
 

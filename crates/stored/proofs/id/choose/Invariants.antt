@@ -1,8 +1,7 @@
 -- The loop's invariant: the halving from here on gives what the whole gives, with fuel enough (Halves).
 -- Each look leaves fewer stretches.
 use Prim.Native.Nat.{◌-◌}
-use Rattle.stored.proofs.Halving.{Halves, halves-first, halves_next, halves_less, halves_done}
-use borrow.Author.Rules.{rules}
+use Rattle.stored.proofs.Halving.{Halves}
 use Rattle.stored.proofs.id.choose.Given as goal
 
 abbrev pub invariant-loop-lo : goal.invariant-loop-lo

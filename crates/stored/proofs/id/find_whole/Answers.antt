@@ -1,10 +1,7 @@
 -- The answers that the check does not find alone.
-use Prim.Native.Nat.{◌≤◌, ◌-◌, ◌/◌, ◌%◌}
-use mathlib.Core.Path.{◌≡◌}
-use lib.ListN.{length}
 use Rattle.forms.proofs.Bytes.{new_length}
-use Rattle.stored.proofs.NewPlaces.{At, at_first, at_on}
-use Rattle.stored.proofs.Seeking.{Seeks, seeks_first, stretch_fits, seeks_found, seeks_next, seeks_end}
+use Rattle.stored.proofs.NewPlaces.{at_first, at_on}
+use Rattle.stored.proofs.Seeking.{seeks_first, stretch_fits, seeks_found, seeks_next, seeks_end}
 use borrow.Author.Rules.{rules}
 use Rattle.stored.proofs.id.find_whole.Goals as goal
 

@@ -3,10 +3,8 @@
 use Prim.Native.Nat.{◌≤◌, ◌-◌, ◌/◌, ◌%◌}
 use mathlib.Core.Path.{◌≡◌}
 use lib.ListN.{length}
-use Rattle.forms.proofs.Bytes.{new_length}
-use Rattle.stored.proofs.NewPlaces.{At, at_first, at_on}
-use Rattle.stored.proofs.Seeking.{Seeks, seeks_first, stretch_fits, seeks_found, seeks_next, seeks_end}
-use borrow.Author.Rules.{rules}
+use Rattle.stored.proofs.NewPlaces.{At}
+use Rattle.stored.proofs.Seeking.{Seeks}
 use Rattle.stored.proofs.id.find_whole.Given as goal
 
 abbrev pub invariant-loop-j : goal.invariant-loop-j

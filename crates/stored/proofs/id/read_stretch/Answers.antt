@@ -1,5 +1,5 @@
 -- The answers that the check does not find alone.
-use Rattle.stored.proofs.Halving.{Within, within_first, within_end, within-other, within_found, within_next, within-wrong}
+use Rattle.stored.proofs.Halving.{within_first, within_end, within-other, within_found, within_next, within-wrong}
 use borrow.Author.Rules.{rules}
 use Rattle.stored.proofs.id.read_stretch.Goals as goal
 

@@ -1,7 +1,6 @@
 -- The loop's invariant: reading the rest of the stretch gives what reading all of it gives (Within).
 -- Each turn reads a run.
-use Rattle.stored.proofs.Halving.{Within, within_first, within_end, within-other, within_found, within_next, within-wrong}
-use borrow.Author.Rules.{rules}
+use Rattle.stored.proofs.Halving.{Within}
 use Rattle.stored.proofs.id.read_stretch.Given as goal
 
 abbrev pub invariant-loop-left : goal.invariant-loop-left

@@ -1,8 +1,4 @@
 -- The answers that the check does not find alone.
-use Prim.Native.Nat.{◌≤◌, ◌-◌}
-use lib.ListN.{length, drop}
-use Rattle.rules.specs.Stored.{old_bytes}
-use Rattle.stored.proofs.Fits.{Writes}
 use Rattle.stored.proofs.OldForm.{old_first, old_room, old_next, old_end_room, old_done}
 use borrow.Author.Rules.{rules}
 use Rattle.stored.proofs.ids.old_form.Goals as goal

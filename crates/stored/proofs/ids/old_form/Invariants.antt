@@ -4,8 +4,6 @@ use Prim.Native.Nat.{◌≤◌, ◌-◌}
 use lib.ListN.{length, drop}
 use Rattle.rules.specs.Stored.{old_bytes}
 use Rattle.stored.proofs.Fits.{Writes}
-use Rattle.stored.proofs.OldForm.{old_first, old_room, old_next, old_end_room, old_done}
-use borrow.Author.Rules.{rules}
 use Rattle.stored.proofs.ids.old_form.Given as goal
 
 abbrev pub invariant-loop-i : goal.invariant-loop-i

@@ -1,11 +1,9 @@
 -- The loop's invariant: the file is fine exactly if the rest from record i on is. Each turn takes a span's record from the rest.
 -- At the end one byte is left, the end record.
-use Prim.Native.Nat.{◌≤◌, ◌-◌, ◌+◌, ◌*◌, ◌/◌, ◌%◌}
+use Prim.Native.Nat.{◌≤◌, ◌-◌, ◌*◌, ◌/◌, ◌%◌}
 use mathlib.Core.Path.{◌≡◌}
 use lib.ListN.{length, drop}
 use Rattle.rules.specs.Stored.{old_fine}
-use Rattle.stored.proofs.Places.{old_odd, old_first, old_stops, old_goes, old_end}
-use borrow.Author.Rules.{rules}
 use Rattle.stored.proofs.old.old_fine.Given as goal
 
 abbrev pub invariant-loop-i : goal.invariant-loop-i

@@ -1,9 +1,4 @@
 -- The answers that the check does not find alone.
-use Prim.Native.Nat.{◌≤◌, ◌<◌, ◌-◌, ◌/◌}
-use lib.ListN.{length}
-use Rattle.rules.specs.Stored.{packed}
-use Rattle.stored.proofs.Places.{runs_left}
-use Rattle.stored.proofs.Fits.{Fits}
 use Rattle.stored.proofs.Calls.{fit_first, fit_next, fit_not, fit_end, grown_bound, turned_bound}
 use borrow.Author.Rules.{rules}
 use Rattle.stored.proofs.old.runs_fit.Goals as goal

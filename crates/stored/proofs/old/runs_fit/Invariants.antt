@@ -5,8 +5,6 @@ use lib.ListN.{length}
 use Rattle.rules.specs.Stored.{packed}
 use Rattle.stored.proofs.Places.{runs_left}
 use Rattle.stored.proofs.Fits.{Fits}
-use Rattle.stored.proofs.Calls.{fit_first, fit_next, fit_not, fit_end, grown_bound, turned_bound}
-use borrow.Author.Rules.{rules}
 use Rattle.stored.proofs.old.runs_fit.Given as goal
 
 abbrev pub invariant-loop-i : goal.invariant-loop-i

@@ -1,9 +1,4 @@
 -- The answers that the check does not find alone.
-use Prim.Native.Nat.{◌≤◌, ◌<◌, ◌-◌, ◌/◌}
-use mathlib.Core.Path.{◌≡◌}
-use lib.ListN.{length}
-use Rattle.rules.specs.Stored.{marks_fit, runs_of, old_ids}
-use Rattle.stored.proofs.Places.{fits_left, grown_le, turned_below}
 use Rattle.stored.proofs.Calls.{marks_first, marks_next, marks_not, marks_end, grown_bound, turned_bound}
 use borrow.Author.Rules.{rules}
 use Rattle.stored.proofs.old.some_marks_fit.Goals as goal

@@ -4,9 +4,7 @@ use Prim.Native.Nat.{◌≤◌, ◌<◌, ◌-◌, ◌/◌}
 use mathlib.Core.Path.{◌≡◌}
 use lib.ListN.{length}
 use Rattle.rules.specs.Stored.{marks_fit, runs_of, old_ids}
-use Rattle.stored.proofs.Places.{fits_left, grown_le, turned_below}
-use Rattle.stored.proofs.Calls.{marks_first, marks_next, marks_not, marks_end, grown_bound, turned_bound}
-use borrow.Author.Rules.{rules}
+use Rattle.stored.proofs.Places.{fits_left}
 use Rattle.stored.proofs.old.some_marks_fit.Given as goal
 
 abbrev pub invariant-loop-i : goal.invariant-loop-i

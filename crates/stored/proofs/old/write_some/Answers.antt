@@ -1,9 +1,4 @@
 -- The answers that the check does not find alone.
-use Prim.Native.Nat.{◌≤◌, ◌<◌, ◌-◌, ◌/◌}
-use lib.ListN.{length}
-use Rattle.rules.specs.Stored.{packed}
-use Rattle.stored.proofs.Places.{runs_left}
-use Rattle.stored.proofs.Fits.{Writes}
 use Rattle.stored.proofs.Calls.{some_first, some_room, some_next, last_room, end_room, some_done, grown_bound, turned_bound}
 use borrow.Author.Rules.{rules}
 use Rattle.stored.proofs.old.write_some.Goals as goal

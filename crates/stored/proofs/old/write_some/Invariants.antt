@@ -5,8 +5,6 @@ use lib.ListN.{length}
 use Rattle.rules.specs.Stored.{packed}
 use Rattle.stored.proofs.Places.{runs_left}
 use Rattle.stored.proofs.Fits.{Writes}
-use Rattle.stored.proofs.Calls.{some_first, some_room, some_next, last_room, end_room, some_done, grown_bound, turned_bound}
-use borrow.Author.Rules.{rules}
 use Rattle.stored.proofs.old.write_some.Given as goal
 
 abbrev pub invariant-loop-i : goal.invariant-loop-i

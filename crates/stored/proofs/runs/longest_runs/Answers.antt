@@ -1,8 +1,4 @@
 -- The answers that the check does not find alone.
-use Prim.Native.Nat.{◌≤◌, ◌-◌, ◌/◌, ◌%◌, ◌*◌}
-use mathlib.Core.Path.{◌≡◌}
-use lib.ListN.{length, drop}
-use Rattle.rules.specs.Stored.{new_runs, new_runs_from, longest, longest_after}
 use Rattle.forms.proofs.Bytes.{new_length}
 use Rattle.stored.proofs.NewPlaces.{runs_below, longest-first, longest_goes, longest-stops, longest-end}
 use borrow.Author.Rules.{rules}

@@ -1,8 +1,5 @@
 -- The answers that the check does not find alone.
-use Prim.Native.Nat.{◌≤◌, ◌-◌, ◌/◌, ◌%◌}
-use mathlib.Core.Path.{◌≡◌}
-use lib.ListN.{length}
-use Rattle.stored.proofs.NewPlaces.{new_odd, At, at_first, at_next, at-not, at_full, at-end}
+use Rattle.stored.proofs.NewPlaces.{new_odd, at_first, at_next, at-not, at_full, at-end}
 use borrow.Author.Rules.{rules}
 use Rattle.stored.proofs.runs.new_fine.Goals as goal
 

@@ -3,8 +3,7 @@
 use Prim.Native.Nat.{◌≤◌, ◌-◌, ◌/◌, ◌%◌}
 use mathlib.Core.Path.{◌≡◌}
 use lib.ListN.{length}
-use Rattle.stored.proofs.NewPlaces.{new_odd, At, at_first, at_next, at-not, at_full, at-end}
-use borrow.Author.Rules.{rules}
+use Rattle.stored.proofs.NewPlaces.{At}
 use Rattle.stored.proofs.runs.new_fine.Given as goal
 
 abbrev pub invariant-loop-j : goal.invariant-loop-j

@@ -1,10 +1,6 @@
 -- The answers that the check does not find alone.
-use Prim.Native.Nat.{◌≤◌, ◌-◌, ◌/◌, ◌%◌, ◌*◌}
-use mathlib.Core.Path.{◌≡◌}
-use lib.ListN.{length, drop}
-use Rattle.rules.specs.Stored.{right_numbers, right_from}
 use Rattle.forms.proofs.Bytes.{new_length}
-use Rattle.stored.proofs.NewPlaces.{At, at_first, at_fine, at_on, numbers_first, numbers_next, numbers_not, numbers_end}
+use Rattle.stored.proofs.NewPlaces.{at_first, at_on, numbers_first, numbers_next, numbers_not, numbers_end}
 use borrow.Author.Rules.{rules}
 use Rattle.stored.proofs.runs.numbers_right.Goals as goal
 

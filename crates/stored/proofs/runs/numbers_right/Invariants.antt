@@ -3,9 +3,7 @@ use Prim.Native.Nat.{◌≤◌, ◌-◌, ◌/◌, ◌%◌, ◌*◌}
 use mathlib.Core.Path.{◌≡◌}
 use lib.ListN.{length, drop}
 use Rattle.rules.specs.Stored.{right_numbers, right_from}
-use Rattle.forms.proofs.Bytes.{new_length}
-use Rattle.stored.proofs.NewPlaces.{At, at_first, at_fine, at_on, numbers_first, numbers_next, numbers_not, numbers_end}
-use borrow.Author.Rules.{rules}
+use Rattle.stored.proofs.NewPlaces.{At}
 use Rattle.stored.proofs.runs.numbers_right.Given as goal
 
 abbrev pub invariant-loop-j : goal.invariant-loop-j

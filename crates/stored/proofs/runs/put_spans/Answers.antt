@@ -1,5 +1,5 @@
 -- The answers that the check does not find alone.
-use Rattle.stored.proofs.NewCalls.{Spans, spans-start, one_room, one_next, one_last}
+use Rattle.stored.proofs.NewCalls.{spans-start, one_room, one_next, one_last}
 use borrow.Author.Rules.{rules}
 use Rattle.stored.proofs.runs.put_spans.Goals as goal
 

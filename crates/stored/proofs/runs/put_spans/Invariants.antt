@@ -1,7 +1,6 @@
 -- The loop's invariant: the records of the spans left, written from here on, give what those of all give.
 -- Each turn writes one.
-use Rattle.stored.proofs.NewCalls.{Spans, spans-start, one_room, one_next, one_last}
-use borrow.Author.Rules.{rules}
+use Rattle.stored.proofs.NewCalls.{Spans}
 use Rattle.stored.proofs.runs.put_spans.Given as goal
 
 abbrev pub invariant-loop-left : goal.invariant-loop-left

@@ -4,11 +4,8 @@ use Prim.Native.Nat.{◌≤◌, ◌-◌, ◌/◌, ◌%◌}
 use mathlib.Core.Path.{◌≡◌}
 use lib.ListN.{length}
 use Rattle.rules.specs.Stored.{unpacked}
-use Rattle.forms.proofs.Bytes.{new_length}
-use Rattle.stored.proofs.NewPlaces.{runs_below, spans_left}
+use Rattle.stored.proofs.NewPlaces.{spans_left}
 use Rattle.stored.proofs.Fits.{Fits}
-use Rattle.stored.proofs.NewCalls.{span_fit_first, span_fit_next, span_fit_not, span_fit_end}
-use borrow.Author.Rules.{rules}
 use Rattle.stored.proofs.runs.unpack_fits.Given as goal
 
 abbrev pub invariant-loop-j : goal.invariant-loop-j

@@ -4,11 +4,8 @@ use Prim.Native.Nat.{◌≤◌, ◌-◌, ◌/◌, ◌%◌}
 use mathlib.Core.Path.{◌≡◌}
 use lib.ListN.{length}
 use Rattle.rules.specs.Stored.{unpacked}
-use Rattle.forms.proofs.Bytes.{new_length}
-use Rattle.stored.proofs.NewPlaces.{runs_below, spans_left}
+use Rattle.stored.proofs.NewPlaces.{spans_left}
 use Rattle.stored.proofs.Fits.{Writes}
-use Rattle.stored.proofs.NewCalls.{all_first, all_room, all_next, all_end_room, all_done}
-use borrow.Author.Rules.{rules}
 use Rattle.stored.proofs.runs.write_spans.Given as goal
 
 abbrev pub invariant-loop-j : goal.invariant-loop-j

@@ -1,5 +1,6 @@
 -- The loop's invariant: stack j has got what remains of the first i entries of the stack before, which is not written meanwhile.
 -- There is room: both stacks together have at most n entries (`Stacked`).
+use mathlib.Core.List.{[]}
 use Prim.Native.Nat.{◌≤◌, ◌-◌}
 use lib.ListN.{length, get_or, take}
 use Rattle.rules.specs.Growth.{remains}

@@ -3,16 +3,16 @@
 use Prim.Native.Nat.{ℕ, zero, suc, ◌+◌, ◌-◌, ◌≤◌, ◌<◌}
 use native.Mathlib.Omega.{arith}
 use native.Mathlib.Decide.{ℕ_discrete, dec_lt}
-use mathlib.Core.Path.{◌≡◌, refl, sym, ap, ◌∙◌}
-use mathlib.Core.Bool.{Bool, true, false, not}
+use mathlib.Core.Path.{◌≡◌, refl, sym}
+use mathlib.Core.Bool.{Bool, true, false}
 use mathlib.Core.List.{List, [], ◌∷◌}
 use lib.ListN.{length, get_or}
-use lib.Dec.{eqb, leb, ltb}
-use borrow.Author.Tests.{eqb-true, eq-eqb, ne_eqb, le-leb, lt-leb, leb-true, leb-false, ltb-false, not-true, not-false, lt-ltb}
-use Rattle.rules.specs.Base.{◌and◌, ◌or◌, if◌then◌else◌, upto, any}
+use lib.Dec.{eqb, ltb}
+use borrow.Author.Tests.{eqb-true, eq-eqb, ne_eqb, le-leb, lt-leb, leb-false, ltb-false, not-true, not-false}
+use Rattle.rules.specs.Base.{◌and◌, if◌then◌else◌, upto, any}
 use Rattle.rules.specs.Field.{Field, spans}
 use Rattle.rules.specs.Growth.{flagged}
-use Rattle.rules.specs.Sizes.{Extent, nothing, extent, shown, extent_of, too_great, wrong_ids}
+use Rattle.rules.specs.Sizes.{Extent, shown, extent_of, too_great, wrong_ids}
 use Rattle.laws.specs.Sums.{sum_to}
 use Rattle.laws.proofs.Sums.{sum_same}
 use Rattle.laws.proofs.Basics.{both, neither, if-ind, if_ind₂}

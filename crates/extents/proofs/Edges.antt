@@ -1,6 +1,6 @@
 -- Every span of an id lies within its edges, and each edge is that of a span: so they are the least and the greatest and 1. The area is that of the first span.
 -- A span that is added moves the edges outward if at all, and leaves the area of the spans before it. Assumes nothing.
-use Prim.Native.Nat.{ℕ, zero, suc, ◌+◌, ◌/◌, ◌%◌, ◌≤◌, ◌<◌, min, max}
+use Prim.Native.Nat.{ℕ, zero, suc, ◌/◌, ◌%◌, ◌≤◌, ◌<◌, min, max}
 use native.Mathlib.Omega.{arith}
 use native.Mathlib.Decide.{ℕ_discrete, dec_lt}
 use mathlib.Core.Path.{◌≡◌, refl, sym, ap, ◌∙◌}
@@ -8,7 +8,6 @@ use mathlib.Core.List.{List}
 use lib.ListN.{get_or}
 use lib.Dec.{eqb}
 use borrow.Author.Tests.{eqb-true, eqb-false}
-use Rattle.rules.specs.Base.{if◌then◌else◌, upto}
 use Rattle.rules.specs.Field.{Field, spans, cell_of, area_of}
 use Rattle.rules.specs.Sizes.{Extent, nothing, added, noted, extent}
 use Rattle.laws.proofs.Basics.{if-ind, upto-ind}

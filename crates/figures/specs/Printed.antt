@@ -1,7 +1,7 @@
 -- Files and what is printed for them, by computation: document 01's example whole, and each cause of 20 and 21.
-use Rattle.std.specs.Prelude.{ℕ, zero, suc, ◌+◌, ◌*◌, ◌-◌, ◌/◌, ◌%◌, ◌≡◌, refl, Bool, true, false, List, [], ◌∷◌, ◌++◌, take, drop, eqb}
+use Rattle.std.specs.Prelude.{ℕ, zero, suc, ◌*◌, ◌/◌, ◌%◌, ◌≡◌, refl, Bool, true, false, List, [], ◌∷◌, ◌++◌, take, drop, eqb}
 use Rattle.rules.specs.Base.{◌and◌, ◌or◌, if◌then◌else◌, upto, tab, every, any, keep, many}
-use Rattle.rules.specs.Field.{spans, cell_of, cell_to, leaves, con_of, near, corner, area_of}
+use Rattle.rules.specs.Field.{cell_of, cell_to, leaves, con_of, near, corner, area_of}
 use Rattle.rules.specs.Net.{neighbours_of}
 use Rattle.rules.specs.Net as net
 use Rattle.rules.specs.Refusals.{good_cells, good_con, good_back, too_wide, too_many, wrong_length, wrong_cells, wrong_reach, wrong_back, refusal, too_short, too_far, region_refusal}

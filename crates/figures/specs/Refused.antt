@@ -1,6 +1,6 @@
 -- Each refusal from 1 to 8 on a field that is wrong in one place, and none beside it, by computation. A refused call is shown to
 -- return zeros and to leave its lists, which are lent full of 7s.
-use Rattle.std.specs.Prelude.{ℕ, zero, suc, ◌+◌, ◌*◌, ◌≡◌, refl, Bool, true, false, List, [], ◌∷◌, ◌++◌, length, set, take, replicate, eqb}
+use Rattle.std.specs.Prelude.{ℕ, zero, suc, ◌+◌, ◌*◌, ◌≡◌, refl, Bool, true, false, List, [], ◌∷◌, ◌++◌, set, take, replicate, eqb}
 use Rattle.rules.specs.Base.{◌and◌, ◌or◌, if◌then◌else◌, upto, tab, every, any}
 use Rattle.rules.specs.Field.{Field, spans, cell_of, cell_to, leaves, con_of, near}
 use Rattle.rules.specs.Refusals.{good_cells, good_con, good_back, too_wide, too_many, wrong_length, wrong_cells, wrong_reach, wrong_back, refusal, too_short, too_far, region_refusal}

@@ -1,6 +1,6 @@
 // A group: the records that can be reached from one through neighbour lists.
 ghost use Rattle.std.specs.Prelude.{◌≡◌, [], ◌∷◌, ℕ, suc, ◌+◌, ◌-◌, ◌*◌, ◌≤◌, ◌<◌, get_or, set};
-ghost use Rattle.rules.specs.Records.{at as recOf};
+ghost use Rattle.rules.specs.Records.{at as rec_of};
 ghost use Rattle.rules.specs.Filter.{seen, reach, gather};
 ghost use Rattle.space.specs.Space.{Frame, stack_at};
 ghost use Rattle.table.specs.Map.{Names, visits_at, spare_at, lists_at};
@@ -60,7 +60,7 @@ pub(crate) fn enter(ws: &mut [u16], m: usize, i: usize)
     requires { Calm m ws.old × (i < m) × (get_or ws.old (visits_at m + i) 0 ≡ 0) }
     ensures waiting { Waiting m 1 ws.new × Found m 0 ws.new }
     ensures m_after { let records = recs_of ws.old m in
-        group_at ws.new m 1 0 ≡ record { todo = i ∷ []; recs = set records i (seen (recOf records i)); found = [] } }
+        group_at ws.new m 1 0 ≡ record { todo = i ∷ []; recs = set records i (seen (rec_of records i)); found = [] } }
     ensures frame { Frame (visits_at m) (found_at m) ws.old ws.new }
 {
     ws[WAITING * m] = i as u16;

@@ -1,6 +1,6 @@
 // What is done with a group once it is found.
 ghost use Rattle.std.specs.Prelude.{◌≡◌, ℕ, ◌+◌, ◌*◌, ◌≤◌, ◌<◌, get_or, set};
-ghost use Rattle.rules.specs.Records.{at as recOf};
+ghost use Rattle.rules.specs.Records.{at as rec_of};
 ghost use Rattle.rules.specs.Filter.{removed, total, remove_all};
 ghost use Rattle.space.specs.Space.{Frame};
 ghost use Rattle.table.specs.Map.{areas_at, spare_at, lists_at};
@@ -73,7 +73,7 @@ fn small(ws: &[u16], m: usize, f: usize, least: u16, count: usize) -> bool
 fn remove_one(ws: &mut [u16], m: usize, i: usize)
     requires { RecordsIn m ws.old × (i < m) }
     ensures m_after { let records = recs_of ws.old m in
-        recs_of ws.new m ≡ set records i (removed (recOf records i)) }
+        recs_of ws.new m ≡ set records i (removed (rec_of records i)) }
     ensures records_in { RecordsIn m ws.new × Frame 0 (areas_at m) ws.old ws.new }
 {
     ws[m + i] = 0;

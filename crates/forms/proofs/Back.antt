@@ -7,9 +7,9 @@ use mathlib.Core.Bool.{Bool, true, false, not}
 use mathlib.Core.List.{List, ◌++◌}
 use lib.ListN.{length, take, drop}
 use Rattle.rules.specs.Base.{◌and◌, if◌then◌else◌}
-use Rattle.rules.specs.Stored.{Run, old_bytes, old_fine, old_ids, runs_of, spread, longest, new_bytes, marks_fit, new_fine, new_runs, right_numbers, packed, unpacked, pack_refusal, read_refusal, given_out, pack_outcome, unpack_outcome}
+use Rattle.rules.specs.Stored.{old_bytes, old_fine, old_ids, runs_of, spread, longest, new_bytes, marks_fit, new_fine, new_runs, right_numbers, packed, unpacked, pack_refusal, read_refusal, given_out, pack_outcome, unpack_outcome}
 use Rattle.laws.proofs.Basics.{both, All}
-use Rattle.forms.proofs.Runs.{AllSized, spread_runs, longest_runs, sized_runs, runs_spread}
+use Rattle.forms.proofs.Runs.{spread_runs, longest_runs, sized_runs, runs_spread}
 use Rattle.forms.proofs.Bytes.{Byte, old_written, old_read, old_again, old_short, Reads, new_reads, Again, new_again, from_below, fit_below}
 use Rattle.forms.proofs.Room.{gives, given_done, accepted}
 

@@ -1,18 +1,18 @@
 -- Bytes and what they stand for: each form is read back as it was written, and written again as it was read.
 -- By induction over the records; a number of two bytes is its low byte and 256 times its high one. Assumes nothing.
-use Prim.Native.Nat.{ℕ, zero, suc, ◌+◌, ◌*◌, ◌/◌, ◌%◌, ◌≤◌, ◌<◌}
+use Prim.Native.Nat.{ℕ, suc, ◌+◌, ◌*◌, ◌/◌, ◌%◌, ◌≤◌, ◌<◌}
 use native.Mathlib.Omega.{arith}
 use native.Mathlib.Decide.{ℕ_discrete}
 use mathlib.Core.Path.{◌≡◌, refl, sym, ap, subst, ◌∙◌}
-use mathlib.Core.Bool.{Bool, true, false, false≢true}
+use mathlib.Core.Bool.{Bool, true, false≢true}
 use mathlib.Core.List.{List, [], ◌∷◌, ◌++◌}
 use lib.ListN.{length}
 use lib.Dec.{eqb, ltb, leb}
-use borrow.Author.Tests.{eqb-true, eqb-false, eq-eqb, ne_eqb, ltb-true, lt-ltb, leb-true, le-leb}
+use borrow.Author.Tests.{eqb-true, eq-eqb, ne_eqb, ltb-true, lt-ltb, leb-true, le-leb}
 use Rattle.rules.specs.Base.{◌and◌, if◌then◌else◌}
 use Rattle.rules.specs.Stored.{Run, two, four, four_of, span_record, old_bytes, old_fine, old_ids, run_record, mark_record, new_from, marks_fit, new_fine_from, new_fine, new_runs_from, right_from}
-use Rattle.laws.proofs.Basics.{both, and_both, if-ind, All, append_all}
-use Rattle.forms.proofs.Runs.{run, Sized, AllSized, sized-none, sized_cons, sized-first, sized_rest}
+use Rattle.laws.proofs.Basics.{both, and_both, if-ind, All}
+use Rattle.forms.proofs.Runs.{run, AllSized, sized-none, sized_cons, sized-first, sized_rest}
 
 -- a file's bytes
 abbrev pub Byte : ℕ → Type 0

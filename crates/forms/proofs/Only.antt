@@ -8,8 +8,8 @@ use mathlib.Core.List.{List, [], ◌∷◌}
 use lib.ListN.{length, get_or, drop, length-drop}
 use lib.Seq.{get_or-drop}
 use lib.Dec.{eqb, ltb, leb}
-use Rattle.rules.specs.Base.{◌and◌, if◌then◌else◌}
-use Rattle.rules.specs.Stored.{IdOutcome, four_of, marks_in, mark_at, halving, chosen, spans_before, within, id_at}
+use Rattle.rules.specs.Base.{if◌then◌else◌}
+use Rattle.rules.specs.Stored.{marks_in, mark_at, halving, chosen, spans_before, within, id_at}
 use Rattle.laws.proofs.Basics.{All}
 
 -- the kind 7 records that the halving looks at, by their stretches

@@ -2,16 +2,15 @@
 -- By induction over what comes after a run. Assumes nothing.
 use Prim.Native.Nat.{ℕ, zero, suc, ◌+◌, ◌-◌, ◌≤◌, ◌<◌}
 use native.Mathlib.Omega.{arith}
-use native.Mathlib.Nat.{add-zero}
 use native.Mathlib.Decide.{ℕ_discrete}
-use mathlib.Core.Path.{◌≡◌, refl, sym, ap, ◌∙◌}
-use mathlib.Core.Bool.{Bool, true, false, not, true≢false, false≢true}
-use mathlib.Core.List.{List, [], ◌∷◌, ◌++◌, append_assoc}
-use lib.ListN.{length, replicate, replicate-append-replicate}
+use mathlib.Core.Path.{◌≡◌, refl, ap, ◌∙◌}
+use mathlib.Core.Bool.{true, false, not}
+use mathlib.Core.List.{List, [], ◌∷◌, ◌++◌}
+use lib.ListN.{replicate}
 use lib.Dec.{eqb, ltb}
-use borrow.Author.Tests.{eqb-true, eq-eqb, ne_eqb, eqb-false, ltb-true, ltb-false, lt-ltb, le-ltb, not-true}
+use borrow.Author.Tests.{eqb-true, eq-eqb, ne_eqb, ltb-true, ltb-false, lt-ltb, le-ltb, not-true}
 use Rattle.rules.specs.Base.{◌and◌, ◌or◌, if◌then◌else◌}
-use Rattle.rules.specs.Stored.{Run, joins, runs_from, runs_of, spread, longest_after, longest, most_long}
+use Rattle.rules.specs.Stored.{Run, joins, runs_from, runs_of, spread, longest_after, longest}
 use Rattle.laws.proofs.Basics.{both, either, and_both, or_left, or_right, and_no, if-ind, All}
 
 -- a run of id x and length k

@@ -1,20 +1,20 @@
 -- "On every file that the full reader accepts, the answer equals the full reader's": id_at's rule and the full reader's give the same.
 -- In such a file the number after a stretch is that of the spans before the next; the halving leaves the stretch that holds the span. Assumes nothing.
-use Prim.Native.Nat.{ℕ, zero, suc, ◌+◌, ◌*◌, ◌-◌, ◌/◌, ◌%◌, ◌≤◌, ◌<◌}
+use Prim.Native.Nat.{ℕ, zero, suc, ◌+◌, ◌*◌, ◌/◌, ◌%◌, ◌≤◌, ◌<◌}
 use native.Mathlib.Omega.{arith}
-use native.Mathlib.Decide.{ℕ_discrete, dec_lt}
+use native.Mathlib.Decide.{dec_lt}
 use mathlib.Core.Path.{◌≡◌, refl, sym, ap, subst, ◌∙◌}
-use mathlib.Core.Bool.{Bool, true, false, true≢false, false≢true}
-use mathlib.Core.List.{List, [], ◌∷◌, ◌++◌}
+use mathlib.Core.Bool.{Bool, true, false, false≢true}
+use mathlib.Core.List.{List, [], ◌∷◌}
 use lib.ListN.{length, get_or, drop, length-drop}
 use lib.Seq.{drop-drop, get_or-drop}
 use lib.Dec.{eqb, ltb, leb}
-use borrow.Author.Tests.{eqb-true, eqb-false, eq-eqb, ne_eqb, ltb-true, ltb-false, lt-ltb, le-ltb, leb-true, leb-false}
+use borrow.Author.Tests.{eqb-true, eq-eqb, ne_eqb, ltb-true, ltb-false, le-ltb, leb-true, leb-false}
 use Rattle.rules.specs.Base.{◌and◌, if◌then◌else◌}
 use Rattle.rules.specs.Stored.{Run, IdOutcome, four_of, new_fine_from, new_fine, new_runs_from, new_runs, right_from, right_numbers, read_refusal, seek, marks_in, mark_at, halving, chosen, spans_before, within, id_at, id_whole}
 use Rattle.laws.proofs.Basics.{both, if-ind}
 use Rattle.forms.proofs.Bytes.{new_length}
-use Rattle.forms.proofs.Back.{Read, read_fine}
+use Rattle.forms.proofs.Back.{read_fine}
 use Rattle.forms.proofs.Told.{found}
 
 -- the full reader from a record on: where 64 runs of a stretch are before it, the next run is one of the next stretch

@@ -26,8 +26,8 @@ pub fn merge_and_filter_regions(
     merge_region_size: u16,
 ) -> Regions
     requires { Ready m n ws.old ids.old }
-    ensures { record { ids = ids.exit.now; most = result.max_region; over = result.overlaps; cut = result.cut }
-        ≡ numbered (merged merge_region_size (suc m) (filtered min_region_area (recs_of ws.old m))) ids.entry.now }
+    ensures { record { ids = ids.new; most = result.max_region; over = result.overlaps; cut = result.cut }
+        ≡ numbered (merged merge_region_size (suc m) (filtered min_region_area (recs_of ws.old m))) ids.old }
 {
     filter(ws, m, min_region_area);
     merge_all(ws, m, n, merge_region_size);
@@ -46,8 +46,8 @@ fn filter_in(ws: &mut [u16], end: usize, m: usize, least: u16, r: usize) -> usiz
 fn number_in(ids: &mut [u16], ws: &mut [u16], end: usize, m: usize) -> Regions
     requires { (end ≤ length ws.old) × Column m (spare_at m) (take end ws.old) × Blank m (spare_at m) (take end ws.old)
         × Spans m ids.old × (pool_at m ≤ end) }
-    ensures cut_value { record { ids = ids.exit.now; most = result.max_region; over = result.overlaps; cut = result.cut }
-        ≡ numbered (recs_of (take end ws.old) m) ids.entry.now }
+    ensures cut_value { record { ids = ids.new; most = result.max_region; over = result.overlaps; cut = result.cut }
+        ≡ numbered (recs_of (take end ws.old) m) ids.old }
     ensures ws_unchanged { drop end ws.new ≡ drop end ws.old }
 {
     number(ids, &mut ws[..end], m)
@@ -75,8 +75,8 @@ pub fn merge_and_filter_told(
 ) -> Told
     requires { (end + 2 * m ≤ length ws.old) × Ready m n (take end ws.old) ids.old × (r < m) }
     ensures { (let g = result.regions in
-        let found : rules.Regions = record { ids = ids.exit.now; most = g.max_region; over = g.overlaps; cut = g.cut } in
-        ToldRegions min_region_area merge_region_size m end r ws.old ids.entry.now ws.new found
+        let found : rules.Regions = record { ids = ids.new; most = g.max_region; over = g.overlaps; cut = g.cut } in
+        ToldRegions min_region_area merge_region_size m end r ws.old ids.old ws.new found
         result.id result.group result.merges) }
 {
     let group = filter_in(ws, end, m, min_region_area, r);

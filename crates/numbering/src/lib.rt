@@ -90,8 +90,8 @@ pub struct Regions {
 // Numbers the records, and writes each span's number.
 pub fn number(ids: &mut [u16], ws: &mut [u16], m: usize) -> Regions
     requires { Column m (spare_at m) ws.old × Blank m (spare_at m) ws.old × Spans m ids.old × (pool_at m ≤ length ws.old) }
-    ensures cut_value { record { ids = ids.exit.now; most = result.max_region; over = result.overlaps; cut = result.cut }
-        ≡ numbered (recs_of ws.old m) ids.entry.now }
+    ensures cut_value { record { ids = ids.new; most = result.max_region; over = result.overlaps; cut = result.cut }
+        ≡ numbered (recs_of ws.old m) ids.old }
     ensures frame { Frame (spare_at m) (spare_at m + m) ws.old ws.new }
 {
     let flags = OVERLAPS * m;

@@ -11,7 +11,7 @@ use mathlib.Core.List.{List, [], ◌∷◌, map}
 use lib.ListN.{length, get_or, length-map, get_or-map}
 use lib.Dec.{eqb}
 use borrow.Author.Tests.{eqb-true, eqb-false, eq-eqb, le-leb, lt-leb}
-use Rattle.rules.specs.Base.{◌and◌, if◌then◌else◌, upto, any}
+use Rattle.rules.specs.Base.{if◌then◌else◌, upto, any}
 use Rattle.rules.specs.Field.{Field, Bytes, spans}
 use Rattle.rules.specs.Net.{net_of}
 use Rattle.rules.specs.Growth.{flagged, plain, first_id, grown, stops}

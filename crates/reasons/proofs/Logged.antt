@@ -15,7 +15,7 @@ use borrow.Author.Tests.{eqb-true, eqb-false, eq-eqb, ne_eqb, lt-leb, not-true}
 use Rattle.rules.specs.Base.{◌and◌, if◌then◌else◌, upto, any}
 use Rattle.rules.specs.Field.{Field, Bytes, none}
 use Rattle.rules.specs.Net.{Net, net_of, spans, near, area_of}
-use Rattle.rules.specs.Growth.{Marks, id_of, put, flagged, painted, first_id, blank, takes, finds, Spread, round, rounds, expand, Seed, Flow, other, objects, pushed, visit, flow, flood, Ids, floods, floods_run_out, Turn, loaded, turn, turn_stops, stops}
+use Rattle.rules.specs.Growth.{Marks, id_of, put, flagged, painted, first_id, takes, finds, Spread, round, rounds, expand, Seed, Flow, other, objects, pushed, visit, flow, flood, Ids, floods, floods_run_out, Turn, loaded, turn, turn_stops, stops}
 use Rattle.rules.specs.Records.{has}
 use Rattle.rules.specs.Reasons.{Story, begins, took_from, gave_back, source, objecting, round_tells, rounds_tell, expand_tells, visit_tells, flow_tells, flood_tells, floods_tell, turn_tells, turns_tell, story}
 use Rattle.laws.proofs.Basics.{both, neither, and_both, if-ind, upto-ind, All, get_or-set_cases}

@@ -6,7 +6,7 @@ use Rattle.rules.specs.Base.{upto}
 use Rattle.rules.specs.Net.{Net}
 use Rattle.rules.specs.Growth.{Turn, turn}
 use Rattle.rules.specs.Reasons.{Story, turn_tells, turns_tell}
-use Rattle.reasons.specs.Traced.{Told, turn_told}
+use Rattle.reasons.specs.Traced.{turn_told}
 
 told_next : (N : Net) (dist : List ℕ) (top k : ℕ) (t : Turn) (y : Story) → turn_told N dist top k (record { turn = t; story = y }) ≡ record { turn = turn N dist top k t; story = turn_tells N dist top k t y }
 unfolding turn_told

@@ -11,7 +11,7 @@ use lib.Dec.{eqb}
 use borrow.Author.Tests.{eq-eqb, ne_eqb, eqb-false, not-false}
 use Rattle.rules.specs.Base.{if◌then◌else◌, upto}
 use Rattle.rules.specs.Records.{Rec, fresh, at, has}
-use Rattle.rules.specs.Merge.{Pick, picked, Merge, merge_one, merged}
+use Rattle.rules.specs.Merge.{picked, Merge, merge_one, merged}
 use Rattle.rules.specs.Reasons.{Merging, merge_tells, round_merges, mergings, trail}
 use Rattle.laws.proofs.Basics.{both, neither, if-ind, upto-ind, tally}
 use Rattle.laws.proofs.MergeEnds.{Live, Ready, spanned, spanned_yes, Falls, one_falls, round_falls, picked-live, has-none}

@@ -72,9 +72,9 @@ fn lower_ids(ids: &mut [u16], d: u16)
 // Numbers of the compared form, in the form that is asked for. The ids in use are those from the first on, all up to the last but one number
 // given, so the dense form is the compared one less what comes before.
 pub(crate) fn give_form(form: Form, border_size: u16, ids: &mut [u16], r: Regions) -> Regions
-    ensures { record { ids = ids.exit.now; most = result.max_region; over = result.overlaps; cut = result.cut }
+    ensures { record { ids = ids.new; most = result.max_region; over = result.overlaps; cut = result.cut }
         ≡ shifted (form_of form) (first_id border_size)
-        (record { ids = ids.entry.now; most = r.max_region; over = r.overlaps; cut = r.cut }) }
+        (record { ids = ids.old; most = r.max_region; over = r.overlaps; cut = r.cut }) }
 {
     let first = first_id(border_size);
     match form {

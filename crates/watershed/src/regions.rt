@@ -200,8 +200,8 @@ fn find_regions(
     ensures fact { (let F = lent w h index.now count.now area.now con.now in
         let z : Sizes = record { border = border_size; least = min_region_area; merge = merge_region_area } in
         let v = result.regions in
-        let found : rules.Regions = record { ids = ids.exit.now; most = v.max_region; over = v.overlaps; cut = v.cut } in
-        Finds F dist.now max_distance z ids.entry.now result.stop found) }
+        let found : rules.Regions = record { ids = ids.new; most = v.max_region; over = v.overlaps; cut = v.cut } in
+        Finds F dist.now max_distance z ids.old result.stop found) }
     ensures ws_after { ws.new ≡ replicate (length ws.old) 0 }
     ensures bytes { Bytes (lent w h index.now count.now area.now con.now) }
 {

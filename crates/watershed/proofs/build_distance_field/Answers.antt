@@ -20,7 +20,7 @@ returns-in-Refused c = record {
 }
 
 pub returns-in-Sound : goal.returns-in-Sound
-returns-in-Sound c = let bytes : (i : ℕ) → get_or c.args.area.now i 0 < 256 = λ i. omega (arith, c.shared_slice_known-3-1.given i) in
+returns-in-Sound c = let bytes : (i : ℕ) → get_or c.args.area.now i 0 < 256 = λ i. omega (arith, c.type_inv.area i) in
     record {
       fact = search (rules, done_out);
       meaning = search (rules, done_means, bytes);

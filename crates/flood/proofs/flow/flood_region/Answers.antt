@@ -56,7 +56,7 @@ loop-height-init c = let room : c.args.at.stack + length c.args.area.now ≤ len
     (start_flooding _ _ _ _ _ _ c.requires.lent.1.idents c.requires.lent.1.low room c.requires.begins.0 c.requires.begins.1)
 
 pub visit-v-requires : goal.visit-v-requires
-visit-v-requires c = let byte : get_or c.args.area.now c.args.from.0 0 < 256 = omega (arith, c.shared_slice_known-4-1.given c.args.from.0) in
+visit-v-requires c = let byte : get_or c.args.area.now c.args.from.0 0 < 256 = omega (arith, c.type_inv.area c.args.from.0) in
     record {
       lent = (c.loop-height.invariant.running.lent, c.loop-height.invariant.running.placed);
       flooding = (c.loop-height.invariant.running.flooding, c.loop-height-test.true);
@@ -64,11 +64,11 @@ visit-v-requires c = let byte : get_or c.args.area.now c.args.from.0 0 < 256 = o
     }
 
 pub loop-height-smaller : goal.loop-height-smaller
-loop-height-smaller c = let byte : get_or c.args.area.now c.args.from.0 0 < 256 = omega (arith, c.shared_slice_known-4-1.given c.args.from.0) in
+loop-height-smaller c = let byte : get_or c.args.area.now c.args.from.0 0 < 256 = omega (arith, c.type_inv.area c.args.from.0) in
     running_falls _ _ _ _ _ _ _ _ _ _ c.loop-height.invariant.running c.requires.begins.0.some byte c.loop-height-test.true _ _ _ c.visit-v.ensures.height_after
 
 pub loop-height-preserved : goal.loop-height-preserved
-loop-height-preserved c = let byte : get_or c.args.area.now c.args.from.0 0 < 256 = omega (arith, c.shared_slice_known-4-1.given c.args.from.0) in
+loop-height-preserved c = let byte : get_or c.args.area.now c.args.from.0 0 < 256 = omega (arith, c.type_inv.area c.args.from.0) in
     telling_on _ _ _ _ _ _ _ _ _ _ _ _ c.loop-height.invariant c.requires.begins.0.some byte c.loop-height-test.true _ _ _ c.visit-v.ensures.height_after
     c.visit-v.auto.ids c.visit-v.ensures.fact.0 c.visit-v.ensures.fact.1 _ c.visit-v.ensures.story_value
 

@@ -34,7 +34,7 @@ neighbour-requires c = let inside : c.neighbour-t.result.0 < length c.args.area.
     (c.requires.0.place, omega (arith, inside, net_few _ _ _ c.requires.0.closed), turned _ _, omega (arith, inside, c.requires.0.room, turned c.args.d 1))
 
 pub overflow_cast-result-2 : goal.overflow_cast-result-2
-overflow_cast-result-2 c = omega (arith, c.neighbour.ensures, c.shared_slice_known-3-1.given (c.args.table + (4 * c.neighbour-t.result.0 + (c.args.d + 1) % 4)))
+overflow_cast-result-2 c = omega (arith, c.neighbour.ensures, c.type_inv.ws (c.args.table + (4 * c.neighbour-t.result.0 + (c.args.d + 1) % 4)))
 
 pub returns : goal.returns
 returns c = let inside : c.neighbour-t.result.0 < length c.args.area.now = net_inside _ _ _ _ _ _ c.requires.0.closed c.requires.0.room c.requires.0.span c.requires.2 c.neighbour-t.ensures c.if-t-eq-NO_SPAN.false in

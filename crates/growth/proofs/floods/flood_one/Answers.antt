@@ -37,7 +37,7 @@ flood_region-f-requires c = let inside : c.args.entry < length c.args.area.now =
 
 pub returns-then-f-eq0 : goal.returns-then-f-eq0
 returns-then-f-eq0 c = let inside : c.args.entry < length c.args.area.now = c.requires.span c.if-entry-eq-NO_SPAN.false in
-    let byte : get_or c.args.area.now c.args.entry 0 < 256 = omega (arith, c.shared_slice_known-1.given c.args.entry) in
+    let byte : get_or c.args.area.now c.args.entry 0 < 256 = omega (arith, c.type_inv.area c.args.entry) in
     record {
       next_after = failed_one _ _ _ _ _ _ _ _ _ _ _ c.flood_region-f.ensures.count_after c.if-ids-entry.false c.if-entry-eq-NO_SPAN.false c.if-f-eq0.true;
       fact = (c.flood_region-f.ensures.fact.0, omega (arith, c.requires.blank.1.plain), λ _. failed_below _ _ _ _ _ _ _ _ _ _ _ c.flood_region-f.ensures.count_after c.if-ids-entry.false c.requires.blank.1 inside byte c.if-f-eq0.true);
@@ -49,7 +49,7 @@ overflow_add-result c = omega (arith, c.requires.blank.1.plain)
 
 pub returns : goal.returns
 returns c = let inside : c.args.entry < length c.args.area.now = c.requires.span c.if-entry-eq-NO_SPAN.false in
-    let byte : get_or c.args.area.now c.args.entry 0 < 256 = omega (arith, c.shared_slice_known-1.given c.args.entry) in
+    let byte : get_or c.args.area.now c.args.entry 0 < 256 = omega (arith, c.type_inv.area c.args.entry) in
     record {
       next_after = won_one _ _ _ _ _ _ _ _ _ _ _ c.flood_region-f.ensures.count_after c.if-ids-entry.false c.if-entry-eq-NO_SPAN.false c.if-f-eq0.false;
       fact = (c.flood_region-f.ensures.fact.0, omega (arith, c.requires.blank.1.plain), λ p. won_below _ _ _ _ _ _ _ _ _ _ _ c.flood_region-f.ensures.count_after c.if-ids-entry.false c.requires.blank.1 inside byte c.if-f-eq0.false p);

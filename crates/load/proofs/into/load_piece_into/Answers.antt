@@ -6,11 +6,11 @@ use Rattle.load.proofs.into.load_piece_into.Goals as goal
 pub returns-then-loader-ne-NUMBERS : goal.returns-then-loader-ne-NUMBERS
 returns-then-loader-ne-NUMBERS c = record {
   fact = search piece_3;
-  bytes = record { small = (λ i. omega (arith, c.shared_slice_known-1.given i)) };
+  bytes = record { small = (λ i. omega (arith, c.type_inv.piece i)) };
 }
 
 pub returns : goal.returns
 returns c = record {
   fact = search piece_given;
-  bytes = record { small = (λ i. omega (arith, c.shared_slice_known-1.given i)) };
+  bytes = record { small = (λ i. omega (arith, c.type_inv.piece i)) };
 }

@@ -4,7 +4,7 @@ use Rattle.watershed.proofs.FormLaws.{form_compared, form_dense}
 use Rattle.watershed.proofs.form.give_form.Goals as goal
 
 pub returns-in-Compared : goal.returns-in-Compared
-returns-in-Compared c = form_compared _ _ _ _ _ _ c.enum_told-1.given.1
+returns-in-Compared c = form_compared _ _ _ _ _ _ c.in-Compared.is
 
 pub returns-in-Dense : goal.returns-in-Dense
-returns-in-Dense c = form_dense _ _ _ _ _ _ c.enum_told-in-Dense-1.given.1 _ _ _ _ c.first_id-first.ensures c.less.ensures c.lower_ids.ensures c.less-in-Dense.ensures
+returns-in-Dense c = form_dense _ _ _ _ _ _ c.in-Dense.is _ _ _ _ c.first_id-first.ensures c.less.ensures c.lower_ids.ensures c.less-in-Dense.ensures

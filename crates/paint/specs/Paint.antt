@@ -1,5 +1,5 @@
 -- Painting over the spans of some cells, and what the code needs of the field for it.
-use Rattle.std.specs.Prelude.{◌≡◌, Bool, not, List, ℕ, ◌-◌, ◌/◌, ◌%◌, length, get_or, eqb, leb, ltb}
+use Rattle.std.specs.Prelude.{◌≡◌, Bool, not, List, ℕ, ◌/◌, ◌%◌, length, get_or, eqb, leb, ltb}
 use Rattle.rules.specs.Base.{◌and◌, if◌then◌else◌, tab}
 use Rattle.rules.specs.Field.{Field, spans, cell_of}
 use Rattle.rules.specs.Refusals.{refusal}

@@ -2,6 +2,7 @@ pub mod FarLaws
 pub mod FormLaws
 pub mod Handover
 pub mod Meaning
+pub mod Meant
 pub mod Outcome
 pub mod RegionOutcome
 pub mod Rooms

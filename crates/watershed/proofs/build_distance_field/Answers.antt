@@ -1,6 +1,6 @@
 -- The two arms are the two cases of the outcome. A sound verdict gives what the stages require; a refusal is given before anything is written.
 use Rattle.watershed.proofs.Outcome.{refused_out, sound_reached, sound_raw, sound_blurred, raw-sized, done_out}
-use Rattle.watershed.proofs.Meaning.{refused_no_meaning, done_means}
+use Rattle.watershed.proofs.Meant.{refused_no_meaning, done_means}
 use Prim.Native.Nat.{ℕ, ◌<◌}
 use native.Mathlib.Omega.{arith}
 use lib.ListN.{get_or}

@@ -1,6 +1,6 @@
 -- A build's lists are fixed: a row of pass 1 or of pass 2, worked out again from the build's own lists, comes out as it is.
 -- A row is not touched after its turn, so what it was made from is still there.
-use Prim.Native.Nat.{ℕ, zero, suc, ◌*◌, ◌≤◌, ◌<◌}
+use Prim.Native.Nat.{ℕ, zero, suc, ◌≤◌, ◌<◌}
 use native.Mathlib.Omega.{arith}
 use native.Mathlib.Decide.{dec_lt, ℕ_discrete}
 use mathlib.Core.Path.{◌≡◌, refl, sym, ◌∙◌}

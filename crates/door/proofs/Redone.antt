@@ -1,6 +1,6 @@
 -- Where the stored lists are those of the field before the edit, pass 1, pass 2 and the blur come to those of the field after it.
 -- The rows redone are right, since the row beside is; once a row past the edit comes out as stored, all further rows start from what they started from.
-use Prim.Native.Nat.{ℕ, zero, suc, ◌+◌, ◌*◌, ◌-◌, ◌/◌, ◌≤◌, ◌<◌}
+use Prim.Native.Nat.{ℕ, zero, suc, ◌+◌, ◌*◌, ◌-◌, ◌≤◌, ◌<◌}
 use native.Mathlib.Omega.{arith}
 use native.Mathlib.Decide.{dec_lt, ℕ_discrete}
 use mathlib.Core.Path.{◌≡◌, refl, sym, ap, ◌∙◌}
@@ -10,7 +10,7 @@ use mathlib.Core.List.{List}
 use lib.ListN.{length, get_or}
 use lib.Dec.{leb}
 use borrow.Author.Tests.{eqb-true, leb-true}
-use Rattle.rules.specs.Base.{◌and◌, if◌then◌else◌}
+use Rattle.rules.specs.Base.{◌and◌}
 use Rattle.rules.specs.Field.{Field, spans, near, corner, con_of, cell_of}
 use Rattle.rules.specs.Distance.{start, far, lower, pass1, raw, term, greatest, blur_at, blur}
 use Rattle.rules.specs.Rows.{over_cell, column, row_up, row_down, pass1_row, pass2_row, blur_to, blur_row}

@@ -1,7 +1,7 @@
 -- What an entry finds, as the code tests it, and what the rule makes of it. Assumes nothing.
-use mathlib.Core.Path.{◌≡◌, refl, ◌∙◌}
+use mathlib.Core.Path.{◌≡◌, ◌∙◌}
 use mathlib.Core.Bool.{true, false, not, false≢true}
-use mathlib.Core.List.{List, ◌∷◌}
+use mathlib.Core.List.{List}
 use Prim.Native.Nat.{ℕ, ◌<◌}
 use lib.ListN.{get_or}
 use lib.Dec.{eqb}
@@ -9,7 +9,7 @@ use borrow.Author.Tests.{eq-eqb, ne_eqb}
 use Rattle.rules.specs.Base.{◌and◌, if◌then◌else◌}
 use Rattle.rules.specs.Field.{none}
 use Rattle.rules.specs.Net.{Net}
-use Rattle.rules.specs.Growth.{Marks, put, finds, takes, wrote, written}
+use Rattle.rules.specs.Growth.{Marks, put, finds, takes, wrote}
 use Rattle.laws.proofs.Basics.{and_no}
 use Rattle.expand.specs.Layout.{left}
 

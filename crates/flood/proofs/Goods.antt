@@ -10,7 +10,6 @@ use lib.ListN.{length, get_or, set, length-set}
 use lib.Seq.{get_or-set_same, get_or-set_other}
 use lib.Dec.{eqb}
 use borrow.Author.Tests.{eqb-true, eqb-false, eq-eqb, ne_eqb}
-use Rattle.rules.specs.Base.{◌and◌}
 use Rattle.rules.specs.Net.{Net, spans, near}
 use Rattle.rules.specs.Growth.{id_of, put, Seed, Flow, objects, pushed, visit}
 use Rattle.laws.proofs.Basics.{both, if-ind, upto-ind}

@@ -1,7 +1,7 @@
 -- A push as the code makes it: under what it has tested, the flow afterwards is the rule's `pushed`; and the stack keeps room.
 -- It holds because a missing neighbour has no area, and a pushed span had another id before (`tally_room`). Assumes nothing.
 use mathlib.Core.Path.{◌≡◌, refl, sym, ap, ◌∙◌}
-use mathlib.Core.Logic.{⊎_elim, ◌⊎◌, inl, inr}
+use mathlib.Core.Logic.{⊎_elim, inl, inr}
 use mathlib.Core.Bool.{false}
 use mathlib.Core.List.{List, ◌∷◌}
 use Prim.Native.Nat.{ℕ, ◌+◌, ◌*◌, ◌≤◌, ◌<◌}

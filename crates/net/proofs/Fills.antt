@@ -13,7 +13,6 @@ use lib.ListN.{length, get_or, set, length-set}
 use borrow.Author.Tests.{eq-eqb}
 use lib.Seq.{get_or-set_same, get_or-set_other, ext_get_or}
 use Rattle.rules.specs.Field.{Field, near, con_of}
-use Rattle.rules.specs.Field as field
 use Rattle.rules.specs.Net.{neighbours_of, net_of}
 use Rattle.rules.specs.Net as net
 use Rattle.rules.specs.Base.{if◌then◌else◌, upto}

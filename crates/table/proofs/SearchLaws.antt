@@ -8,7 +8,7 @@ use mathlib.Core.Bool.{Bool, true, false, false≢true}
 use mathlib.Core.List.{List, [], ◌∷◌}
 use lib.ListN.{drop_of_length-le, length, get_or, take, drop, length-drop}
 use lib.Seq.{drop-cons, drop-drop, take-length}
-use lib.Dec.{eqb, ltb}
+use lib.Dec.{ltb}
 use borrow.Author.Tests.{eq-eqb, ne_eqb, lt-ltb, le-ltb}
 use Rattle.rules.specs.Base.{◌or◌, if◌then◌else◌, any}
 use Rattle.rules.specs.Merge.{place}

@@ -1,6 +1,5 @@
 -- The answers that the check does not find alone.
 use Rattle.rules.specs.Base.{upto}
-use Rattle.rules.specs.Rows.{from_start}
 use Rattle.distance.proofs.Walks.{row_fits, column_fits, column_in, column_indexed, cell-end}
 use Rattle.distance.proofs.Bounds.{layer_stood, room_left, room_up, passing_in, start_go, passing_go, layers_go, passing_end}
 use borrow.Author.Rules.{rules}

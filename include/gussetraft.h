@@ -1,5 +1,5 @@
 /* Gussetraft: the watershed part of a navigation library, proved. Link with the archive of your target (tools/targets; for x86-64 Linux also
- * rt staticlib gussetraft); from outside it calls memset alone, on macOS bzero.
+ * tools/archive); from outside it calls memset alone, on macOS bzero.
  *
  * A field is w by h cells, row by row (x fastest), each an index and a count, and n spans, n being area_len: an area byte (0: not
  * walkable) and four connection bytes each, in direction order (-1,0), (0,1), (1,0), (0,-1); GUSSETRAFT_NO_CONNECTION is none,

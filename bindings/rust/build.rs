@@ -1,5 +1,5 @@
 //! Finds the archive of the target: in the folder that GUSSETRAFT_LIB_DIR names; otherwise where `tools/targets` writes it, and for x86-64 Linux first where
-//! `rt staticlib gussetraft` does, which is never older.
+//! `tools/archive` does, which is never older.
 
 use std::{
     env,

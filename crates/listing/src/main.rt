@@ -5,70 +5,62 @@
 #![tactic(auto)]
 
 use answer::reply;
+use console::{arg, arg_count, buffer, fail, read_first, text};
 use file::read::{FilePlace, place};
-use libc::{STDERR_FILENO, STDIN_FILENO, STDOUT_FILENO};
+use std::fs;
+use std::io::{Read, Result};
+use std::rt::{Env, Files};
 
-// Can there be more, or is it the end? A read that fails is told, by name.
-fn is_read(fd: i32, name: &[u8]) -> bool {
-    let mut one = [0u8; 1];
-    if libc::read(fd, &mut one) < 0 {
-        os::fail(name);
-        return false;
-    }
-    true
-}
-
-fn print_reply(bytes: &[u8]) {
+fn print_reply(rt: &impl Print, bytes: &[u8]) -> Result<()> {
     let mut out = [0u8; 4096];
     let n = reply(bytes, &mut out);
-    io::write_all(STDOUT_FILENO, &out[..n]);
+    rt.write_all(&out[..n])
 }
 
-fn tell_place(bytes: &[u8]) {
+fn tell_place(rt: &impl Eprint, bytes: &[u8]) -> Result<()> {
     match place(bytes) {
-        FilePlace::At(p) => {
-            io::write_all(STDERR_FILENO, b"position ");
-            io::print_decimal(STDERR_FILENO, p as u64);
-            io::write_all(STDERR_FILENO, b"\n");
+        FilePlace::At(p) => eprintln!(rt; "position {p}"),
+        FilePlace::Nowhere => Ok(()),
+    }
+}
+
+// A read that fails is told, by name.
+fn print_file(rt: &(impl Print + Eprint + Alloc), from: &mut impl Read, name: &str) -> Result<()> {
+    let mut bytes = buffer();
+    match read_first(from, &mut bytes) {
+        Ok(n) => {
+            print_reply(rt, &bytes[..n])?;
+            tell_place(rt, &bytes[..n])
         }
-        FilePlace::Nowhere => {}
+        Err(e) => fail(rt, name, &e),
     }
 }
 
-fn print_file(fd: i32, name: &[u8]) {
-    let mut bytes = io::buffer();
-    let n = io::read_full(fd, &mut bytes);
-    if is_read(fd, name) {
-        print_reply(&bytes[..n]);
-        tell_place(&bytes[..n]);
+fn print_at(rt: &(impl Files + Print + Eprint + Alloc), path: &str) -> Result<()> {
+    match fs::open(rt, path) {
+        Ok(mut file) => print_file(rt, &mut file, path),
+        Err(e) => fail(rt, path, &e),
     }
 }
 
-fn print_named() {
-    let mut path = io::buffer();
-    let n = os::arg(1, &mut path);
-    if os::errno() != 0 {
-        os::fail(b"the file's name");
-        return;
+fn print_named(rt: &(impl Env + Files + Print + Eprint + Alloc)) -> Result<()> {
+    let mut path = buffer();
+    match arg(rt, 1, &mut path) {
+        Ok(n) => match text(&path[..n]) {
+            Ok(name) => print_at(rt, name),
+            Err(e) => fail(rt, "the file's name", &e),
+        },
+        Err(e) => fail(rt, "the file's name", &e),
     }
-    let fd = os::open_read(&path[..n]);
-    if fd < 0 {
-        os::fail(&path[..n]);
-        return;
-    }
-    print_file(fd, &path[..n]);
-    libc::close(fd);
 }
 
-fn main() {
-    let n = os::arg_count();
+fn main(rt: HostRuntime) -> Result<()> {
+    let n = arg_count(&rt);
     if n < 2 {
-        print_file(STDIN_FILENO, b"standard input");
-        return;
+        return print_file(&rt, &mut rt.stdin(), "standard input");
     }
     if 2 < n {
-        io::write_all(STDERR_FILENO, b"usage: listing [FILE]\n");
-        return;
+        return eprintln!(rt; "usage: listing [FILE]");
     }
-    print_named();
+    print_named(&rt)
 }

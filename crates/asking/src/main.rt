@@ -14,57 +14,51 @@ ghost use Rattle.std.specs.Prelude.{◌≤◌};
 
 use crate::place::{Asked, NO_NUMBER, number};
 use crate::whole::tell_file;
+use console::{arg, arg_count, buffer, fail, read_first};
 use file::read::{FilePlace, place};
-use libc::{STDERR_FILENO, STDIN_FILENO};
+use std::io::{Read, Result};
+use std::rt::Env;
 
-// Can there be more, or is it the end? A read that fails is told.
-fn is_read() -> bool {
-    let mut one = [0u8; 1];
-    if libc::read(STDIN_FILENO, &mut one) < 0 {
-        os::fail(b"standard input");
-        return false;
-    }
-    true
-}
-
-fn tell_place(bytes: &[u8]) {
+fn tell_place(rt: &impl Eprint, bytes: &[u8]) -> Result<()> {
     match place(bytes) {
-        FilePlace::At(p) => {
-            io::write_all(STDERR_FILENO, b"position ");
-            io::print_decimal(STDERR_FILENO, p as u64);
-            io::write_all(STDERR_FILENO, b"\n");
-        }
-        FilePlace::Nowhere => {}
+        FilePlace::At(p) => eprintln!(rt; "position {p}"),
+        FilePlace::Nowhere => Ok(()),
     }
 }
 
-fn tell_input(asked: Asked) {
-    let mut bytes = io::buffer();
-    let n = io::read_full(STDIN_FILENO, &mut bytes);
-    if is_read() {
-        tell_file(&bytes[..n], asked);
-        tell_place(&bytes[..n]);
+// A read that fails is told.
+fn tell_input(
+    rt: &(impl Print + Eprint + Alloc),
+    from: &mut impl Read,
+    asked: Asked,
+) -> Result<()> {
+    let mut bytes = buffer();
+    match read_first(from, &mut bytes) {
+        Ok(n) => {
+            tell_file(rt, &bytes[..n], asked)?;
+            tell_place(rt, &bytes[..n])
+        }
+        Err(e) => fail(rt, "standard input", &e),
     }
 }
 
 // Argument k as a number.
-fn argument(k: usize) -> u32 {
-    let mut text = io::buffer();
-    let n = os::arg(k, &mut text);
-    if os::errno() != 0 {
-        return NO_NUMBER;
+fn argument(rt: &impl Env, k: usize) -> u32 {
+    let mut text = buffer();
+    match arg(rt, k, &mut text) {
+        Ok(n) => number(&text[..n]),
+        Err(_) => NO_NUMBER,
     }
-    number(&text[..n])
 }
 
-fn main() {
-    if os::arg_count() != 4 {
-        io::write_all(STDERR_FILENO, b"usage: asking X Z LAYER <FILE\n");
-        return;
+fn main(rt: HostRuntime) -> Result<()> {
+    if arg_count(&rt) != 4 {
+        return eprintln!(rt; "usage: asking X Z LAYER <FILE");
     }
-    tell_input(Asked {
-        x: argument(1),
-        z: argument(2),
-        layer: argument(3),
-    });
+    let asked = Asked {
+        x: argument(&rt, 1),
+        z: argument(&rt, 2),
+        layer: argument(&rt, 3),
+    };
+    tell_input(&rt, &mut rt.stdin(), asked)
 }

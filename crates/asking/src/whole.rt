@@ -7,9 +7,11 @@ use crate::place::{Asked, Found, find};
 use crate::print::{print_number, print_refused, print_told, print_two};
 use checker::refusal_number;
 use file::read::{FileReading, Header, file_number, read_file};
+use std::io::Result;
 use watershed::{DistanceAnswer, build_distance_field, explain_span};
 
 fn tell_span(
+    rt: &impl Print,
     head: Header,
     span: u32,
     index: &[u32],
@@ -20,7 +22,7 @@ fn tell_span(
     max_distance: u16,
     workspace: &mut [u16],
     trail: &mut [u16],
-) {
+) -> Result<()> {
     let e = explain_span(
         head.w,
         head.h,
@@ -38,13 +40,13 @@ fn tell_span(
         trail,
     );
     if e.refusal != 0 {
-        print_refused(e.refusal);
-        return;
+        return print_refused(rt, e.refusal);
     }
-    print_told(head.w, count, e, trail);
+    print_told(rt, head.w, count, e, trail)
 }
 
 fn tell_found(
+    rt: &impl Print,
     head: Header,
     found: Found,
     index: &[u32],
@@ -55,11 +57,12 @@ fn tell_found(
     max_distance: u16,
     workspace: &mut [u16],
     trail: &mut [u16],
-) {
+) -> Result<()> {
     match found {
-        Found::NoCell => print_two(b"no_cell", head.w, head.h),
-        Found::NoLayer(layers) => print_number(b"no_layer", layers as u16),
+        Found::NoCell => print_two(rt, "no_cell", head.w, head.h),
+        Found::NoLayer(layers) => print_number(rt, "no_layer", layers as u16),
         Found::Span(span) => tell_span(
+            rt,
             head,
             span,
             index,
@@ -75,6 +78,7 @@ fn tell_found(
 }
 
 fn tell_field(
+    rt: &impl Print,
     head: Header,
     asked: Asked,
     index: &[u32],
@@ -85,13 +89,13 @@ fn tell_field(
     blurred: &mut [u16],
     workspace: &mut [u16],
     trail: &mut [u16],
-) {
+) -> Result<()> {
     match build_distance_field(head.w, head.h, index, count, area, con, raw, blurred) {
-        DistanceAnswer::Refused(x) => print_refused(refusal_number(x)),
+        DistanceAnswer::Refused(x) => print_refused(rt, refusal_number(x)),
         DistanceAnswer::Done(m) => {
             let found = find(asked, head.w, head.h, index, count);
             tell_found(
-                head, found, index, count, area, con, blurred, m, workspace, trail,
+                rt, head, found, index, count, area, con, blurred, m, workspace, trail,
             )
         }
     }
@@ -99,6 +103,7 @@ fn tell_field(
 
 // The field that the lists hold at their beginning: the header's cells, and n spans.
 fn tell_first(
+    rt: &impl Print,
     head: Header,
     n: usize,
     asked: Asked,
@@ -106,7 +111,7 @@ fn tell_first(
     count: &[u8],
     area: &[u8],
     con: &[u8],
-)
+) -> Result<()>
     requires { Lists index.now count.now area.now con.now × Few (Described head n) }
 {
     let cells = head.w as usize * head.h as usize;
@@ -115,6 +120,7 @@ fn tell_first(
     let mut workspace = [0u16; 29696];
     let mut trail = [0u16; 200];
     tell_field(
+        rt,
         head,
         asked,
         &index[..cells],
@@ -125,17 +131,19 @@ fn tell_first(
         &mut blurred[..n],
         &mut workspace,
         &mut trail[..n],
-    );
+    )
 }
 
 // What is told for a file.
-pub(crate) fn tell_file(bytes: &[u8], asked: Asked) {
+pub(crate) fn tell_file(rt: &impl Print, bytes: &[u8], asked: Asked) -> Result<()> {
     let mut index = [0u32; 1024];
     let mut count = [0u8; 1024];
     let mut area = [0u8; 200];
     let mut con = [0u8; 800];
     match read_file(bytes, &mut index, &mut count, &mut area, &mut con) {
-        FileReading::Refused(x) => print_refused(file_number(x)),
-        FileReading::Described(head, n) => tell_first(head, n, asked, &index, &count, &area, &con),
+        FileReading::Refused(x) => print_refused(rt, file_number(x)),
+        FileReading::Described(head, n) => tell_first(
+            rt, head, n, asked, &index, &count, &area, &con,
+        ),
     }
 }

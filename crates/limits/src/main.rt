@@ -12,14 +12,16 @@ use fields::{
 };
 use regions::{distances, regions};
 use show::run;
+use std::io::Result;
 
-fn samples() {
-    run(b"open 3 by 3", 3, 3, &INDEX, &COUNT, &[1; 9], &CON, 9, 9);
-    run(b"area 0", 3, 3, &INDEX, &COUNT, &[0; 9], &CON, 9, 9);
-    run(b"two areas", 3, 3, &INDEX, &COUNT, &AREAS, &CON, 9, 9);
-    run(b"no cells", 0, 0, &[], &[], &[], &[], 0, 0);
+fn samples(rt: &impl Print) -> Result<()> {
+    run(rt, "open 3 by 3", 3, 3, &INDEX, &COUNT, &[1; 9], &CON, 9, 9)?;
+    run(rt, "area 0", 3, 3, &INDEX, &COUNT, &[0; 9], &CON, 9, 9)?;
+    run(rt, "two areas", 3, 3, &INDEX, &COUNT, &AREAS, &CON, 9, 9)?;
+    run(rt, "no cells", 0, 0, &[], &[], &[], &[], 0, 0)?;
     run(
-        b"layers",
+        rt,
+        "layers",
         4,
         3,
         &LAYERS_INDEX,
@@ -28,23 +30,24 @@ fn samples() {
         &LAYERS_CON,
         20,
         20,
-    );
+    )
 }
 
 // Refusal 1: empty cells, 256 and 257 wide, and high.
-fn sides() {
-    run(b"w 256", 256, 1, &[0; 256], &[0; 256], &[], &[], 0, 0);
-    run(b"w 257", 257, 1, &[0; 257], &[0; 257], &[], &[], 0, 0);
-    run(b"h 256", 1, 256, &[0; 256], &[0; 256], &[], &[], 0, 0);
-    run(b"h 257", 1, 257, &[0; 257], &[0; 257], &[], &[], 0, 0);
+fn sides(rt: &impl Print) -> Result<()> {
+    run(rt, "w 256", 256, 1, &[0; 256], &[0; 256], &[], &[], 0, 0)?;
+    run(rt, "w 257", 257, 1, &[0; 257], &[0; 257], &[], &[], 0, 0)?;
+    run(rt, "h 256", 1, 256, &[0; 256], &[0; 256], &[], &[], 0, 0)?;
+    run(rt, "h 257", 1, 257, &[0; 257], &[0; 257], &[], &[], 0, 0)
 }
 
 // Refusal 2: 250 by 130 cells of two spans each.
-fn spans() {
+fn spans(rt: &impl Print) -> Result<()> {
     let mut index = [0u32; 32500];
     count_in_twos(&mut index);
     run(
-        b"n 65,000",
+        rt,
+        "n 65,000",
         250,
         130,
         &index,
@@ -53,9 +56,10 @@ fn spans() {
         &[255; 260000],
         65000,
         65000,
-    );
+    )?;
     run(
-        b"n 65,001",
+        rt,
+        "n 65,001",
         250,
         130,
         &index,
@@ -64,16 +68,17 @@ fn spans() {
         &[255; 260004],
         65001,
         65001,
-    );
+    )
 }
 
 // Refusal 3: each list one short and one long.
-fn short_lists() {
+fn short_lists(rt: &impl Print) -> Result<()> {
     let index = INDEX;
     let count = COUNT;
     let con = CON;
     run(
-        b"index short",
+        rt,
+        "index short",
         3,
         3,
         &index[..8],
@@ -82,9 +87,10 @@ fn short_lists() {
         &CON,
         9,
         9,
-    );
+    )?;
     run(
-        b"count short",
+        rt,
+        "count short",
         3,
         3,
         &INDEX,
@@ -93,9 +99,10 @@ fn short_lists() {
         &CON,
         9,
         9,
-    );
+    )?;
     run(
-        b"con short",
+        rt,
+        "con short",
         3,
         3,
         &INDEX,
@@ -104,23 +111,70 @@ fn short_lists() {
         &con[..35],
         9,
         9,
-    );
-    run(b"raw short", 3, 3, &INDEX, &COUNT, &[1; 9], &CON, 8, 9);
-    run(b"blurred short", 3, 3, &INDEX, &COUNT, &[1; 9], &CON, 9, 8);
+    )?;
+    run(rt, "raw short", 3, 3, &INDEX, &COUNT, &[1; 9], &CON, 8, 9)?;
+    run(
+        rt,
+        "blurred short",
+        3,
+        3,
+        &INDEX,
+        &COUNT,
+        &[1; 9],
+        &CON,
+        9,
+        8,
+    )
 }
 
-fn long_lists() {
-    run(b"index long", 3, 3, &[0; 10], &COUNT, &[1; 9], &CON, 9, 9);
-    run(b"count long", 3, 3, &INDEX, &[1; 10], &[1; 9], &CON, 9, 9);
-    run(b"con long", 3, 3, &INDEX, &COUNT, &[1; 9], &[255; 37], 9, 9);
-    run(b"raw long", 3, 3, &INDEX, &COUNT, &[1; 9], &CON, 10, 9);
-    run(b"blurred long", 3, 3, &INDEX, &COUNT, &[1; 9], &CON, 9, 10);
+fn long_lists(rt: &impl Print) -> Result<()> {
+    run(
+        rt,
+        "index long",
+        3,
+        3,
+        &[0; 10],
+        &COUNT,
+        &[1; 9],
+        &CON,
+        9,
+        9,
+    )?;
+    run(
+        rt,
+        "count long",
+        3,
+        3,
+        &INDEX,
+        &[1; 10],
+        &[1; 9],
+        &CON,
+        9,
+        9,
+    )?;
+    run(
+        rt, "con long", 3, 3, &INDEX, &COUNT, &[1; 9], &[255; 37], 9, 9,
+    )?;
+    run(rt, "raw long", 3, 3, &INDEX, &COUNT, &[1; 9], &CON, 10, 9)?;
+    run(
+        rt,
+        "blurred long",
+        3,
+        3,
+        &INDEX,
+        &COUNT,
+        &[1; 9],
+        &CON,
+        9,
+        10,
+    )
 }
 
 // Refusal 4: a cell of 63 and of 64 spans, an index off by one, counts that sum to one more.
-fn cells() {
+fn cells(rt: &impl Print) -> Result<()> {
     run(
-        b"count 63",
+        rt,
+        "count 63",
         1,
         1,
         &[0],
@@ -129,9 +183,10 @@ fn cells() {
         &[255; 252],
         63,
         63,
-    );
+    )?;
     run(
-        b"count 64",
+        rt,
+        "count 64",
         1,
         1,
         &[0],
@@ -140,11 +195,12 @@ fn cells() {
         &[255; 256],
         64,
         64,
-    );
+    )?;
     let mut index = INDEX;
     index[4] = 5;
     run(
-        b"index off by one",
+        rt,
+        "index off by one",
         3,
         3,
         &index,
@@ -153,11 +209,12 @@ fn cells() {
         &CON,
         9,
         9,
-    );
+    )?;
     let mut count = COUNT;
     count[8] = 2;
     run(
-        b"counts sum to 10",
+        rt,
+        "counts sum to 10",
         3,
         3,
         &INDEX,
@@ -166,18 +223,30 @@ fn cells() {
         &CON,
         9,
         9,
-    );
+    )
 }
 
 // Refusals 5 and 6: off the grid, to a layer that is not there, not answered.
-fn connections() {
+fn connections(rt: &impl Print) -> Result<()> {
     let mut off = CON;
     off[0] = 0;
-    run(b"off the grid", 3, 3, &INDEX, &COUNT, &[1; 9], &off, 9, 9);
+    run(
+        rt,
+        "off the grid",
+        3,
+        3,
+        &INDEX,
+        &COUNT,
+        &[1; 9],
+        &off,
+        9,
+        9,
+    )?;
     let mut missing = CON;
     missing[2] = 1;
     run(
-        b"missing layer",
+        rt,
+        "missing layer",
         3,
         3,
         &INDEX,
@@ -186,20 +255,20 @@ fn connections() {
         &missing,
         9,
         9,
-    );
+    )?;
     let mut one_way = CON;
     one_way[2] = 255;
-    run(b"one way", 3, 3, &INDEX, &COUNT, &[1; 9], &one_way, 9, 9);
+    run(rt, "one way", 3, 3, &INDEX, &COUNT, &[1; 9], &one_way, 9, 9)
 }
 
-fn main() {
-    samples();
-    sides();
-    spans();
-    short_lists();
-    long_lists();
-    cells();
-    connections();
-    regions();
-    distances();
+fn main(rt: HostRuntime) -> Result<()> {
+    samples(&rt)?;
+    sides(&rt)?;
+    spans(&rt)?;
+    short_lists(&rt)?;
+    long_lists(&rt)?;
+    cells(&rt)?;
+    connections(&rt)?;
+    regions(&rt)?;
+    distances(&rt)
 }

@@ -1,20 +1,17 @@
 // A call of the entry, and what it gave.
 use checker::refusal_number;
+use std::io::Result;
 use watershed::{DistanceAnswer, build_distance_field};
 
 // A line for the answer: refused and its number, or max_distance and its value.
-fn answer(r: DistanceAnswer) {
+fn answer(rt: &impl Print, r: DistanceAnswer) -> Result<()> {
     match r {
         DistanceAnswer::Refused(k) => {
-            io::write_all(1, b"refused ");
-            io::print_decimal(1, refusal_number(k) as u64);
+            let n = refusal_number(k);
+            println!(rt; "refused {n}")
         }
-        DistanceAnswer::Done(m) => {
-            io::write_all(1, b"max_distance ");
-            io::print_decimal(1, m as u64);
-        }
+        DistanceAnswer::Done(m) => println!(rt; "max_distance {m}"),
     }
-    io::write_all(1, b"\n");
 }
 
 // One number more of a list's digest.
@@ -30,33 +27,33 @@ fn digest(l: &[u16]) -> u64 {
     h
 }
 
-fn number(v: u16) {
-    io::write_all(1, b" ");
-    io::print_decimal(1, v as u64);
+fn number(rt: &impl Print, v: u16) -> Result<()> {
+    print!(rt; " {v}")
 }
 
-fn numbers(l: &[u16]) {
+fn numbers(rt: &impl Print, l: &[u16]) -> Result<()> {
     for i in 0..l.len() {
-        number(l[i]);
+        number(rt, l[i])?;
     }
+    Ok(())
 }
 
 // The numbers of a short list; of a long one its length and a digest.
-pub(crate) fn list(name: &[u8], l: &[u16]) {
-    io::write_all(1, name);
+pub(crate) fn list(rt: &impl Print, name: &str, l: &[u16]) -> Result<()> {
+    print!(rt; "{name}")?;
     if 64 < l.len() {
-        io::write_all(1, b" length ");
-        io::print_decimal(1, l.len() as u64);
-        io::write_all(1, b" digest ");
-        io::print_decimal(1, digest(l));
+        let length = l.len();
+        let sum = digest(l);
+        print!(rt; " length {length} digest {sum}")?;
     } else {
-        numbers(l);
+        numbers(rt, l)?;
     }
-    io::write_all(1, b"\n");
+    println!(rt; "")
 }
 
 // A call, its answer, and the two lists after it.
 fn call(
+    rt: &impl Print,
     w: u16,
     h: u16,
     index: &[u32],
@@ -65,15 +62,16 @@ fn call(
     con: &[u8],
     raw: &mut [u16],
     blurred: &mut [u16],
-) {
+) -> Result<()> {
     let r = build_distance_field(w, h, index, count, area, con, raw, blurred);
-    answer(r);
-    list(b"raw", raw);
-    list(b"blurred", blurred);
+    answer(rt, r)?;
+    list(rt, "raw", raw)?;
+    list(rt, "blurred", blurred)
 }
 
 // A call that is lent the first m numbers of a and the first n of b.
 fn lend(
+    rt: &impl Print,
     w: u16,
     h: u16,
     index: &[u32],
@@ -84,19 +82,20 @@ fn lend(
     b: &mut [u16],
     m: usize,
     n: usize,
-) {
+) -> Result<()> {
     if a.len() < m {
-        return;
+        return Ok(());
     }
     if b.len() < n {
-        return;
+        return Ok(());
     }
-    call(w, h, index, count, area, con, &mut a[..m], &mut b[..n]);
+    call(rt, w, h, index, count, area, con, &mut a[..m], &mut b[..n])
 }
 
 // A call that is lent lists of so many 7s for the distances, at most 65,001.
 pub(crate) fn run(
-    name: &[u8],
+    rt: &impl Print,
+    name: &str,
     w: u16,
     h: u16,
     index: &[u32],
@@ -105,10 +104,11 @@ pub(crate) fn run(
     con: &[u8],
     raws: usize,
     blurs: usize,
-) {
-    io::write_all(1, name);
-    io::write_all(1, b": ");
+) -> Result<()> {
+    print!(rt; "{name}: ")?;
     let mut a = [7u16; 65001];
     let mut b = [7u16; 65001];
-    lend(w, h, index, count, area, con, &mut a, &mut b, raws, blurs);
+    lend(
+        rt, w, h, index, count, area, con, &mut a, &mut b, raws, blurs,
+    )
 }

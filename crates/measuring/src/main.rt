@@ -11,8 +11,10 @@ mod whole;
 ghost use Rattle.std.specs.Prelude.{◌≤◌};
 
 use crate::whole::print_file;
+use console::{arg, arg_count, buffer, fail, read_first};
 use file::read::{FilePlace, place};
-use libc::{STDERR_FILENO, STDIN_FILENO};
+use std::io::{Read, Result};
+use std::rt::Env;
 
 // The number that the text is, 0 where it is none or above 999: no scale is 0.
 fn scale(text: &[u8]) -> u16 {
@@ -35,46 +37,32 @@ fn scale(text: &[u8]) -> u16 {
     v
 }
 
-// Can there be more, or is it the end? A read that fails is told.
-fn is_read() -> bool {
-    let mut one = [0u8; 1];
-    if libc::read(STDIN_FILENO, &mut one) < 0 {
-        os::fail(b"standard input");
-        return false;
-    }
-    true
-}
-
-fn tell_place(bytes: &[u8]) {
+fn tell_place(rt: &impl Eprint, bytes: &[u8]) -> Result<()> {
     match place(bytes) {
-        FilePlace::At(p) => {
-            io::write_all(STDERR_FILENO, b"position ");
-            io::print_decimal(STDERR_FILENO, p as u64);
-            io::write_all(STDERR_FILENO, b"\n");
+        FilePlace::At(p) => eprintln!(rt; "position {p}"),
+        FilePlace::Nowhere => Ok(()),
+    }
+}
+
+// A read that fails is told.
+fn print_input(rt: &(impl Print + Eprint + Alloc), from: &mut impl Read, k: u16) -> Result<()> {
+    let mut bytes = buffer();
+    match read_first(from, &mut bytes) {
+        Ok(n) => {
+            print_file(rt, &bytes[..n], k)?;
+            tell_place(rt, &bytes[..n])
         }
-        FilePlace::Nowhere => {}
+        Err(e) => fail(rt, "standard input", &e),
     }
 }
 
-fn print_input(k: u16) {
-    let mut bytes = io::buffer();
-    let n = io::read_full(STDIN_FILENO, &mut bytes);
-    if is_read() {
-        print_file(&bytes[..n], k);
-        tell_place(&bytes[..n]);
+fn main(rt: HostRuntime) -> Result<()> {
+    if arg_count(&rt) != 2 {
+        return eprintln!(rt; "usage: measuring K <FILE");
     }
-}
-
-fn main() {
-    if os::arg_count() != 2 {
-        io::write_all(STDERR_FILENO, b"usage: measuring K <FILE\n");
-        return;
+    let mut text = buffer();
+    match arg(&rt, 1, &mut text) {
+        Ok(n) => print_input(&rt, &mut rt.stdin(), scale(&text[..n])),
+        Err(e) => fail(&rt, "the scale", &e),
     }
-    let mut text = io::buffer();
-    let n = os::arg(1, &mut text);
-    if os::errno() != 0 {
-        os::fail(b"the scale");
-        return;
-    }
-    print_input(scale(&text[..n]));
 }

@@ -1,6 +1,6 @@
 // A record as a line of a table. The values are exact: metres have six places, square metres twelve.
-use libc::STDOUT_FILENO;
 use sizes::metres::Room;
+use std::io::Result;
 
 // The parts of a metre and of a square metre that are printed, and the least number that has as many places.
 const PARTS: f64 = 1000000.0;
@@ -22,45 +22,38 @@ fn whole_part_or_zero(x: f64) -> u64 {
 }
 
 // With zeros before it, so that it has as many places as `least`.
-fn print_places(v: u64, least: u64) {
+fn print_places(rt: &impl Print, v: u64, least: u64) -> Result<()> {
     let mut p = least;
     while 10 <= p {
         if p <= v {
-            io::print_decimal(STDOUT_FILENO, v);
-            return;
+            return print!(rt; "{v}");
         }
-        io::write_all(STDOUT_FILENO, b"0");
+        print!(rt; "0")?;
         p = p / 10;
     }
-    io::print_decimal(STDOUT_FILENO, v);
+    print!(rt; "{v}")
 }
 
-fn print_size(x: f64, parts: f64, least: u64) {
+fn print_size(rt: &impl Print, x: f64, parts: f64, least: u64) -> Result<()> {
     let whole = whole_part_or_zero(x);
     let rest = (x - std::num::nearest_u64_to_f64(whole)) * parts;
-    io::write_all(STDOUT_FILENO, b" ");
-    io::print_decimal(STDOUT_FILENO, whole);
-    io::write_all(STDOUT_FILENO, b".");
-    print_places(whole_part_or_zero(rest), least);
+    print!(rt; " {whole}.")?;
+    print_places(rt, whole_part_or_zero(rest), least)
 }
 
-pub(crate) fn print_room(id: u16, m: Room) {
+pub(crate) fn print_room(rt: &impl Print, id: u16, m: Room) -> Result<()> {
     let s = m.size;
-    io::print_decimal(STDOUT_FILENO, id as u64);
-    io::write_all(STDOUT_FILENO, b" ");
-    io::print_decimal(STDOUT_FILENO, m.area as u64);
-    io::write_all(STDOUT_FILENO, b" ");
-    io::print_decimal(STDOUT_FILENO, m.count as u64);
-    print_size(s.floor, SQUARE_PARTS, TWELVE_PLACES);
-    print_size(s.x_least, PARTS, SIX_PLACES);
-    print_size(s.x_past, PARTS, SIX_PLACES);
-    print_size(s.z_least, PARTS, SIX_PLACES);
-    print_size(s.z_past, PARTS, SIX_PLACES);
-    io::write_all(STDOUT_FILENO, b"\n");
+    let area = m.area;
+    let count = m.count;
+    print!(rt; "{id} {area} {count}")?;
+    print_size(rt, s.floor, SQUARE_PARTS, TWELVE_PLACES)?;
+    print_size(rt, s.x_least, PARTS, SIX_PLACES)?;
+    print_size(rt, s.x_past, PARTS, SIX_PLACES)?;
+    print_size(rt, s.z_least, PARTS, SIX_PLACES)?;
+    print_size(rt, s.z_past, PARTS, SIX_PLACES)?;
+    println!(rt; "")
 }
 
-pub(crate) fn print_refused(n: u16) {
-    io::write_all(STDOUT_FILENO, b"refused ");
-    io::print_decimal(STDOUT_FILENO, n as u64);
-    io::write_all(STDOUT_FILENO, b"\n");
+pub(crate) fn print_refused(rt: &impl Print, n: u16) -> Result<()> {
+    println!(rt; "refused {n}")
 }

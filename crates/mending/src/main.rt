@@ -11,60 +11,55 @@ ghost use Rattle.std.specs.Prelude.{◌+◌, ◌*◌, ◌≤◌, ◌<◌, length
 
 use crate::patch::spot_of;
 use crate::whole::{Filed, mend_file};
+use console::{buffer, fail, read_first};
 use field::read::at16;
 use file::read::{FilePlace, place};
-use libc::{STDERR_FILENO, STDIN_FILENO, STDOUT_FILENO};
+use std::io::Result;
 
-fn print_refused(n: u16) {
-    io::write_all(STDOUT_FILENO, b"refused ");
-    io::print_decimal(STDOUT_FILENO, n as u64);
-    io::write_all(STDOUT_FILENO, b"\n");
+fn print_refused(rt: &impl Print, n: u16) -> Result<()> {
+    println!(rt; "refused {n}")
 }
 
-fn tell_place(bytes: &[u8]) {
+fn tell_place(rt: &impl Eprint, bytes: &[u8]) -> Result<()> {
     match place(bytes) {
-        FilePlace::At(p) => {
-            io::write_all(STDERR_FILENO, b"position ");
-            io::print_decimal(STDERR_FILENO, p as u64);
-            io::write_all(STDERR_FILENO, b"\n");
-        }
-        FilePlace::Nowhere => {}
+        FilePlace::At(p) => eprintln!(rt; "position {p}"),
+        FilePlace::Nowhere => Ok(()),
     }
 }
 
 // A number of a line, and what comes after it.
-fn tell(v: usize, after: &[u8]) {
-    io::print_decimal(STDERR_FILENO, v as u64);
-    io::write_all(STDERR_FILENO, after);
+fn tell(rt: &impl Eprint, v: usize, after: &str) -> Result<()> {
+    eprint!(rt; "{v}{after}")
 }
 
 // Change number k.
-fn tell_change(w: u16, count: &[u8], changes: &[u16], k: usize)
+fn tell_change(rt: &impl Eprint, w: u16, count: &[u8], changes: &[u16], k: usize) -> Result<()>
     requires { (3 * k + 2 < length changes.now) × (length changes.now ≤ 2400) }
 {
     let at = spot_of(count, at16(changes, 3 * k));
     if w == 0 {
-        return;
+        return Ok(());
     }
-    tell(at.cell % w as usize, b" ");
-    tell(at.cell / w as usize, b" ");
-    tell(at.layer, b" ");
-    tell(at16(changes, 3 * k + 1), b" ");
-    tell(at16(changes, 3 * k + 2), b"\n");
+    tell(rt, at.cell % w as usize, " ")?;
+    tell(rt, at.cell / w as usize, " ")?;
+    tell(rt, at.layer, " ")?;
+    tell(rt, at16(changes, 3 * k + 1), " ")?;
+    tell(rt, at16(changes, 3 * k + 2), "\n")
 }
 
 // The first `made` of them.
-fn tell_changes(w: u16, count: &[u8], changes: &[u16], made: usize)
+fn tell_changes(rt: &impl Eprint, w: u16, count: &[u8], changes: &[u16], made: usize) -> Result<()>
     requires { (3 * made ≤ length changes.now) × (length changes.now ≤ 2400) }
 {
     let mut k: usize = 0;
     while k < made {
-        tell_change(w, count, changes, k);
+        tell_change(rt, w, count, changes, k)?;
         k += 1;
     }
+    Ok(())
 }
 
-fn print_mended(bytes: &mut [u8]) {
+fn print_mended(rt: &(impl Print + Eprint), bytes: &mut [u8]) -> Result<()> {
     let mut index = [0u32; 1024];
     let mut count = [0u8; 1024];
     let mut area = [0u8; 200];
@@ -79,30 +74,21 @@ fn print_mended(bytes: &mut [u8]) {
         &mut changes,
     ) {
         Filed::Refused(k) => {
-            print_refused(k);
-            tell_place(bytes);
+            print_refused(rt, k)?;
+            tell_place(rt, bytes)
         }
         Filed::Made(w, made) => {
-            io::write_all(STDOUT_FILENO, bytes);
-            tell_changes(w, &count, &changes, made);
+            rt.write_all(bytes)?;
+            tell_changes(rt, w, &count, &changes, made)
         }
     }
 }
 
-// Can there be more, or is it the end? A read that fails is told.
-fn is_read() -> bool {
-    let mut one = [0u8; 1];
-    if libc::read(STDIN_FILENO, &mut one) < 0 {
-        os::fail(b"the field file");
-        return false;
-    }
-    true
-}
-
-fn main() {
-    let mut bytes = io::buffer();
-    let n = io::read_full(STDIN_FILENO, &mut bytes);
-    if is_read() {
-        print_mended(&mut bytes[..n]);
+// A read that fails is told.
+fn main(rt: HostRuntime) -> Result<()> {
+    let mut bytes = buffer();
+    match read_first(&mut rt.stdin(), &mut bytes) {
+        Ok(n) => print_mended(&rt, &mut bytes[..n]),
+        Err(e) => fail(&rt, "the field file", &e),
     }
 }

@@ -12,60 +12,45 @@ ghost use Rattle.std.specs.Prelude.{◌≤◌};
 
 use crate::read::{print_id, span};
 use crate::whole::print_file;
+use console::{arg, arg_count, buffer, fail, read_first};
 use file::read::{FilePlace, place};
-use libc::{STDERR_FILENO, STDIN_FILENO};
+use std::io::{Read, Result};
+use std::rt::Env;
 
-// Can there be more, or is it the end? A read that fails is told.
-fn is_read() -> bool {
-    let mut one = [0u8; 1];
-    if libc::read(STDIN_FILENO, &mut one) < 0 {
-        os::fail(b"standard input");
-        return false;
-    }
-    true
-}
-
-fn tell_place(bytes: &[u8]) {
+fn tell_place(rt: &impl Eprint, bytes: &[u8]) -> Result<()> {
     match place(bytes) {
-        FilePlace::At(p) => {
-            io::write_all(STDERR_FILENO, b"position ");
-            io::print_decimal(STDERR_FILENO, p as u64);
-            io::write_all(STDERR_FILENO, b"\n");
+        FilePlace::At(p) => eprintln!(rt; "position {p}"),
+        FilePlace::Nowhere => Ok(()),
+    }
+}
+
+// A read that fails is told.
+fn store_input(rt: &(impl Print + Eprint + Alloc), from: &mut impl Read) -> Result<()> {
+    let mut bytes = buffer();
+    match read_first(from, &mut bytes) {
+        Ok(n) => {
+            print_file(rt, &bytes[..n])?;
+            tell_place(rt, &bytes[..n])
         }
-        FilePlace::Nowhere => {}
+        Err(e) => fail(rt, "standard input", &e),
     }
 }
 
-fn store_input() {
-    let mut bytes = io::buffer();
-    let n = io::read_full(STDIN_FILENO, &mut bytes);
-    if is_read() {
-        print_file(&bytes[..n]);
-        tell_place(&bytes[..n]);
+fn read_input(rt: &(impl Env + Print + Eprint + Alloc), from: &mut impl Read) -> Result<()> {
+    let mut text = buffer();
+    match arg(rt, 1, &mut text) {
+        Ok(n) => print_id(rt, from, span(&text[..n])),
+        Err(e) => fail(rt, "the span", &e),
     }
 }
 
-fn read_input() {
-    let mut text = io::buffer();
-    let n = os::arg(1, &mut text);
-    if os::errno() != 0 {
-        os::fail(b"the span");
-        return;
+fn main(rt: HostRuntime) -> Result<()> {
+    let n = arg_count(&rt);
+    if n == 1 {
+        return store_input(&rt, &mut rt.stdin());
     }
-    print_id(span(&text[..n]));
-}
-
-fn main() {
-    if os::arg_count() == 1 {
-        store_input();
-        return;
+    if n == 2 {
+        return read_input(&rt, &mut rt.stdin());
     }
-    if os::arg_count() == 2 {
-        read_input();
-        return;
-    }
-    io::write_all(
-        STDERR_FILENO,
-        b"usage: storing <FIELD, or storing SPAN <RESULT\n",
-    );
+    eprintln!(rt; "usage: storing <FIELD, or storing SPAN <RESULT")
 }

@@ -1,8 +1,9 @@
 // One span's id from a stored result.
 ghost use Rattle.std.specs.Prelude.{◌≤◌};
 
+use console::{fail, has_more, read_full};
 use field::read::at32;
-use libc::{STDERR_FILENO, STDIN_FILENO, STDOUT_FILENO};
+use std::io::{Read, Result};
 use stored::into::id_at_into;
 
 // The number that the text is; one that no stored result has where it is none or above 99,999,999.
@@ -31,34 +32,31 @@ pub(crate) fn span(text: &[u8]) -> u32 {
     v
 }
 
-fn print_found(bytes: &[u8], span: u32) {
+fn print_found(rt: &impl Print, bytes: &[u8], span: u32) -> Result<()> {
     let mut answer = [0u32; 3];
     let refusal = id_at_into(bytes, span, &mut answer);
     if refusal != 0 {
-        io::write_all(STDOUT_FILENO, b"refused ");
-        io::print_decimal(STDOUT_FILENO, refusal as u64);
+        println!(rt; "refused {refusal}")
     } else {
-        io::print_decimal(STDOUT_FILENO, at32(&answer, 1) as u64);
+        let id = at32(&answer, 1);
+        println!(rt; "{id}")
     }
-    io::write_all(STDOUT_FILENO, b"\n");
 }
 
 // Reads the stored result: 330,076 bytes are the most that 65,000 spans take.
-pub(crate) fn print_id(span: u32) {
+pub(crate) fn print_id(
+    rt: &(impl Print + Eprint + Alloc),
+    from: &mut impl Read,
+    span: u32,
+) -> Result<()> {
     let mut bytes = [0u8; 330076];
-    let n = io::read_full(STDIN_FILENO, &mut bytes);
-    let mut one = [0u8; 1];
-    let more = libc::read(STDIN_FILENO, &mut one);
-    if more < 0 {
-        os::fail(b"standard input");
-        return;
+    let n = match read_full(from, &mut bytes) {
+        Ok(n) => n,
+        Err(e) => return fail(rt, "standard input", &e),
+    };
+    match has_more(from) {
+        Ok(true) => eprintln!(rt; "the stored result is longer than that of any 65,000 spans"),
+        Ok(false) => print_found(rt, &bytes[..n], span),
+        Err(e) => fail(rt, "standard input", &e),
     }
-    if 0 < more {
-        io::write_all(
-            STDERR_FILENO,
-            b"the stored result is longer than that of any 65,000 spans\n",
-        );
-        return;
-    }
-    print_found(&bytes[..n], span);
 }

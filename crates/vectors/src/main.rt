@@ -6,8 +6,9 @@
 ghost use Rattle.std.specs.Prelude.{◌≤◌, length};
 
 use answer::reply;
+use console::read_full;
 use field::read::at8;
-use libc::{STDERR_FILENO, STDIN_FILENO, STDOUT_FILENO};
+use std::io::{Read, Result};
 
 // The length that four bytes tell, 4,097 for more than 4,096.
 fn length_of(b: &[u8]) -> usize
@@ -22,53 +23,54 @@ fn length_of(b: &[u8]) -> usize
     at8(b, 0) + 256 * at8(b, 1)
 }
 
-fn print_reply(bytes: &[u8]) {
+fn print_reply(rt: &impl Print, bytes: &[u8]) -> Result<()> {
     let mut out = [0u8; 4096];
     let n = reply(bytes, &mut out);
-    io::write_all(STDOUT_FILENO, &out[..n]);
+    rt.write_all(&out[..n])
 }
 
 // The next file, as long as bytes. Gives whether it was there.
-fn print_next(bytes: &mut [u8]) -> bool {
-    let got = io::read_full(STDIN_FILENO, bytes);
+fn print_next(rt: &(impl Print + Eprint), from: &mut impl Read, bytes: &mut [u8]) -> Result<bool> {
+    let got = read_full(from, bytes)?;
     if got != bytes.len() {
-        io::write_all(STDERR_FILENO, b"vectors: cut short\n");
-        return false;
+        eprintln!(rt; "vectors: cut short")?;
+        return Ok(false);
     }
-    print_reply(bytes);
-    true
+    print_reply(rt, bytes)?;
+    Ok(true)
 }
 
-fn replay_next(n: usize) -> bool {
+fn replay_next(rt: &(impl Print + Eprint), from: &mut impl Read, n: usize) -> Result<bool> {
     let mut bytes = [0u8; 4096];
     if 4096 < n {
-        io::write_all(STDERR_FILENO, b"vectors: a file of more than 4,096 bytes\n");
-        return false;
+        eprintln!(rt; "vectors: a file of more than 4,096 bytes")?;
+        return Ok(false);
     }
-    print_next(&mut bytes[..n])
+    print_next(rt, from, &mut bytes[..n])
 }
 
-fn replay_one() -> bool {
+fn replay_one(rt: &(impl Print + Eprint), from: &mut impl Read) -> Result<bool> {
     let mut head = [0u8; 4];
-    let got = io::read_full(STDIN_FILENO, &mut head);
+    let got = read_full(from, &mut head)?;
     if got == 0 {
-        return false;
+        return Ok(false);
     }
     if got != 4 {
-        io::write_all(STDERR_FILENO, b"vectors: cut short\n");
-        return false;
+        eprintln!(rt; "vectors: cut short")?;
+        return Ok(false);
     }
-    replay_next(length_of(&head))
+    replay_next(rt, from, length_of(&head))
 }
 
 // A proved loop has to end, and nothing says that the input does: so its turns are counted down, from a number that no run uses up.
-fn replay_all() {
+fn replay_all(rt: &(impl Print + Eprint), from: &mut impl Read) -> Result<()> {
     let mut turns = u64::MAX;
-    while turns > 0 && replay_one() {
+    while turns > 0 && replay_one(rt, from)? {
         turns -= 1;
     }
+    Ok(())
 }
 
-fn main() {
-    replay_all();
+fn main(rt: HostRuntime) -> Result<()> {
+    replay_all(&rt, &mut rt.stdin())
 }

@@ -5,4 +5,4 @@ use borrow.Author.Rules.{rules}
 use Rattle.listing.proofs.print_reply.Goals as goal
 
 pub slice_bounds-write_all-end : goal.slice_bounds-write_all-end
-slice_bounds-write_all-end c = simp length-take (omega arith)
+slice_bounds-write_all-end g c = simp length-take (omega arith)

@@ -4,4 +4,4 @@ use borrow.Author.Rules.{rules}
 use Rattle.mending.proofs.print_mended.Goals as goal
 
 pub tell_changes-requires : goal.tell_changes-requires
-tell_changes-requires c = (search (rules, placed_made), search rules)
+tell_changes-requires g c = (search (rules, placed_made), search rules)

@@ -5,4 +5,4 @@ use borrow.Author.Rules.{rules}
 use Rattle.vectors.proofs.replay_next.Goals as goal
 
 pub slice_bounds-print_next-end : goal.slice_bounds-print_next-end
-slice_bounds-print_next-end c = simp length-take (omega arith)
+slice_bounds-print_next-end g c = simp length-take (omega arith)

@@ -13,4 +13,4 @@ few-of : (x : FileReading) → Few x → (t : Header) (n : ℕ) → x ≡ Descri
 few-of x f t n u = subst (λ (v : FileReading). Few v) u f
 
 pub tell_first-requires : goal.tell_first-requires
-tell_first-requires c = (record { cells₁ = search rules; cells₂ = search rules; spans₁ = search rules; spans₂ = search rules }, search (rules, few-of))
+tell_first-requires g c = (record { cells₁ = search rules; cells₂ = search rules; spans₁ = search rules; spans₂ = search rules }, search (rules, few-of))

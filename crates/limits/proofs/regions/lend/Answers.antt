@@ -5,4 +5,4 @@ use borrow.Author.Rules.{rules}
 use Rattle.limits.proofs.regions.lend.Goals as goal
 
 pub slice_bounds-call-end-2 : goal.slice_bounds-call-end-2
-slice_bounds-call-end-2 c = simp length-take (omega arith)
+slice_bounds-call-end-2 g c = simp length-take (omega arith)

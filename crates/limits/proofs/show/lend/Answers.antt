@@ -5,7 +5,7 @@ use borrow.Author.Rules.{rules}
 use Rattle.limits.proofs.show.lend.Goals as goal
 
 pub slice_bounds-call-end-2 : goal.slice_bounds-call-end-2
-slice_bounds-call-end-2 c = simp length-take (omega arith)
+slice_bounds-call-end-2 g c = simp length-take (omega arith)
 
 pub slice_bounds-call-end-4 : goal.slice_bounds-call-end-4
-slice_bounds-call-end-4 c = simp length-take (omega arith)
+slice_bounds-call-end-4 g c = simp length-take (omega arith)

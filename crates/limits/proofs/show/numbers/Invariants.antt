@@ -6,7 +6,7 @@ use borrow.Author.Rules.{rules}
 use Rattle.limits.proofs.show.numbers.Given as goal
 
 abbrev pub invariant-loop-i : goal.invariant-loop-i
-invariant-loop-i l = (l.i-end ≡ length l.l) × (l.i ≤ l.i-end)
+invariant-loop-i g l = (l.i-end ≡ length l.l) × (l.i ≤ l.i-end)
 
 abbrev pub decreases-loop-i : goal.decreases-loop-i
-decreases-loop-i l = l.i-end - l.i
+decreases-loop-i g l = l.i-end - l.i

@@ -3,22 +3,22 @@ use Rattle.std.proofs.Common.{arith, length-take, rules}
 use Rattle.measuring.proofs.whole.print_first.Goals as goal
 
 pub slice_bounds-print_field-end : goal.slice_bounds-print_field-end
-slice_bounds-print_field-end c = simp length-take (omega arith)
+slice_bounds-print_field-end g c = simp length-take (omega arith)
 
 pub slice_bounds-print_field-end-2 : goal.slice_bounds-print_field-end-2
-slice_bounds-print_field-end-2 c = simp length-take (omega arith)
+slice_bounds-print_field-end-2 g c = simp length-take (omega arith)
 
 pub slice_bounds-print_field-end-3 : goal.slice_bounds-print_field-end-3
-slice_bounds-print_field-end-3 c = simp length-take (omega arith)
+slice_bounds-print_field-end-3 g c = simp length-take (omega arith)
 
 pub slice_bounds-print_field-end-4 : goal.slice_bounds-print_field-end-4
-slice_bounds-print_field-end-4 c = simp length-take (omega arith)
+slice_bounds-print_field-end-4 g c = simp length-take (omega arith)
 
 pub slice_bounds-print_field-end-5 : goal.slice_bounds-print_field-end-5
-slice_bounds-print_field-end-5 c = simp length-take (omega arith)
+slice_bounds-print_field-end-5 g c = simp length-take (omega arith)
 
 pub slice_bounds-print_field-end-6 : goal.slice_bounds-print_field-end-6
-slice_bounds-print_field-end-6 c = simp length-take (omega arith)
+slice_bounds-print_field-end-6 g c = simp length-take (omega arith)
 
 pub slice_bounds-print_field-end-8 : goal.slice_bounds-print_field-end-8
-slice_bounds-print_field-end-8 c = simp length-take (omega arith)
+slice_bounds-print_field-end-8 g c = simp length-take (omega arith)

@@ -3,7 +3,7 @@ use Rattle.std.proofs.Common.{◌-◌, ◌≤◌, arith, rules}
 use Rattle.measuring.proofs.whole.print_rooms.Given as goal
 
 abbrev pub invariant-loop-id : goal.invariant-loop-id
-invariant-loop-id l = l.id ≤ l.most
+invariant-loop-id g l = l.id ≤ l.most
 
 abbrev pub decreases-loop-id : goal.decreases-loop-id
-decreases-loop-id l = l.most - l.id
+decreases-loop-id g l = l.most - l.id

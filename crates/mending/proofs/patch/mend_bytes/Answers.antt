@@ -1,8 +1,4 @@
 -- The answers that the check does not find alone.
-use Prim.Native.Nat.{◌-◌, ◌≤◌}
-use mathlib.Core.Path.{◌≡◌}
-use lib.ListN.{length}
-use Rattle.mending.specs.Patch.{bytes_mended}
 use Rattle.mending.proofs.Bytes.{bytes_none, bytes_one, bytes_all}
 use borrow.Author.Rules.{rules}
 use Rattle.mending.proofs.patch.mend_bytes.Goals as goal

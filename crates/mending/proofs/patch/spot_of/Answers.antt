@@ -1,9 +1,4 @@
 -- The answers that the check does not find alone.
-use Prim.Native.Nat.{◌+◌, ◌-◌, ◌≤◌}
-use mathlib.Core.Path.{◌≡◌}
-use lib.ListN.{length, drop}
-use Rattle.rules.specs.Field.{cell_of}
-use Rattle.mending.specs.Patch.{layer_of}
 use Rattle.mending.proofs.Spots.{cell-start, layer_start, cell_found, layer_found, cell_on_lem, layer_on, cell-end, layer_end}
 use borrow.Author.Rules.{rules}
 use Rattle.mending.proofs.patch.spot_of.Goals as goal

@@ -4,8 +4,6 @@ use mathlib.Core.Path.{◌≡◌}
 use lib.ListN.{length, drop}
 use Rattle.rules.specs.Field.{cell_of}
 use Rattle.mending.specs.Patch.{layer_of}
-use Rattle.mending.proofs.Spots.{cell-start, layer_start, cell_found, layer_found, cell_on_lem, layer_on, cell-end, layer_end}
-use borrow.Author.Rules.{rules}
 use Rattle.mending.proofs.patch.spot_of.Given as goal
 
 abbrev pub invariant-loop-c : goal.invariant-loop-c

@@ -5,14 +5,10 @@ use Rattle.rules.specs.Stored.{old_bytes}
 use Rattle.stored.proofs.OldForm.{old_length}
 use native.Mathlib.Omega.{arith}
 use borrow.Author.Rules.{rules}
-use Rattle.storing.proofs.whole.print_stored.Reads as reads
-use Rattle.storing.proofs.whole.print_stored.Lts as lts
-use Rattle.stored.proofs.ids.old_form.Reads as old-form-reads
-use Rattle.storing.proofs.whole.print_first_runs.Reads as print-first-runs-reads
 use Rattle.storing.proofs.whole.print_stored.Goals as goal
 
 made-room : (l out : List ℕ) → length l ≤ 200 → 601 ≤ length out → length (old_bytes l) ≤ length out
 made-room l out h k = omega (arith, old_length l)
 
 pub old_form-end-requires : goal.old_form-end-requires
-old_form-end-requires c = search (rules, made-room)
+old_form-end-requires g c = search (rules, made-room)

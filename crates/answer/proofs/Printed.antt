@@ -9,7 +9,7 @@ use mathlib.Core.List.{List, [], ◌∷◌, ◌++◌}
 use lib.ListN.{length, take, replicate, length-replicate, length-take}
 use lib.Dec.{eqb}
 use borrow.Author.Tests.{eq-eqb, ne_eqb, eqb-true, eqb-false, not-true, not-false}
-use Rattle.rules.specs.Base.{if◌then◌else◌}
+use Rattle.rules.specs.Base.{when◌then◌else◌}
 use Rattle.rules.specs.Field.{Field, spans}
 use Rattle.rules.specs.Refusals.{refusal, region_refusal}
 use Rattle.rules.specs.Distance.{raw as raw_of, greatest, blur}
@@ -54,14 +54,14 @@ listing-shown w h is ks ar cs most o = rw (rows_shown w h is ks ar cs o.ids h 0)
 module _ (w h : ℕ) (is ks ar cs dist : List ℕ) (most : ℕ) (z : Sizes) (ws ids ws' ids' out out' : List ℕ) (r : ℕ) where
   pub second_refused : (x : RegionAnswer) → AnswersRegions (region_outcome dense (lent w h is ks ar cs) dist most z ws ids) x ws' ids' → (k : Refusal) → x ≡ region.Refused k → (j : ℕ) → j ≡ number_of k
       → Prints out (refused_line j) r out' → Prints out (second (lent w h is ks ar cs) dist most z ws ids) r out'
-  unfolding second if◌then◌else◌
+  unfolding second when◌then◌else◌
   second_refused x b k y j e p =
       let a : AnswersRegions (region_outcome dense (lent w h is ks ar cs) dist most z ws ids) (region.Refused k) ws' ids' = rw (← y) b in
       rw (ne_eqb (region_outcome dense (lent w h is ks ar cs) dist most z ws ids).refused 0 (λ v. omega (arith, a.refused, number_pos k)), ← a.refused, ← e) p
 
   pub second_done : (x : RegionAnswer) → AnswersRegions (region_outcome dense (lent w h is ks ar cs) dist most z ws ids) x ws' ids' → (m o u : ℕ) → x ≡ region.Done m o u
       → Prints out (listing (shown w h is ks) most (numbered m o u ids')) r out' → Prints out (second (lent w h is ks ar cs) dist most z ws ids) r out'
-  unfolding second if◌then◌else◌
+  unfolding second when◌then◌else◌
   second_done x b m o u y p =
       let a : AnswersRegions (region_outcome dense (lent w h is ks ar cs) dist most z ws ids) (region.Done m o u) ws' ids' = rw (← y) b in
       rw (
@@ -106,11 +106,11 @@ listable w h is ks ar cs dist most z ws ids ws' ids' out x m o u f b y n =
 
 module _ (F : Field) (raw bl : List ℕ) where
   done_is : refusal F (length raw ∷ length bl ∷ []) ≡ 0 → distance_outcome F raw bl ≡ record { refused = 0; most = greatest (raw_of F); raw = raw_of F; blurred = blur F (raw_of F) }
-  unfolding distance_outcome if◌then◌else◌
+  unfolding distance_outcome when◌then◌else◌
   done_is e = rw (eq-eqb _ 0 e)
 
   refused_is : (refusal F (length raw ∷ length bl ∷ []) ≡ 0 → ⊥) → (distance_outcome F raw bl).refused ≡ refusal F (length raw ∷ length bl ∷ [])
-  unfolding distance_outcome if◌then◌else◌
+  unfolding distance_outcome when◌then◌else◌
   refused_is e = rw (ne_eqb _ 0 e)
 
   distance_accepted : (distance_outcome F raw bl).refused ≡ 0 → refusal F (length raw ∷ length bl ∷ []) ≡ 0
@@ -125,12 +125,12 @@ module _ (F : Field) (z : Sizes) (dist : List ℕ) (most : ℕ) (ws ids : List �
   second-listed : region_refusal F (length dist ∷ length ids ∷ []) (length ws) dist most ≡ 0 → stops F dist most z.border ≡ 0
       → let v = formed dense (regions F z.least z.merge (grown F dist most z.border).ids (grown F dist most z.border).next) in
       second F dist most z ws ids ≡ listing F most (record { refused = 0; most = v.most; over = v.over; cut = v.cut; workspace = replicate (length ws) 0; ids = v.ids })
-  unfolding second region_outcome if◌then◌else◌
+  unfolding second region_outcome when◌then◌else◌
   second-listed e o = let p : not (eqb (stops F dist most z.border) 0) ≡ false = rw (eq-eqb (stops F dist most z.border) 0 o) refl in rw (passes e, p)
 
   second_stopped : region_refusal F (length dist ∷ length ids ∷ []) (length ws) dist most ≡ 0 → (stops F dist most z.border ≡ 0 → ⊥)
       → second F dist most z ws ids ≡ refused_line (stops F dist most z.border)
-  unfolding second region_outcome if◌then◌else◌
+  unfolding second region_outcome when◌then◌else◌
   second_stopped e o =
       let f = ne_eqb (stops F dist most z.border) 0 o in
       let p : not (eqb (stops F dist most z.border) 0) ≡ true = rw f refl in
@@ -138,14 +138,14 @@ module _ (F : Field) (z : Sizes) (dist : List ℕ) (most : ℕ) (ws ids : List �
 
   region_number : (region_refusal F (length dist ∷ length ids ∷ []) (length ws) dist most ≡ 0 → ⊥)
       → (region_outcome dense F dist most z ws ids).refused ≡ region_refusal F (length dist ∷ length ids ∷ []) (length ws) dist most
-  unfolding region_outcome if◌then◌else◌
+  unfolding region_outcome when◌then◌else◌
   region_number e =
       let p : not (eqb (region_refusal F (length dist ∷ length ids ∷ []) (length ws) dist most) 0) ≡ true = rw (ne_eqb (region_refusal F (length dist ∷ length ids ∷ []) (length ws) dist most) 0 e) refl in
       rw p
 
   second_number : (region_refusal F (length dist ∷ length ids ∷ []) (length ws) dist most ≡ 0 → ⊥)
       → second F dist most z ws ids ≡ refused_line (region_refusal F (length dist ∷ length ids ∷ []) (length ws) dist most)
-  unfolding second if◌then◌else◌
+  unfolding second when◌then◌else◌
   second_number e = rw (region_number e, ne_eqb (region_refusal F (length dist ∷ length ids ∷ []) (length ws) dist most) 0 e)
 
 -- the same lengths, the same print
@@ -174,7 +174,7 @@ module _ (F : Field) (z : Sizes) (raw bl ws ids : List ℕ) (p : length raw ≡ 
   lens = rw (p, q, zeros-length)
 
   ran_is : ran (record { field = F; sizes = z })
-      ≡ (if eqb (distance_outcome F zeros zeros).refused 0
+      ≡ (when eqb (distance_outcome F zeros zeros).refused 0
       then second F (distance_outcome F zeros zeros).blurred (distance_outcome F zeros zeros).most z (replicate (128 * spans F + 4096) 0) zeros
       else refused_line (distance_outcome F zeros zeros).refused)
   unfolding ran second
@@ -182,7 +182,7 @@ module _ (F : Field) (z : Sizes) (raw bl ws ids : List ℕ) (p : length raw ≡ 
 
   pub ran_refused : (x : DistanceAnswer) (raw' bl' : List ℕ) → Answers (distance_outcome F raw bl) x raw' bl' → (k : Refusal) → x ≡ distance.Refused k → (j : ℕ) → j ≡ number_of k
       → (out : List ℕ) (r : ℕ) (out' : List ℕ) → Prints out (refused_line j) r out' → Prints out (ran (record { field = F; sizes = z })) r out'
-  unfolding if◌then◌else◌
+  unfolding when◌then◌else◌
   ran_refused v raw' bl' b k u j e out r out' y =
       let a : Answers (distance_outcome F raw bl) (distance.Refused k) raw' bl' = rw (← u) b in
       let bad : refusal F (length zeros ∷ length zeros ∷ []) ≡ 0 → ⊥ = λ x. omega (arith, number_pos k, a.refused, ap (λ (o : DistanceOutcome). o.refused) (done_is F raw bl (lens ∙ x))) in
@@ -192,7 +192,7 @@ module _ (F : Field) (z : Sizes) (raw bl ws ids : List ℕ) (p : length raw ≡ 
 
   pub ran_done : (x : DistanceAnswer) (raw' bl' : List ℕ) → Answers (distance_outcome F raw bl) x raw' bl' → (most : ℕ) → x ≡ distance.Done most → (out : List ℕ) (r : ℕ) (out' : List ℕ)
       → Prints out (second F bl' most z ws ids) r out' → Prints out (ran (record { field = F; sizes = z })) r out'
-  unfolding if◌then◌else◌
+  unfolding when◌then◌else◌
   ran_done v raw' bl' b most u out r out' y =
       let a : Answers (distance_outcome F raw bl) (distance.Done most) raw' bl' = rw (← u) b in
       let c = distance_accepted F raw bl (sym a.refused) in

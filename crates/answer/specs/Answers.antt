@@ -1,6 +1,6 @@
 -- What the program lends, and what is printed after the distance entry.
 use Rattle.std.specs.Prelude.{ℕ, ◌+◌, ◌*◌, ◌≤◌, ◌≡◌, List, length, eqb}
-use Rattle.rules.specs.Base.{if◌then◌else◌}
+use Rattle.rules.specs.Base.{when◌then◌else◌}
 use Rattle.rules.specs.Field.{Field}
 use Rattle.rules.specs.Numbering.{dense}
 use Rattle.rules.specs.Outcomes.{Sizes, region_outcome}
@@ -31,4 +31,4 @@ pub record Own (area raw blurred workspace : List ℕ) : Type 0 where
 unfoldable pub second : Field → List ℕ → ℕ → Sizes → List ℕ → List ℕ → List ℕ
 second F dist most z work ids =
     let b = region_outcome dense F dist most z work ids in
-    if eqb b.refused 0 then listing F most b else refused_line b.refused
+    when eqb b.refused 0 then listing F most b else refused_line b.refused

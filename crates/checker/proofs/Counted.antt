@@ -12,7 +12,7 @@ use lib.Dec.{eqb, leb, ltb}
 use borrow.Author.Tests.{eq-eqb, ne_eqb, lt-ltb, le-ltb, lt-leb, le-leb}
 use mir.Val.{Fits}
 use mir.Syntax.{w64}
-use Rattle.rules.specs.Base.{◌and◌, if◌then◌else◌}
+use Rattle.rules.specs.Base.{◌and◌, when◌then◌else◌}
 use Rattle.rules.specs.Field.{Field, spans, con_of}
 use Rattle.rules.specs.Refusals.{most_spans}
 use Rattle.laws.proofs.Basics.{if-ind, tests, get_d_any, and_no}
@@ -30,30 +30,30 @@ many_le zero p = le_refl 0
 many_le (suc n) p = let h = many_le n p in if-ind (λ k. k ≤ suc n) (p n) (λ _. omega arith) (λ _. omega arith)
 
 many_join : (a k : ℕ) (p : ℕ → Bool) → how_many (a + k) p ≡ how_many a p + how_many k (λ j. p (a + j))
-unfolding how_many if◌then◌else◌
+unfolding how_many when◌then◌else◌
 many_join a zero p = let e : a + 0 ≡ a = omega arith in rw e (omega arith)
 many_join a (suc k) p = let e : a + suc k ≡ suc (a + k) = omega arith in rw (e, many_join a k p) (more (p (a + k)) (how_many a p) (how_many k (λ j. p (a + j))))
   where
-    more : (b : Bool) (x y : ℕ) → (if b then suc (x + y) else (x + y)) ≡ x + (if b then suc y else y)
+    more : (b : Bool) (x y : ℕ) → (when b then suc (x + y) else (x + y)) ≡ x + (when b then suc y else y)
     more true x y = omega arith
     more false x y = refl
 
 -- ---------------------------------------------------------------- the parts
 
-pub most_few : (n : ℕ) → n < 224 → n ≡ (if ltb n 224 then n else 224)
-unfolding if◌then◌else◌
+pub most_few : (n : ℕ) → n < 224 → n ≡ (when ltb n 224 then n else 224)
+unfolding when◌then◌else◌
 most_few n h = rw (lt-ltb n 224 h)
 
-pub most_many : (n : ℕ) → 224 ≤ n → 224 ≡ (if ltb n 224 then n else 224)
-unfolding if◌then◌else◌
+pub most_many : (n : ℕ) → 224 ≤ n → 224 ≡ (when ltb n 224 then n else 224)
+unfolding when◌then◌else◌
 most_many n h = rw (le-ltb n 224 h)
 
-pub counted_none : (k x a : ℕ) → x ≡ 255 → k ≡ (if eqb x 255 then k else k + a)
-unfolding if◌then◌else◌
+pub counted_none : (k x a : ℕ) → x ≡ 255 → k ≡ (when eqb x 255 then k else k + a)
+unfolding when◌then◌else◌
 counted_none k x a e = rw (eq-eqb x 255 e)
 
-pub counted_some : (k x a : ℕ) → (x ≡ 255 → ⊥) → k + a ≡ (if eqb x 255 then k else k + a)
-unfolding if◌then◌else◌
+pub counted_some : (k x a : ℕ) → (x ≡ 255 → ⊥) → k + a ≡ (when eqb x 255 then k else k + a)
+unfolding when◌then◌else◌
 counted_some k x a e = rw (ne_eqb x 255 e)
 
 -- one more connection
@@ -62,19 +62,19 @@ module _ (cs : List ℕ) (b o j k : ℕ) (e : k ≡ links_in cs o b j) where
   unfolding links_in
   part_room m h g = omega (arith, many_le j (λ i. in_half cs o (b + i)))
 
-  weight : b % 4 ≡ 0 → (if eqb (get_or cs (b + j) 0) 255 then k else k + (j + o) % 4 / 2) ≡ (if in_half cs o (b + j) then suc k else k)
-  unfolding in_half if◌then◌else◌ ◌and◌
+  weight : b % 4 ≡ 0 → (when eqb (get_or cs (b + j) 0) 255 then k else k + (j + o) % 4 / 2) ≡ (when in_half cs o (b + j) then suc k else k)
+  unfolding in_half when◌then◌else◌ ◌and◌
   weight a =
       elim (ℕ_discrete (get_or cs (b + j) 0) 255) [
         | yes z ↦ rw (eq-eqb (get_or cs (b + j) 0) 255 z)
         | no z ↦ rw (ne_eqb (get_or cs (b + j) 0) 255 z) (half (leb 2 ((b + j + o) % 4)) refl)
       ]
     where
-      half : (t : Bool) → leb 2 ((b + j + o) % 4) ≡ t → k + (j + o) % 4 / 2 ≡ (if t then suc k else k)
+      half : (t : Bool) → leb 2 ((b + j + o) % 4) ≡ t → k + (j + o) % 4 / 2 ≡ (when t then suc k else k)
       half true z = omega tests
       half false z = omega tests
 
-  pub part-turn : (r : ℕ) → b % 4 ≡ 0 → r ≡ (if eqb (get_or cs (b + j) 0) 255 then k else k + (j + o) % 4 / 2) → r ≡ links_in cs o b (j + 1)
+  pub part-turn : (r : ℕ) → b % 4 ≡ 0 → r ≡ (when eqb (get_or cs (b + j) 0) 255 then k else k + (j + o) % 4 / 2) → r ≡ links_in cs o b (j + 1)
   unfolding links_in how_many
   part-turn r a f = f ∙ weight a ∙ rw (add-one, e)
 
@@ -82,7 +82,7 @@ module _ (cs : List ℕ) (b o j k : ℕ) (e : k ≡ links_in cs o b j) where
   part_end m h g = let q : m ≡ j = omega arith in rw q e
 
 -- one more part
-module _ (b m n : ℕ) (f : m ≡ (if ltb (n - b) 224 then (n - b) else 224)) where
+module _ (b m n : ℕ) (f : m ≡ (when ltb (n - b) 224 then (n - b) else 224)) where
   -- up to the end, or of whole spans
   most_is : b < n → (0 < m) × (b + m ≤ n) × (m ≤ 224) × (n % 4 ≡ 0 → b % 4 ≡ 0 → (b + m) % 4 ≡ 0)
   most_is h = rw f
@@ -135,15 +135,15 @@ module _ (F : Field) (ok : length F.con ≡ 4 * spans F) where
   linked_at s d i e h l = rw (e, get_d_any F.con (4 * s + d) 0 255 (omega arith))
 
   -- two that count, one after the other
-  two_more : (a b : Bool) (x y : ℕ) → (if b then suc (if a then suc (x + y) else (x + y)) else (if a then suc (x + y) else (x + y))) ≡ (if a then suc x else x) + (if b then suc y else y)
-  unfolding if◌then◌else◌
+  two_more : (a b : Bool) (x y : ℕ) → (when b then suc (when a then suc (x + y) else (x + y)) else (when a then suc (x + y) else (x + y))) ≡ (when a then suc x else x) + (when b then suc y else y)
+  unfolding when◌then◌else◌
   two_more true true x y = omega arith
   two_more true false x y = omega arith
   two_more false true x y = omega arith
   two_more false false x y = refl
 
   low_spans : (n : ℕ) → n ≤ spans F → how_many (4 * n) (in_half F.con 2) ≡ how_many n (has_link F 0) + how_many n (has_link F 1)
-  unfolding how_many if◌then◌else◌
+  unfolding how_many when◌then◌else◌
   low_spans zero h = refl
   low_spans (suc n) h =
       let e : 4 * suc n ≡ suc (suc (suc (suc (4 * n)))) = omega arith in
@@ -160,7 +160,7 @@ module _ (F : Field) (ok : length F.con ≡ 4 * spans F) where
       (two_more (has_link F 0 n) (has_link F 1 n) (how_many n (has_link F 0)) (how_many n (has_link F 1)))
 
   high_spans : (n : ℕ) → n ≤ spans F → how_many (4 * n) (in_half F.con 0) ≡ how_many n (has_link F 2) + how_many n (has_link F 3)
-  unfolding how_many if◌then◌else◌
+  unfolding how_many when◌then◌else◌
   high_spans zero h = refl
   high_spans (suc n) h =
       let e : 4 * suc n ≡ suc (suc (suc (suc (4 * n)))) = omega arith in

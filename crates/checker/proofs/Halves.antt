@@ -11,7 +11,7 @@ use mathlib.Core.Bool.{Bool, true, false, not, true≢false}
 use lib.ListN.{length, get_or}
 use lib.Dec.{eqb}
 use borrow.Author.Tests.{eq-eqb, ne_eqb, eqb-true, eqb-false, lt-ltb, ltb-true, leb-false, lt-leb, not-true, not-false}
-use Rattle.rules.specs.Base.{◌and◌, ◌or◌, if◌then◌else◌, every}
+use Rattle.rules.specs.Base.{◌and◌, ◌or◌, when◌then◌else◌, every}
 use Rattle.rules.specs.Field.{Field, spans, cell_of, cell_to, leaves, con_of, near}
 use Rattle.rules.specs.Refusals.{good_con, good_back}
 use Rattle.rules.specs.Mend.{stays}
@@ -41,7 +41,7 @@ without_other q y z n = rw (ne_eqb z y n) (and_yes (q z))
 
 -- one fewer
 many-without : (m : ℕ) (q : ℕ → Bool) (y : ℕ) → y < m → q y ≡ true → how_many m q ≡ suc (how_many m (without q y))
-unfolding how_many if◌then◌else◌
+unfolding how_many when◌then◌else◌
 many-without zero q y h e = absurd (omega arith)
 many-without (suc m) q y h e =
     elim (ℕ_discrete m y) [
@@ -51,7 +51,7 @@ many-without (suc m) q y h e =
     ]
   where
     more : (b : Bool) → how_many m q ≡ suc (how_many m (without q y))
-        → (if b then suc (how_many m q) else how_many m q) ≡ suc (if b then suc (how_many m (without q y)) else how_many m (without q y))
+        → (when b then suc (how_many m q) else how_many m q) ≡ suc (when b then suc (how_many m (without q y)) else how_many m (without q y))
     more true r = ap suc r
     more false r = r
 

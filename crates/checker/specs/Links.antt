@@ -1,6 +1,6 @@
 -- Refusals 5 and 6, cell by cell and by halves of the connections, as the checker goes through them.
 use Rattle.std.specs.Prelude.{ℕ, zero, suc, ◌+◌, ◌*◌, ◌%◌, ◌<◌, ◌≡◌, Bool, false, not, List, get_or, leb, ltb, eqb}
-use Rattle.rules.specs.Base.{◌and◌, ◌or◌, if◌then◌else◌, every}
+use Rattle.rules.specs.Base.{◌and◌, ◌or◌, when◌then◌else◌, every}
 use Rattle.rules.specs.Field.{Field, cell_to, leaves}
 use Rattle.rules.specs.Refusals.{good_con, good_back}
 use Rattle.rules.specs.Mend.{stays}
@@ -36,7 +36,7 @@ half_at F s = stays F s 0 and stays F s 1
 -- how many numbers below n p holds of
 unfoldable pub how_many : ℕ → (ℕ → Bool) → ℕ
 how_many zero p = 0
-how_many (suc n) p = if p n then suc (how_many n p) else how_many n p
+how_many (suc n) p = when p n then suc (how_many n p) else how_many n p
 
 -- number i of the connections is not none, and is in the half o: 2 for directions 0 and 1, 0 for directions 2 and 3
 unfoldable pub in_half : List ℕ → ℕ → ℕ → Bool

@@ -1,7 +1,7 @@
 // How many connections there are in half of the directions: 0 and 1, or 2 and 3.
 // Counted in bytes, part by part, so that sixteen are counted at once when compiled.
 ghost use Rattle.std.specs.Prelude.{◌≡◌, ◌+◌, ◌*◌, ◌%◌, ◌<◌, ◌≤◌, length, eqb, ltb};
-ghost use Rattle.rules.specs.Base.{if◌then◌else◌};
+ghost use Rattle.rules.specs.Base.{when◌then◌else◌};
 ghost use Rattle.rules.specs.Refusals.{most_spans};
 ghost use Rattle.checker.specs.Links.{links_in};
 
@@ -9,7 +9,7 @@ use field::place::NO_LAYER;
 
 // As many connections as are counted in a byte.
 fn at_most(n: usize) -> u8
-    ensures { result ≡ (if ltb n 224 then n else 224) }
+    ensures { result ≡ (when ltb n 224 then n else 224) }
 {
     if n < 224 {
         return n as u8;
@@ -20,7 +20,7 @@ fn at_most(n: usize) -> u8
 // Connection x counts a, none counts nothing.
 fn counted(k: u8, x: u8, a: u8) -> u8
     requires { k + a < 256 }
-    ensures { result ≡ (if eqb x 255 then k else k + a) }
+    ensures { result ≡ (when eqb x 255 then k else k + a) }
 {
     if x == NO_LAYER {
         return k;

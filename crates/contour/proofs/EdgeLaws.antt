@@ -8,7 +8,7 @@ use mathlib.Core.List.{List}
 use lib.ListN.{get_or, get_or-eq_default}
 use lib.Dec.{eqb, ltb}
 use borrow.Author.Tests.{eq-eqb, ne_eqb, lt-ltb, le-ltb, ltb-true, ltb-false}
-use Rattle.rules.specs.Base.{◌and◌, if◌then◌else◌}
+use Rattle.rules.specs.Base.{◌and◌, when◌then◌else◌}
 use Rattle.rules.specs.Field.{none}
 use Rattle.rules.specs.Net.{Net}
 use Rattle.rules.specs.Contour.{across, solid, first_solid}
@@ -47,7 +47,7 @@ unfolding edge_number edge_of
 number_edge k h = if-ind (λ (x : Edge). edge_number x ≡ k) (ltb k 4) (λ _. refl) (λ f. omega (arith, ltb-false k 4 f))
 
 pub edge_number_lem : (e : Edge) → edge_number e ≤ 4 → (e ≡ At 4 → ⊥) → e ≡ edge_of (edge_number e)
-unfolding edge_number edge_of if◌then◌else◌
+unfolding edge_number edge_of when◌then◌else◌
 edge_number_lem (At d) h n =
     let k : d ≡ 4 → ⊥ = λ q. n (ap At q) in
     rw (lt-ltb d 4 (omega (arith, k)))
@@ -81,7 +81,7 @@ module _ (N : Net) (ids : List ℕ) (s d : ℕ) (h : d ≤ 4) (e : first_solid N
 
   module _ (g : d ≡ 4 → ⊥) (b : Bool) (f : b ≡ solid N ids s d) where
     pub first_found : b ≡ true → edge_number (At d) ≡ first_solid N ids s
-    unfolding first_from edge_number if◌then◌else◌
+    unfolding first_from edge_number when◌then◌else◌
     first_found t =
         let q : 4 - d ≡ suc (4 - (d + 1)) = omega (arith, g) in
         let z : solid N ids s d ≡ true = sym f ∙ t in
@@ -93,14 +93,14 @@ module _ (N : Net) (ids : List ℕ) (s d : ℕ) (h : d ≤ 4) (e : first_solid N
     found_edge = edge_number_lem (At d) h (λ e. g (ap edge_number e))
 
     pub first_more : b ≡ false → first_solid N ids s ≡ first_from N ids s (4 - (d + 1)) (d + 1)
-    unfolding first_from if◌then◌else◌
+    unfolding first_from when◌then◌else◌
     first_more t =
         let q : 4 - d ≡ suc (4 - (d + 1)) = omega (arith, g) in
         let z : solid N ids s d ≡ false = sym f ∙ t in
         e ∙ rw (q, z)
 
 pub none_edge : Nowhere ≡ edge_of (edge_number Nowhere)
-unfolding edge_number edge_of if◌then◌else◌
+unfolding edge_number edge_of when◌then◌else◌
 none_edge = refl
 
 -- ---------------------------------------------------------------- back at the start

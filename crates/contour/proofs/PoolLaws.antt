@@ -11,7 +11,7 @@ use lib.Seq.{take-suc-set, drop-set-add, take-set-le, get_or-set_other, get_or-s
 use lib.Dec.{eqb, ltb}
 use borrow.Author.Tests.{eqb-true, eq-eqb, ne_eqb, lt-ltb}
 use borrow.Rule.Slice.PartMut.{put_mid, mid_of, same_len_mid}
-use Rattle.rules.specs.Base.{◌and◌, if◌then◌else◌, many}
+use Rattle.rules.specs.Base.{◌and◌, when◌then◌else◌, many}
 use Rattle.rules.specs.Net.{near}
 use Rattle.rules.specs.Contour.{across, solid, stride, trim}
 use Rattle.laws.proofs.Basics.{if-ind, both, tests, and_both}
@@ -207,7 +207,7 @@ module _ (pool : Pool) (cs cons ids ws : List ℕ) (v : Walker) (st : Standing p
 
   pub stride-step : (b : Bool) → b ≡ solid (net_at pool.table ids ws) ids S D → b ≡ false
       → (to : SpanIx) → to.0 ≡ get_or ws (pool.table + (4 * S + D)) 0 → (u : Walker) → u ≡ stepped v to → Stridden pool ids ws v ws u
-  unfolding view stride if◌then◌else◌
+  unfolding view stride when◌then◌else◌
   stride-step b f t to g u e =
       let z : solid (net_at pool.table ids ws) ids S D ≡ false = sym f ∙ t in
       let m : near (net_at pool.table ids ws) S D ≡ to.0 = near_is pool.table ids ws cons S D to.0 stand_at st.dir g in
@@ -215,7 +215,7 @@ module _ (pool : Pool) (cs cons ids ws : List ℕ) (v : Walker) (st : Standing p
 
   module _ (b : Bool) (f : b ≡ solid (net_at pool.table ids ws) ids S D) (t : b ≡ true) (r : ℕ) (g : r ≡ across (net_at pool.table ids ws) ids S D) where
     pub stride-turn : r ≡ v.last → (u : Walker) → u ≡ turned v → Stridden pool ids ws v ws u
-    unfolding view stride if◌then◌else◌
+    unfolding view stride when◌then◌else◌
     stride-turn q u e =
         let z : solid (net_at pool.table ids ws) ids S D ≡ true = sym f ∙ t in
         let a : across (net_at pool.table ids ws) ids S D ≡ v.last = sym g ∙ q in
@@ -230,7 +230,7 @@ module _ (pool : Pool) (cs cons ids ws : List ℕ) (v : Walker) (st : Standing p
       stand_in = omega (arith, stand_room, st.apart, st.lent.room)
 
       pub stride_note : (u : Walker) → u ≡ turned (noted v r) → Stridden pool ids ws v (set ws (pool.at + v.end) r) u
-      unfolding view stride if◌then◌else◌
+      unfolding view stride when◌then◌else◌
       stride_note u e =
           let z : solid (net_at pool.table ids ws) ids S D ≡ true = sym f ∙ t in
           let a : across (net_at pool.table ids ws) ids S D ≡ r = sym g in
@@ -244,12 +244,12 @@ module _ (pool : Pool) (cs cons ids ws : List ℕ) (v : Walker) (st : Standing p
 -- ---------------------------------------------------------------- the start
 
 many-one : (v : ℕ) (l : List ℕ) (s : ℕ) → s < length l → get_or l s 0 ≡ v → 0 < many (eqb v) l
-unfolding many if◌then◌else◌
+unfolding many when◌then◌else◌
 many-one v [] s h e = absurd (omega arith)
 many-one v (x ∷ l) zero h e = rw (eq-eqb v x (sym e)) (omega arith)
 many-one v (x ∷ l) (suc s) h e = go (eqb v x) (many-one v l s (omega arith) e)
   where
-    go : (b : Bool) → 0 < many (eqb v) l → 0 < (if b then suc (many (eqb v) l) else many (eqb v) l)
+    go : (b : Bool) → 0 < many (eqb v) l → 0 < (when b then suc (many (eqb v) l) else many (eqb v) l)
     go true h = omega arith
     go false h = h
 
@@ -323,7 +323,7 @@ module _ (at : ℕ) (ws : List ℕ) (start e : ℕ) (h : start < e) (g : at + e 
   }
 
   pub trim-drop : 2 ≤ e - start → get_or ws (at + start) 0 ≡ get_or ws (at + (e - 1)) 0 → Trimmed at ws start e (set ws (at + (e - 1)) 0) (e - 1)
-  unfolding trim if◌then◌else◌
+  unfolding trim when◌then◌else◌
   trim-drop k n = record {
     same =
         let t : (ltb 1 (length list) and eqb (get_or list 0 0) (get_or list (length list - 1) 0)) ≡ true =

@@ -9,7 +9,7 @@ use mathlib.Core.List.{List, [], ◌∷◌}
 use lib.ListN.{length, get_or, length-append, length-take}
 use lib.Dec.{eqb}
 use borrow.Author.Tests.{eqb-true, eqb-false, eq-eqb, not-false}
-use Rattle.rules.specs.Base.{◌and◌, if◌then◌else◌, many}
+use Rattle.rules.specs.Base.{◌and◌, when◌then◌else◌, many}
 use Rattle.rules.specs.Net.{Net, spans, near}
 use Rattle.rules.specs.Contour.{across, solid, Walker, stride, walk, trim, walk_from, contour, cut_short}
 use Rattle.laws.proofs.Basics.{if-ind, All, Distinct, zeros_above}
@@ -28,7 +28,7 @@ trail N ids v (suc k) = key (strides N ids k v) ∷ trail N ids v k
 
 -- 0 at the places of the region, four a span
 mark : ℕ → ℕ → ℕ
-mark own x = if eqb own x then 0 else 1
+mark own x = when eqb own x then 0 else 1
 
 marks : ℕ → List ℕ → List ℕ
 marks own [] = []
@@ -40,7 +40,7 @@ marks_length own [] = refl
 marks_length own (x ∷ xs) = omega (arith, marks_length own xs)
 
 mark_own : (own x : ℕ) → x ≡ own → mark own x ≡ 0
-unfolding mark if◌then◌else◌
+unfolding mark when◌then◌else◌
 mark_own own x e = rw (eq-eqb own x (sym e))
 
 marks_at_lem : (own : ℕ) (l : List ℕ) (s d : ℕ) → s < length l → d < 4 → get_or l s 0 ≡ own → get_or (marks own l) (4 * s + d) 1 ≡ 0
@@ -56,12 +56,12 @@ marks_at_lem own (x ∷ xs) (suc s) d h g e =
     rw q (marks_at_lem own xs s d (omega arith) g e)
 
 marks_many : (own : ℕ) (l : List ℕ) → many (eqb 0) (marks own l) ≡ 4 * many (eqb own) l
-unfolding marks many mark if◌then◌else◌
+unfolding marks many mark when◌then◌else◌
 marks_many own [] = refl
 marks_many own (x ∷ xs) = go (eqb own x) (marks_many own xs)
   where
     go : (b : Bool) → many (eqb 0) (marks own xs) ≡ 4 * many (eqb own) xs
-        → many (eqb 0) ((if b then 0 else 1) ∷ (if b then 0 else 1) ∷ (if b then 0 else 1) ∷ (if b then 0 else 1) ∷ marks own xs) ≡ 4 * (if b then suc (many (eqb own) xs) else many (eqb own) xs)
+        → many (eqb 0) ((when b then 0 else 1) ∷ (when b then 0 else 1) ∷ (when b then 0 else 1) ∷ (when b then 0 else 1) ∷ marks own xs) ≡ 4 * (when b then suc (many (eqb own) xs) else many (eqb own) xs)
     go true e = omega arith
     go false e = e
 

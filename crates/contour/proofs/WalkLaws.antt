@@ -8,7 +8,7 @@ use mathlib.Core.Bool.{Bool, true, false, not}
 use mathlib.Core.List.{List}
 use lib.ListN.{length, get_or}
 use lib.Dec.{eqb}
-use Rattle.rules.specs.Base.{◌and◌, if◌then◌else◌}
+use Rattle.rules.specs.Base.{◌and◌, when◌then◌else◌}
 use Rattle.rules.specs.Net.{Net, spans}
 use Rattle.rules.specs.Contour.{stride, walk, trim, walk_from, contour, cut_short, Walker as RWalker}
 use Rattle.laws.proofs.Strides.{Answered}
@@ -37,11 +37,11 @@ pub record Going (pool : Pool) (ids ws₀ : List ℕ) (s d start : ℕ) (ws : Li
 
 module _ (N : Net) (ids : List ℕ) (s d : ℕ) (v u : RWalker) (e : u ≡ stride N ids v) where
   walk_go : (m : ℕ) → back_at s d u.span u.dir ≡ false → walk N ids s d (suc m) v ≡ walk N ids s d m u
-  unfolding walk back_at if◌then◌else◌
+  unfolding walk back_at when◌then◌else◌
   walk_go m b = let z : (eqb (stride N ids v).span s and eqb (stride N ids v).dir d) ≡ false = rw (← e) b in rw (z, ← e)
 
   walk-back : (m : ℕ) → back_at s d u.span u.dir ≡ true → walk N ids s d (suc m) v ≡ u
-  unfolding walk back_at if◌then◌else◌
+  unfolding walk back_at when◌then◌else◌
   walk-back m b = let z : (eqb (stride N ids v).span s and eqb (stride N ids v).dir d) ≡ true = rw (← e) b in rw (z, ← e)
 
 walk_none : (N : Net) (ids : List ℕ) (s d m : ℕ) (v : RWalker) → m ≡ 0 → walk N ids s d m v ≡ v

@@ -1,6 +1,6 @@
 -- What an edge test and a walk are lent: neighbours, and connections that go with them. No area is read, so the ids stand where a net has its areas.
 use Rattle.std.specs.Prelude.{ℕ, zero, suc, ◌+◌, ◌%◌, ◌<◌, ◌≡◌, List, ltb}
-use Rattle.rules.specs.Base.{if◌then◌else◌}
+use Rattle.rules.specs.Base.{when◌then◌else◌}
 use Rattle.rules.specs.Field.{none}
 use Rattle.rules.specs.Net.{Net, spans, near}
 use Rattle.rules.specs.Contour.{solid}
@@ -20,7 +20,7 @@ pub record Ways (table : ℕ) (con ids ws : List ℕ) : Type 0 where
 -- the first solid direction of the n from d on
 unfoldable pub first_from : Net → List ℕ → ℕ → ℕ → ℕ → ℕ
 first_from N ids s zero d = 4
-first_from N ids s (suc n) d = let rest = first_from N ids s n (d + 1) in if solid N ids s d then d else rest
+first_from N ids s (suc n) d = let rest = first_from N ids s n (d + 1) in when solid N ids s d then d else rest
 
 -- the rules' number for a direction or none
 unfoldable pub edge_number : Edge → ℕ
@@ -29,4 +29,4 @@ edge_number Nowhere = 4
 
 -- and the direction or none of a number
 unfoldable pub edge_of : ℕ → Edge
-edge_of k = if ltb k 4 then At k else Nowhere
+edge_of k = when ltb k 4 then At k else Nowhere

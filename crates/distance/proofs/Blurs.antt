@@ -8,7 +8,7 @@ use mathlib.Core.List.{List, []}
 use lib.ListN.{length, get_or, set, drop, drop_of_length-le, get_or-eq_default}
 use lib.Seq.{drop-cons}
 use borrow.Author.Tests.{le-leb, lt-leb}
-use Rattle.rules.specs.Base.{if◌then◌else◌, upto}
+use Rattle.rules.specs.Base.{when◌then◌else◌, upto}
 use Rattle.rules.specs.Field.{Field, spans, near, corner, cell_to}
 use Rattle.rules.specs.Distance.{greatest, term, blur_at}
 use Rattle.laws.proofs.Basics.{get_d_any}
@@ -99,14 +99,14 @@ module _ (w : ℕ) (is cs l cons : List ℕ) (c s d v : ℕ) (o : Sized w is cs 
 
 module _ (w : ℕ) (is cs l : List ℕ) (p s v : ℕ) (q : v ≡ get_or l s 0) where
   pub blur-stays : v ≤ 2 → (F : Field) → Spot F w is cs p s → v ≡ blur_at F l s
-  unfolding blur_at if◌then◌else◌
+  unfolding blur_at when◌then◌else◌
   blur-stays h F u = rw (← q, le-leb v 2 h)
 
   pub blur_mean : (a b c d : ℕ) → 2 < v
       → ((F : Field) → Spot F w is cs p s → a ≡ term F l s v 0) → ((F : Field) → Spot F w is cs p s → b ≡ term F l s v 1)
       → ((F : Field) → Spot F w is cs p s → c ≡ term F l s v 2) → ((F : Field) → Spot F w is cs p s → d ≡ term F l s v 3)
       → (F : Field) → Spot F w is cs p s → (v + a + b + c + d + 5) / 9 ≡ blur_at F l s
-  unfolding blur_at if◌then◌else◌
+  unfolding blur_at when◌then◌else◌
   blur_mean a b c d h e₀ e₁ e₂ e₃ F u = rw (← q, lt-leb v 2 h, ← e₀ F u, ← e₁ F u, ← e₂ F u, ← e₃ F u)
 
 -- one layer more: x is the blurred value of span i + j, of every field that fits what is lent

@@ -9,7 +9,7 @@ use mathlib.Core.List.{List}
 use lib.ListN.{length, get_or}
 use lib.Dec.{eqb}
 use borrow.Author.Tests.{eq-eqb, ne_eqb, lt-ltb, le-ltb}
-use Rattle.rules.specs.Base.{if◌then◌else◌}
+use Rattle.rules.specs.Base.{when◌then◌else◌}
 use Rattle.rules.specs.Field.{Field, spans, near, area_of, cell_of, cell_to, con_of}
 use Rattle.rules.specs.Distance.{same, start_at}
 use Rattle.laws.proofs.Basics.{get_d_any, if-ind, every-at, every_all, four_ways, same_test}
@@ -106,7 +106,7 @@ module _ (w : ℕ) (is cons ar : List ℕ) (c s : ℕ) where
 
   -- a span that lacks a neighbour starts with 0
   start_lacks : (d : ℕ) → d < 4 → get_or cons d 0 ≡ 255 → get_or ar s 0 < 256 → (F : Field) → Leaf F w is cons c s → F.area ≡ ar → 0 ≡ start_at F s
-  unfolding area_of start_at if◌then◌else◌
+  unfolding area_of start_at when◌then◌else◌
   start_lacks d g z b F u q =
       let here : area_of F s ≡ get_or ar s 0 = get_d_any F.area s 256 0 u.stands.span ∙ ap (λ (x : List ℕ). get_or x s 0) q in
       let y : same F s d ≡ 0 = missing_not-same F s d (omega (arith, u.reached.celled.few)) (omega arith) (sym (leaf_none w is cons c d g z F s u)) in
@@ -145,18 +145,18 @@ module _ (w : ℕ) (is cons ar : List ℕ) (c s d t : ℕ) (g : d < 4) (n : (F :
     here = get_d_any F.area s 256 0 u.stands.span ∙ ap (λ (x : List ℕ). get_or x s 0) q
 
   pub same_yes : (t ≡ 65535 → ⊥) → get_or ar t 0 ≡ get_or ar s 0 → (F : Field) → Leaf F w is cons c s → F.area ≡ ar → 1 ≡ same F s d
-  unfolding same area_of if◌then◌else◌
+  unfolding same area_of when◌then◌else◌
   same_yes k z F u q = rw (eq-eqb (get_or F.area (near F s d) 256) (get_or F.area s 256) (there k F u q ∙ z ∙ sym (here k F u q)))
 
   pub same_not : (t ≡ 65535 → ⊥) → (get_or ar t 0 ≡ get_or ar s 0 → ⊥) → (F : Field) → Leaf F w is cons c s → F.area ≡ ar → 0 ≡ same F s d
-  unfolding same area_of if◌then◌else◌
+  unfolding same area_of when◌then◌else◌
   same_not k z F u q = rw (ne_eqb (get_or F.area (near F s d) 256) (get_or F.area s 256) (λ y. z (sym (there k F u q) ∙ y ∙ here k F u q)))
 
 -- the neighbours' counts, of every field that fits what is lent
 module _ (w : ℕ) (is ar cons : List ℕ) (c s : ℕ) where
   pub start_none : (d x : ℕ) → d < 4 → ((F : Field) → Leaf F w is cons c s → F.area ≡ ar → x ≡ same F s d) → x ≡ 0
       → (F : Field) → Leaf F w is cons c s → F.area ≡ ar → 0 ≡ start_at F s
-  unfolding start_at if◌then◌else◌
+  unfolding start_at when◌then◌else◌
   start_none d x g n z F u q =
       let y : same F s d ≡ 0 = sym (n F u q) ∙ z in
       rw (lt-ltb (same F s 0 + same F s 1 + same F s 2 + same F s 3) 4 (same_fewer F s d g y))
@@ -167,7 +167,7 @@ module _ (w : ℕ) (is ar cons : List ℕ) (c s : ℕ) where
       (e₂ : (F : Field) → Leaf F w is cons c s → F.area ≡ ar → x₂ ≡ same F s 2)
       (e₃ : (F : Field) → Leaf F w is cons c s → F.area ≡ ar → x₃ ≡ same F s 3) where
     pub start_all : (x₀ ≡ 0 → ⊥) → (x₁ ≡ 0 → ⊥) → (x₂ ≡ 0 → ⊥) → (x₃ ≡ 0 → ⊥) → (F : Field) → Leaf F w is cons c s → F.area ≡ ar → 65535 ≡ start_at F s
-    unfolding start_at if◌then◌else◌
+    unfolding start_at when◌then◌else◌
     start_all a b y z F u q =
         let h : 4 ≤ x₀ + x₁ + x₂ + x₃ = omega arith in
         rw (← e₀ F u q, ← e₁ F u q, ← e₂ F u q, ← e₃ F u q, le-ltb (x₀ + x₁ + x₂ + x₃) 4 h)

@@ -11,7 +11,7 @@ use mathlib.Core.List.{List}
 use lib.ListN.{length, get_or, set}
 use lib.Seq.{get_or-set_other, set-get_or}
 use borrow.Author.Tests.{lt-leb, le-leb, leb-true}
-use Rattle.rules.specs.Base.{if◌then◌else◌, upto}
+use Rattle.rules.specs.Base.{when◌then◌else◌, upto}
 use Rattle.rules.specs.Field.{Field, spans, near, cell_of}
 use Rattle.rules.specs.Distance.{far, least_of, lower, start, pass1, pass2, raw, blur_at, blur}
 use Rattle.rules.specs.Rows.{over_cell, downto, column, row_up, row_down, from_start, blur_to, pass1_row, pass2_row, blur_row}
@@ -80,12 +80,12 @@ pub high_fits : (l : List ℕ) (n m s : ℕ) → s ≡ high_to l n → n ≤ m �
 high_fits l n m s e h = omega (arith, high_le l n)
 
 pub high_here : (l : List ℕ) (k : ℕ) → 0 < k → 2 < get_or l (k - 1) 0 → k ≡ high_to l k
-unfolding high_to if◌then◌else◌
+unfolding high_to when◌then◌else◌
 high_here l zero h g = absurd (omega arith)
 high_here l (suc k) h g = let q : suc k - 1 ≡ k = omega arith in rw (lt-leb (get_or l k 0) 2 (rw q at g))
 
 pub high_go : (l : List ℕ) (k z : ℕ) → 0 < k → get_or l (k - 1) 0 ≤ 2 → z ≡ high_to l k → z ≡ high_to l (k - 1)
-unfolding high_to if◌then◌else◌
+unfolding high_to when◌then◌else◌
 high_go l zero z h g e = absurd (omega arith)
 high_go l (suc k) z h g e = let q : suc k - 1 ≡ k = omega arith in rw q (rw (le-leb (get_or l k 0) 2 (rw q at g)) at e)
 

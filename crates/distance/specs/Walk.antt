@@ -1,6 +1,6 @@
 -- A part of a row, of the cells or of the spans, as the loops go, and the cell of each span; f is what is done to the list at a span.
 use Rattle.std.specs.Prelude.{ℕ, zero, suc, ◌+◌, List, get_or, set, leb}
-use Rattle.rules.specs.Base.{if◌then◌else◌, upto, tab}
+use Rattle.rules.specs.Base.{when◌then◌else◌, upto, tab}
 use Rattle.rules.specs.Field.{Field, spans, cell_of}
 use Rattle.rules.specs.Rows.{over_cell, downto, column}
 
@@ -22,7 +22,7 @@ spans_up f s k l = upto k (λ j. f (s + j)) l
 -- as many of the first s values as there are up to the last above 2
 unfoldable pub high_to : List ℕ → ℕ → ℕ
 high_to l zero = zero
-high_to l (suc s) = if leb (get_or l s 0) 2 then high_to l s else suc s
+high_to l (suc s) = when leb (get_or l s 0) 2 then high_to l s else suc s
 
 -- a list with the cell of span s in its place, and with those of all spans
 unfoldable pub note_cell : Field → ℕ → List ℕ → List ℕ

@@ -8,7 +8,7 @@ use mathlib.Core.List.{List, [], ◌∷◌}
 use lib.ListN.{length}
 use lib.Dec.{eqb}
 use borrow.Author.Tests.{eqb-true, ne_eqb, ltb-false, leb-false, not-false}
-use Rattle.rules.specs.Base.{if◌then◌else◌, every}
+use Rattle.rules.specs.Base.{when◌then◌else◌, every}
 use Rattle.rules.specs.Field.{Field, spans, near, con_of}
 use Rattle.rules.specs.Refusals.{too_wide, too_many, wrong_length, wrong_cells, wrong_reach, wrong_back, good_con, good_back, refusal}
 use Rattle.rules.specs.Distance.{start, pass1, raw, blur}
@@ -27,8 +27,8 @@ three_lengths F a b c e =
 -- ---------------------------------------------------------------- the refresh
 
 -- a number, if it is not 0, or else the rest, that came to 0
-went_on : (k r : ℕ) → (if not (eqb k 0) then k else r) ≡ 0 → (k ≡ 0) × (r ≡ 0)
-unfolding if◌then◌else◌
+went_on : (k r : ℕ) → (when not (eqb k 0) then k else r) ≡ 0 → (k ≡ 0) × (r ≡ 0)
+unfolding when◌then◌else◌
 went_on zero r e = (refl, e)
 went_on (suc k) r e = let f : eqb (suc k) 0 ≡ false = ne_eqb (suc k) 0 (λ z. omega arith) in let z : suc k ≡ 0 = rw f at e in absurd (omega arith)
 
@@ -47,7 +47,7 @@ accepted F q p r b e =
 
 -- and the other way round
 pub accepts : (F : Field) (q : Rect) (p r b : List ℕ) → Accepted F q p r b → refresh_refusal F q p r b ≡ 0
-unfolding refresh_refusal if◌then◌else◌
+unfolding refresh_refusal when◌then◌else◌
 accepts F q p r b v = rw (v.field, v.rect, v.stored)
 
 -- rows z0 to z1 are rows of the field
@@ -71,15 +71,15 @@ build_accepted F p r b =
 -- what it writes then
 module _ (F : Field) (p r b : List ℕ) (e : refusal F (length p ∷ length r ∷ length b ∷ []) ≡ 0) where
   pub built-pass1 : (stages_outcome F p r b).pass1 ≡ pass1 F (start F)
-  unfolding stages_outcome if◌then◌else◌
+  unfolding stages_outcome when◌then◌else◌
   built-pass1 = rw e
 
   pub built-raw : (stages_outcome F p r b).raw ≡ raw F
-  unfolding stages_outcome if◌then◌else◌
+  unfolding stages_outcome when◌then◌else◌
   built-raw = rw e
 
   pub built_blurred : (stages_outcome F p r b).blurred ≡ blur F (raw F)
-  unfolding stages_outcome if◌then◌else◌
+  unfolding stages_outcome when◌then◌else◌
   built_blurred = rw e
 
 -- the refusals do not look at area codes

@@ -7,7 +7,7 @@ use mathlib.Core.Path.{◌≡◌, refl, sym, ◌∙◌}
 use mathlib.Core.Bool.{false}
 use mathlib.Core.List.{List, [], ◌∷◌}
 use lib.ListN.{length, get_or, get_or-eq_default}
-use Rattle.rules.specs.Base.{◌or◌, if◌then◌else◌}
+use Rattle.rules.specs.Base.{◌or◌, when◌then◌else◌}
 use Rattle.rules.specs.Field.{Field, spans, Bytes}
 use Rattle.rules.specs.Refusals.{refusal}
 use Rattle.rules.specs.Distance.{start, far, pass1, raw, blur}
@@ -56,7 +56,7 @@ module _ (F : Field) (bytes : Bytes F) (q : Rect) (rect : wrong_rect F q ≡ fal
       (record { field = rw (np, nr, nb) none'; rect = rect; stored = build_not_31 F (length p ∷ length r ∷ length b ∷ []) none bytes })
 
   refreshed_as_built : AsBuilt (refresh_outcome (repainted F area) q (pass1 F (start F)) (raw F) (blur F (raw F))) (stages_outcome (repainted F area) p r b)
-  unfolding refresh_outcome stages_outcome refreshed if◌then◌else◌
+  unfolding refresh_outcome stages_outcome refreshed when◌then◌else◌
   refreshed_as_built =
       let z = rows_in F q rect in
       let v = passed F (length p ∷ length r ∷ length b ∷ []) none in

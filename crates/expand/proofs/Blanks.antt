@@ -11,7 +11,7 @@ use native.Mathlib.Decide.{ℕ_discrete, dec_lt}
 use lib.ListN.{length, get_or, set, drop, length-set, length-drop}
 use lib.Seq.{ext_get_or, get_or-drop, get_or-set_same, get_or-set_other, take-set-le}
 use borrow.Author.Tests.{eq-eqb, ne_eqb}
-use Rattle.rules.specs.Base.{◌and◌, if◌then◌else◌, tab, keep}
+use Rattle.rules.specs.Base.{◌and◌, when◌then◌else◌, tab, keep}
 use Rattle.rules.specs.Growth.{walkable, Spread, expand, expand_strays, blank}
 use Rattle.rules.specs.Reasons.{Story, expand_tells}
 use Rattle.laws.proofs.Basics.{and_no, get_d_any}
@@ -40,19 +40,19 @@ module _ (ar ids : List ℕ) (s : ℕ) where
 
   module _ (i fill : ℕ) (ws : List ℕ) where
     push_yes : vacant ar ids s ≡ true → push_at ar ids s i ws ≡ set ws i s
-    unfolding push_at if◌then◌else◌
+    unfolding push_at when◌then◌else◌
     push_yes z = rw z
 
     push_no : vacant ar ids s ≡ false → push_at ar ids s i ws ≡ ws
-    unfolding push_at if◌then◌else◌
+    unfolding push_at when◌then◌else◌
     push_no z = rw z
 
     fill_yes : vacant ar ids s ≡ true → fill_at ar ids s fill ≡ fill + 1
-    unfolding fill_at if◌then◌else◌
+    unfolding fill_at when◌then◌else◌
     fill_yes z = rw z
 
     fill_no : vacant ar ids s ≡ false → fill_at ar ids s fill ≡ fill
-    unfolding fill_at if◌then◌else◌
+    unfolding fill_at when◌then◌else◌
     fill_no z = rw z
 
 -- as the code has it: a the area and r the id, as read
@@ -92,11 +92,11 @@ tab_next n s h =
     rw (e, add-one s)
 
 keep_yes : (p : ℕ → Bool) (x : ℕ) (l : List ℕ) → p x ≡ true → keep p (x ∷ l) ≡ x ∷ keep p l
-unfolding keep if◌then◌else◌
+unfolding keep when◌then◌else◌
 keep_yes p x l z = rw z
 
 keep_no : (p : ℕ → Bool) (x : ℕ) (l : List ℕ) → p x ≡ false → keep p (x ∷ l) ≡ keep p l
-unfolding keep if◌then◌else◌
+unfolding keep when◌then◌else◌
 keep_no p x l z = rw z
 
 module _ (n : ℕ) (ar ids ws₀ : List ℕ) where

@@ -11,7 +11,7 @@ use native.Mathlib.Decide.{ℕ_discrete, dec_lt}
 use lib.ListN.{length, get_or, take}
 use lib.Seq.{ext_get_or, get_or-take, length-take-le}
 use borrow.Author.Tests.{eq-eqb, ne_eqb}
-use Rattle.rules.specs.Base.{if◌then◌else◌}
+use Rattle.rules.specs.Base.{when◌then◌else◌}
 use Rattle.rules.specs.Field.{none}
 use Rattle.rules.specs.Net.{Net}
 use Rattle.rules.specs.Growth.{Spread, rounds, rounds_stray, expand, expand_strays}
@@ -141,11 +141,11 @@ module _ (ar : List ℕ) (a e b fill p : ℕ) (ids ws ws₁ : List ℕ) (q : p �
 -- ---------------------------------------------------------------- the number of rounds
 
 pub most_free : (level fill : ℕ) → level ≡ 0 → fill + 1 ≡ most_at level fill
-unfolding most_at if◌then◌else◌
+unfolding most_at when◌then◌else◌
 most_free level fill z = rw (eq-eqb level 0 z) (add-one fill)
 
 pub most_eight : (level fill : ℕ) → (level ≡ 0 → ⊥) → 8 ≡ most_at level fill
-unfolding most_at if◌then◌else◌
+unfolding most_at when◌then◌else◌
 most_eight level fill z = rw (ne_eqb level 0 z)
 
 pub most_some : (level fill most : ℕ) → most ≡ most_at level fill → 0 < most

@@ -8,18 +8,18 @@ use native.Mathlib.Decide.{ℕ_discrete, dec_lt}
 use lib.ListN.{length, get_or, set, length-set}
 use lib.Seq.{get_or-set_same, get_or-set_other}
 use borrow.Author.Tests.{eq-eqb, ne_eqb}
-use Rattle.rules.specs.Base.{if◌then◌else◌}
+use Rattle.rules.specs.Base.{when◌then◌else◌}
 use Rattle.rules.specs.Field.{none}
 use Rattle.expand.specs.Layout.{flagged}
 use Rattle.expand.specs.Front.{Entry, Flagging}
 
 module _ (f s v : ℕ) (ws : List ℕ) where
   pub flagged_no : s ≡ none → flagged f s v ws ≡ ws
-  unfolding flagged if◌then◌else◌
+  unfolding flagged when◌then◌else◌
   flagged_no z = rw (eq-eqb _ _ z)
 
   pub flagged_yes : (s ≡ none → ⊥) → flagged f s v ws ≡ set ws (f + s) v
-  unfolding flagged if◌then◌else◌
+  unfolding flagged when◌then◌else◌
   flagged_yes z = rw (ne_eqb _ _ z)
 
 module _ (n a f fill v : ℕ) (ws₀ : List ℕ) where

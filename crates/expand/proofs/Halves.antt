@@ -6,7 +6,7 @@ use Prim.Native.Nat.{ℕ, ◌<◌}
 use lib.ListN.{get_or}
 use lib.Dec.{eqb}
 use borrow.Author.Tests.{eq-eqb, ne_eqb}
-use Rattle.rules.specs.Base.{◌and◌, if◌then◌else◌}
+use Rattle.rules.specs.Base.{◌and◌, when◌then◌else◌}
 use Rattle.rules.specs.Field.{none}
 use Rattle.rules.specs.Net.{Net}
 use Rattle.rules.specs.Growth.{Marks, put, finds, takes, wrote}
@@ -33,19 +33,19 @@ entry_in ws i n s q f z = rw q (f (λ g. z (q ∙ g)))
 
 module _ (N : Net) (m : Marks) (s : ℕ) where
   pub left_yes : finds N m s ≡ true → left N m s ≡ none
-  unfolding left if◌then◌else◌
+  unfolding left when◌then◌else◌
   left_yes z = rw z
 
   pub left_no : finds N m s ≡ false → left N m s ≡ s
-  unfolding left if◌then◌else◌
+  unfolding left when◌then◌else◌
   left_no z = rw z
 
   pub wrote_yes : (out : Marks) → finds N m s ≡ true → wrote N m s out ≡ put out s (takes N m s).id (takes N m s).far
-  unfolding wrote if◌then◌else◌
+  unfolding wrote when◌then◌else◌
   wrote_yes out z = rw z
 
   pub wrote_no : (out : Marks) → finds N m s ≡ false → wrote N m s out ≡ out
-  unfolding wrote if◌then◌else◌
+  unfolding wrote when◌then◌else◌
   wrote_no out z = rw z
 
   -- a used entry finds nothing

@@ -9,7 +9,7 @@ use lib.ListN.{length, get_or}
 use lib.Seq.{get_or-take}
 use lib.Dec.{eqb}
 use borrow.Author.Tests.{eq-eqb, ne_eqb, lt-ltb, le-ltb, ltb-true, leb-true, leb-false}
-use Rattle.rules.specs.Base.{◌and◌, ◌or◌, if◌then◌else◌, upto}
+use Rattle.rules.specs.Base.{◌and◌, ◌or◌, when◌then◌else◌, upto}
 use Rattle.rules.specs.Field.{none}
 use Rattle.rules.specs.Net.{Net, near, area_of}
 use Rattle.rules.specs.Growth.{Marks, Taken, flagged, plain, look, takes, exceeds, strays}
@@ -22,8 +22,8 @@ use Rattle.expand.specs.Layout.{Sight}
 
 -- ---------------------------------------------------------------- one direction
 
-stays : (a b c : Bool) (x y : Taken) → (a and b) and c ≡ false → y ≡ (if a and b and c then x else y)
-unfolding if◌then◌else◌
+stays : (a b c : Bool) (x y : Taken) → (a and b) and c ≡ false → y ≡ (when a and b and c then x else y)
+unfolding when◌then◌else◌
 stays a b c x y e = rw e
 
 pub no₁ : (a b c : Bool) → a ≡ false → (a and b) and c ≡ false
@@ -46,8 +46,8 @@ unfolding ◌or◌
 four-or true a b c e = refl
 four-or false a b c e = refl
 
-changes : (a b c : Bool) (x y : Taken) → a ≡ true → b ≡ true → c ≡ true → x ≡ (if a and b and c then x else y)
-unfolding if◌then◌else◌ ◌and◌
+changes : (a b c : Bool) (x y : Taken) → a ≡ true → b ≡ true → c ≡ true → x ≡ (when a and b and c then x else y)
+unfolding when◌then◌else◌ ◌and◌
 changes a b c x y e f g = rw (e, f, g)
 
 -- the four places of a span are in the table

@@ -8,7 +8,7 @@ use native.Mathlib.Omega.{arith}
 use native.Mathlib.Decide.{ℕ_discrete}
 use lib.ListN.{length, get_or}
 use borrow.Author.Tests.{eq-eqb, ne_eqb, leb-true, leb-false}
-use Rattle.rules.specs.Base.{◌and◌, if◌then◌else◌, any}
+use Rattle.rules.specs.Base.{◌and◌, when◌then◌else◌, any}
 use Rattle.rules.specs.Field.{none}
 use Rattle.rules.specs.Net.{Net, spans, near, area_of}
 use Rattle.rules.specs.Growth.{Marks, Taken, flagged, takes, finds, Spread, round}
@@ -77,21 +77,21 @@ side_is table ar ids ws s v d h o e = e ∙ sym (near-at table ar ws s d v.room 
 
 module _ (N : Net) (m : Marks) (s far : ℕ) (a : Bool) (ea : a ≡ gives N m s far 0) where
   pub source_0 : a ≡ true → (o : ℕ) → o ≡ near N s 0 → o ≡ source_at N m s far
-  unfolding source_at if◌then◌else◌
+  unfolding source_at when◌then◌else◌
   source_0 y o eo = rw (sym ea ∙ y) eo
 
   module _ (y : a ≡ false) (b : Bool) (eb : b ≡ gives N m s far 1) where
     pub source_1 : b ≡ true → (o : ℕ) → o ≡ near N s 1 → o ≡ source_at N m s far
-    unfolding source_at if◌then◌else◌
+    unfolding source_at when◌then◌else◌
     source_1 z o eo = rw (sym ea ∙ y, sym eb ∙ z) eo
 
     module _ (z : b ≡ false) (c : Bool) (ec : c ≡ gives N m s far 2) where
       pub source_2 : c ≡ true → (o : ℕ) → o ≡ near N s 2 → o ≡ source_at N m s far
-      unfolding source_at if◌then◌else◌
+      unfolding source_at when◌then◌else◌
       source_2 x o eo = rw (sym ea ∙ y, sym eb ∙ z, sym ec ∙ x) eo
 
       pub source_3 : c ≡ false → (o : ℕ) → o ≡ near N s 3 → o ≡ source_at N m s far
-      unfolding source_at if◌then◌else◌
+      unfolding source_at when◌then◌else◌
       source_3 x o eo = rw (sym ea ∙ y, sym eb ∙ z, sym ec ∙ x) eo
 
 source_is : (N : Net) (m : Marks) (s far : ℕ) → far ≡ (takes N m s).far → source_at N m s far ≡ source N m s
@@ -215,11 +215,11 @@ front_told N n a e fill ids ws lo hi v o room few y y' r =
 
 module _ (N : Net) (k : ℕ) (p : Spread) (y : Story) where
   pub tells_on : any (finds N p.marks) p.stack ≡ true → rounds_tell N (suc k) p y ≡ rounds_tell N k (round N p) (round_tells N p y)
-  unfolding rounds_tell if◌then◌else◌
+  unfolding rounds_tell when◌then◌else◌
   tells_on h = rw h
 
   pub tells_off : any (finds N p.marks) p.stack ≡ false → rounds_tell N (suc k) p y ≡ y
-  unfolding rounds_tell if◌then◌else◌
+  unfolding rounds_tell when◌then◌else◌
   tells_off h = rw h
 
 pub tells_none : (N : Net) (p : Spread) (y : Story) → rounds_tell N 0 p y ≡ y

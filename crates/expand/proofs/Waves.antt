@@ -11,7 +11,7 @@ use lib.ListN.{length, get_or, set, length-set}
 use lib.Seq.{get_or-set_same, get_or-set_other, ext_get_or}
 use lib.Dec.{eqb}
 use borrow.Author.Tests.{eqb-true, eq-eqb, ne_eqb}
-use Rattle.rules.specs.Base.{◌and◌, ◌or◌, if◌then◌else◌, upto, any, keep}
+use Rattle.rules.specs.Base.{◌and◌, ◌or◌, when◌then◌else◌, upto, any, keep}
 use Rattle.rules.specs.Field.{none}
 use Rattle.rules.specs.Net.{Net, near}
 use Rattle.rules.specs.Growth.{Marks, put, Taken, look, takes, finds, exceeds, strays, wrote, written, Spread, round, rounds, rounds_stray}
@@ -45,8 +45,8 @@ has-tail x e l h = has_cons x e l ∙ or_right (eqb x e) (has x l) h
 pub has_split : (P : Type 0) (x e : ℕ) (l : List ℕ) → has x (e ∷ l) ≡ true → (x ≡ e → P) → (has x l ≡ true → P) → P
 has_split P x e l h f g = either P (eqb x e) (has x l) (sym (has_cons x e l) ∙ h) (λ z. f (eqb-true x e z)) g
 
-keep_go : (b : Bool) (x e : ℕ) (l : List ℕ) → any (eqb x) (if b then e ∷ l else l) ≡ (b and eqb x e) or any (eqb x) l
-unfolding any ◌or◌ ◌and◌ if◌then◌else◌
+keep_go : (b : Bool) (x e : ℕ) (l : List ℕ) → any (eqb x) (when b then e ∷ l else l) ≡ (b and eqb x e) or any (eqb x) l
+unfolding any ◌or◌ ◌and◌ when◌then◌else◌
 keep_go true x e l = refl
 keep_go false x e l = refl
 
@@ -184,7 +184,7 @@ wrote_in N m e out x h g =
 
 wrote_here : (N : Net) (m : Marks) (e : ℕ) (out : Marks) → finds N m e ≡ true → e < length out.ids → e < length out.src
     → (get_or (wrote N m e out).ids e 0 ≡ (takes N m e).id) × (get_or (wrote N m e out).src e 0 ≡ (takes N m e).far)
-unfolding wrote put if◌then◌else◌
+unfolding wrote put when◌then◌else◌
 wrote_here N m e out z h g = rw z (get_or-set_same out.ids e _ 0 h, get_or-set_same out.src e _ 0 g)
 
 pub lengths : (N : Net) (m : Marks) (es : List ℕ) (out : Marks)
@@ -255,11 +255,11 @@ unfolding fresh
 fresh_used ids e h = if-ind (λ r. r ≡ none) (eqb (get_or ids e 0) 0) (λ _. h) (λ _. refl)
 
 pub fresh_zero : (ids : List ℕ) (e : ℕ) → get_or ids e 0 ≡ 0 → fresh ids e ≡ e
-unfolding fresh if◌then◌else◌
+unfolding fresh when◌then◌else◌
 fresh_zero ids e h = rw (eq-eqb _ _ h)
 
 pub fresh_some : (ids : List ℕ) (e : ℕ) → (get_or ids e 0 ≡ 0 → ⊥) → fresh ids e ≡ none
-unfolding fresh if◌then◌else◌
+unfolding fresh when◌then◌else◌
 fresh_some ids e h = rw (ne_eqb _ _ h)
 
 -- freshening by fewer ids first changes nothing
@@ -361,16 +361,16 @@ module _ (N : Net) (n : ℕ) (p : Spread) (o : Ok n p) where
       (λ z. keep_in (finds N p.marks) x cs (g x z) (keep_out (finds N p.marks) x p.stack z).1))
 
 -- an entry that is left found nothing
-left_one : (p : ℕ → Bool) (x e : ℕ) → (x ≡ none → ⊥) → (b : Bool) → p e ≡ b → x ≡ (if b then none else e) → p x ≡ false
-unfolding if◌then◌else◌
+left_one : (p : ℕ → Bool) (x e : ℕ) → (x ≡ none → ⊥) → (b : Bool) → p e ≡ b → x ≡ (when b then none else e) → p x ≡ false
+unfolding when◌then◌else◌
 left_one p x e n true z y = absurd (n y)
 left_one p x e n false z y = rw y z
 
-left_out : (p : ℕ → Bool) (x : ℕ) (es : List ℕ) → (x ≡ none → ⊥) → has x (map (λ e. if p e then none else e) es) ≡ true → p x ≡ false
+left_out : (p : ℕ → Bool) (x : ℕ) (es : List ℕ) → (x ≡ none → ⊥) → has x (map (λ e. when p e then none else e) es) ≡ true → p x ≡ false
 left_out p x [] n h = absurd (has_nil x h)
 left_out p x (e ∷ es) n h =
     let r = left_out p x es n in
-    has_split (p x ≡ false) x (if p e then none else e) (map (λ e. if p e then none else e) es) h (λ q. left_one p x e n (p e) refl q) r
+    has_split (p x ≡ false) x (when p e then none else e) (map (λ e. when p e then none else e) es) h (λ q. left_one p x e n (p e) refl q) r
 
 pub round-left : (N : Net) (p : Spread) (x : ℕ) → (x ≡ none → ⊥) → has x (round N p).stack ≡ true → finds N p.marks x ≡ false
 unfolding round
@@ -380,11 +380,11 @@ round-left N p x n h = left_out (finds N p.marks) x p.stack n h
 
 module _ (N : Net) (k : ℕ) (p : Spread) where
   pub rounds_on : any (finds N p.marks) p.stack ≡ true → rounds N (suc k) p ≡ rounds N k (round N p)
-  unfolding rounds if◌then◌else◌
+  unfolding rounds when◌then◌else◌
   rounds_on z = rw z
 
   pub rounds_off : any (finds N p.marks) p.stack ≡ false → rounds N (suc k) p ≡ p
-  unfolding rounds if◌then◌else◌
+  unfolding rounds when◌then◌else◌
   rounds_off z = rw z
 
   pub stray_first : any (strays N p.marks) p.stack ≡ true → rounds_stray N (suc k) p ≡ true

@@ -1,7 +1,7 @@
 -- Expansion over sections of one workspace: source distances at 0 .. n, the stack at a .. a + fill, the changes of all rounds at e .. e + 3n, three
 -- numbers each, a flag for each span at e + 3n .. e + 4n, changes and flags zero when not in use, and the table of neighbours from b on.
 use Rattle.std.specs.Prelude.{◌≡◌, ◌⊎◌, Bool, List, [], ◌∷◌, ◌++◌, map, ℕ, zero, suc, ◌+◌, ◌-◌, ◌*◌, ◌≤◌, ◌<◌, length, get_or, set, take, eqb}
-use Rattle.rules.specs.Base.{◌and◌, if◌then◌else◌, tab, keep}
+use Rattle.rules.specs.Base.{◌and◌, when◌then◌else◌, tab, keep}
 use Rattle.rules.specs.Field.{none}
 use Rattle.rules.specs.Net.{Net}
 use Rattle.rules.specs.Growth.{Marks, Taken, put, walkable, finds, Spread}
@@ -15,11 +15,11 @@ use Rattle.expand.specs.declared.look.Taken as code
 
 -- an entry after a round
 unfoldable pub left : Net → Marks → ℕ → ℕ
-left N m e = if finds N m e then none else e
+left N m e = when finds N m e then none else e
 
 -- an entry before the first: used if it has an id
 unfoldable pub fresh : List ℕ → ℕ → ℕ
-fresh ids e = if eqb (get_or ids e 0) 0 then e else none
+fresh ids e = when eqb (get_or ids e 0) 0 then e else none
 
 -- what the code has of a find is the rule's
 abbrev pub taken_of : code.Taken → Taken
@@ -27,7 +27,7 @@ taken_of t = record { id = t.id; far = t.far }
 
 -- the number of rounds: no limit at level 0, where each but the last uses up an entry
 unfoldable pub most_at : ℕ → ℕ → ℕ
-most_at level fill = if eqb level 0 then suc fill else 8
+most_at level fill = when eqb level 0 then suc fill else 8
 
 -- ---------------------------------------------------------------- the workspace
 
@@ -56,7 +56,7 @@ noted i c s id far ws = set (set (set (set ws i 0) c s) (c + 1) id) (c + 2) far
 
 -- the flag of span s, with the flags from f on, is v, unless s is a used entry
 unfoldable pub flagged : ℕ → ℕ → ℕ → List ℕ → List ℕ
-flagged f s v ws = if eqb s none then ws else set ws (f + s) v
+flagged f s v ws = when eqb s none then ws else set ws (f + s) v
 
 -- ---------------------------------------------------------------- what holds of the workspace
 
@@ -130,10 +130,10 @@ vacant areas ids s = walkable areas s and eqb (get_or ids s 0) 0
 
 -- span s goes to place i
 unfoldable pub push_at : List ℕ → List ℕ → ℕ → ℕ → List ℕ → List ℕ
-push_at areas ids s i ws = if vacant areas ids s then set ws i s else ws
+push_at areas ids s i ws = when vacant areas ids s then set ws i s else ws
 
 unfoldable pub fill_at : List ℕ → List ℕ → ℕ → ℕ → ℕ
-fill_at areas ids s fill = if vacant areas ids s then fill + 1 else fill
+fill_at areas ids s fill = when vacant areas ids s then fill + 1 else fill
 
 -- s spans of n are looked at, and fill of them stacked at n
 pub record Filling (n : ℕ) (areas ids ws₀ ws : List ℕ) (s fill : ℕ) : Type 0 where

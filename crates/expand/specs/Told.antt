@@ -1,6 +1,6 @@
 -- What a round does to the watched span, as the code tells it: the changes lo .. hi are those of the round.
 use Rattle.std.specs.Prelude.{◌≡◌, List, ℕ, ◌+◌, ◌*◌, ◌≤◌, ◌<◌, get_or}
-use Rattle.rules.specs.Base.{if◌then◌else◌}
+use Rattle.rules.specs.Base.{when◌then◌else◌}
 use Rattle.rules.specs.Net.{Net, near}
 use Rattle.rules.specs.Growth.{Marks}
 use Rattle.rules.specs.Reasons.{Story, took_from, gives}
@@ -16,9 +16,9 @@ pub record Sought (ws : List ℕ) (e lo hi s i : ℕ) : Type 0 where
 -- the first neighbour of entry s with the sum far
 unfoldable pub source_at : Net → Marks → ℕ → ℕ → ℕ
 source_at N m s far =
-    if gives N m s far 0 then near N s 0 else
-    if gives N m s far 1 then near N s 1 else
-    if gives N m s far 2 then near N s 2 else near N s 3
+    when gives N m s far 0 then near N s 0 else
+    when gives N m s far 1 then near N s 1 else
+    when gives N m s far 2 then near N s 2 else near N s 3
 
 -- change i is the watched span's: it takes the id of the first neighbour with the change's sum
 pub record Took (N : Net) (m : Marks) (ws : List ℕ) (e lo hi : ℕ) (y y' : Story) : Type 0 where

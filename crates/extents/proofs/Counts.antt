@@ -9,7 +9,7 @@ use mathlib.Core.List.{List, [], ◌∷◌}
 use lib.ListN.{length, get_or}
 use lib.Dec.{eqb, ltb}
 use borrow.Author.Tests.{eqb-true, eq-eqb, ne_eqb, le-leb, lt-leb, leb-false, ltb-false, not-true, not-false}
-use Rattle.rules.specs.Base.{◌and◌, if◌then◌else◌, upto, any}
+use Rattle.rules.specs.Base.{◌and◌, when◌then◌else◌, upto, any}
 use Rattle.rules.specs.Field.{Field, spans}
 use Rattle.rules.specs.Growth.{flagged}
 use Rattle.rules.specs.Sizes.{Extent, shown, extent_of, too_great, wrong_ids}
@@ -35,11 +35,11 @@ sum_bump f g (suc m) j h e b = elim (ℕ_discrete j m) [
 
 module _ (p : ℕ → Bool) (ids : List ℕ) (s : ℕ) where
   with_yes : p (get_or ids s 0) ≡ true → spans_with p ids (suc s) ≡ suc (spans_with p ids s)
-  unfolding spans_with upto if◌then◌else◌
+  unfolding spans_with upto when◌then◌else◌
   with_yes e = rw e
 
   with_no : p (get_or ids s 0) ≡ false → spans_with p ids (suc s) ≡ spans_with p ids s
-  unfolding spans_with upto if◌then◌else◌
+  unfolding spans_with upto when◌then◌else◌
   with_no e = rw e
 
 -- no id is too great
@@ -56,7 +56,7 @@ within most r e h = let f : ltb most r ≡ false = rw (lt-leb 0x8000 r h) at e i
 
 -- how many of the first s spans id i + 1 shows
 unfoldable counts : List ℕ → ℕ → ℕ → ℕ → ℕ
-counts ids most s i = if shown most (suc i) then spans_with (λ r. eqb r (suc i)) ids s else 0
+counts ids most s i = when shown most (suc i) then spans_with (λ r. eqb r (suc i)) ids s else 0
 
 module _ (ids : List ℕ) (most s : ℕ) where
   -- a span that has another id
@@ -67,7 +67,7 @@ module _ (ids : List ℕ) (most s : ℕ) where
 
   -- or this one
   count_more : (i : ℕ) → shown most (suc i) ≡ true → get_or ids s 0 ≡ suc i → counts ids most (suc s) i ≡ suc (counts ids most s i)
-  unfolding counts if◌then◌else◌
+  unfolding counts when◌then◌else◌
   count_more i t e = rw t (with_yes (λ r. eqb r (suc i)) ids s (eq-eqb _ _ e))
 
 pub shown_low : (most id : ℕ) → shown most id ≡ true → id < 0x8000

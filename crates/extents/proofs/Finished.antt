@@ -9,7 +9,7 @@ use mathlib.Core.List.{List, [], ◌∷◌}
 use lib.ListN.{length, get_or}
 use lib.Dec.{eqb}
 use borrow.Author.Tests.{eqb-true, eqb-false, eq-eqb, lt-leb, le-leb, le-ltb, not-true, not-false}
-use Rattle.rules.specs.Base.{◌and◌, ◌or◌, if◌then◌else◌, any, every}
+use Rattle.rules.specs.Base.{◌and◌, ◌or◌, when◌then◌else◌, any, every}
 use Rattle.rules.specs.Field.{Field, Bytes, spans}
 use Rattle.rules.specs.Refusals.{wrong_length, refusal, region_refusal}
 use Rattle.rules.specs.Numbering.{dense}
@@ -32,7 +32,7 @@ pub record Finished (F : Field) (ids : List ℕ) (most : ℕ) : Type 0 where
 -- what it means for the entry of floor sizes: 10 is never given, and of 1 to max_region no record is without spans
 pub record Measured (F : Field) (ids : List ℕ) (most : ℕ) : Type 0 where
   pub listed : wrong_ids (spans F) ids most ≡ false
-  pub refused : (k id : ℕ) → (measure_outcome F ids most k id).refused ≡ (if wrong_scale k then 9 else 0)
+  pub refused : (k id : ℕ) → (measure_outcome F ids most k id).refused ≡ (when wrong_scale k then 9 else 0)
   pub some : (k id : ℕ) → wrong_scale k ≡ false → 0 < id → id ≤ most → 0 < (measure_outcome F ids most k id).room.count
 
 -- ---------------------------------------------------------------- never 10
@@ -55,19 +55,19 @@ module _ (F : Field) (ids : List ℕ) (most : ℕ) (f : Finished F ids most) whe
   finished-listed = rw (eq-eqb (length ids) (spans F) f.size) (none_any (too_great most) ids (λ i. not_great most (get_or ids i 0) (f.used i)))
 
   -- only the scale can be refused
-  pub finished_refused : (k id : ℕ) → (measure_outcome F ids most k id).refused ≡ (if wrong_scale k then 9 else 0)
-  unfolding measure_refusal if◌then◌else◌
+  pub finished_refused : (k id : ℕ) → (measure_outcome F ids most k id).refused ≡ (when wrong_scale k then 9 else 0)
+  unfolding measure_refusal when◌then◌else◌
   finished_refused k id = refused_is F ids most k id ∙ rw (eq-eqb (refusal F []) 0 f.sound, finished-listed)
 
   pub finished_never_10 : (k id : ℕ) → (measure_outcome F ids most k id).refused ≡ 10 → ⊥
   finished_never_10 k id e = not_10 (wrong_scale k) (sym (finished_refused k id) ∙ e)
     where
-      not_10 : (b : Bool) → ◌≡◌ {A = ℕ} (if b then 9 else 0) 10 → ⊥
+      not_10 : (b : Bool) → ◌≡◌ {A = ℕ} (when b then 9 else 0) 10 → ⊥
       not_10 b = if-ind (λ (n : ℕ). n ≡ 10 → ⊥) b (λ _ h. omega (arith, h)) (λ _ h. omega (arith, h))
 
   -- each record from 1 to max_region: what the request says of it, a count above 0 included
   pub finished_rooms : (k id : ℕ) → wrong_scale k ≡ false → 0 < id → id ≤ most → RoomIs F ids k id (measure_outcome F ids most k id).room
-  unfolding if◌then◌else◌
+  unfolding when◌then◌else◌
   finished_rooms k id g p l =
       let z : (measure_outcome F ids most k id).refused ≡ 0 = finished_refused k id ∙ rw g in
       let b = f.borne id p l in
@@ -84,7 +84,7 @@ unfolding wrong_length every
 lengths_none F lens e = ap not (and_both _ true (both _ _ (not-false _ e)).0 refl)
 
 pub sound_none : (F : Field) (lens : List ℕ) → refusal F lens ≡ 0 → refusal F [] ≡ 0
-unfolding refusal if◌then◌else◌
+unfolding refusal when◌then◌else◌
 sound_none F lens e =
     let v = passed F lens e in
     rw (v.wide, v.many, lengths_none F lens v.lengths, v.cells, v.reach, v.back)

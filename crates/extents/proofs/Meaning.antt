@@ -11,7 +11,7 @@ use lib.Dec.{eqb, ltb}
 use borrow.Author.Tests.{eqb-true}
 use lib.Ieee.{binary64, round}
 use lib.Ieee.Exact.{HasValue}
-use Rattle.rules.specs.Base.{if◌then◌else◌, upto}
+use Rattle.rules.specs.Base.{when◌then◌else◌, upto}
 use Rattle.rules.specs.Field.{Field, spans, cell_of, area_of}
 use Rattle.rules.specs.Sizes.{Extent, nothing, added, noted, extent, shown, extent_of, metres, RoomSize, sized, zero64, zeros}
 use Rattle.laws.proofs.Basics.{if-ind, if_ind₂, upto-ind}
@@ -117,14 +117,14 @@ nothing_is_zeros k =
 
 -- how many of the first s ids p holds of
 unfoldable pub spans_with : (ℕ → Bool) → List ℕ → ℕ → ℕ
-spans_with p ids s = upto s (λ i t. if p (get_or ids i 0) then suc t else t) 0
+spans_with p ids s = upto s (λ i t. when p (get_or ids i 0) then suc t else t) 0
 
 -- one more
 pub added_count : (a x z : ℕ) (e : Extent) → (added a x z e).count ≡ suc e.count
 unfolding added
 added_count a x z e = if-ind (λ (r : Extent). r.count ≡ suc e.count) (eqb e.count 0) (λ t. ap suc (sym (eqb-true _ _ t))) (λ _. refl)
 
-noted_count : (F : Field) (ids : List ℕ) (id s : ℕ) (e : Extent) → (noted F ids id s e).count ≡ (if eqb (get_or ids s 0) id then suc e.count else e.count)
+noted_count : (F : Field) (ids : List ℕ) (id s : ℕ) (e : Extent) → (noted F ids id s e).count ≡ (when eqb (get_or ids s 0) id then suc e.count else e.count)
 unfolding noted
 noted_count F ids id s e =
     if_ind₂ (λ (r : Extent) (n : ℕ). r.count ≡ n) (eqb (get_or ids s 0) id) (λ _. added_count (area_of F s) _ _ e) (λ _. refl)
@@ -134,6 +134,6 @@ pub extent_count : (F : Field) (ids : List ℕ) (id : ℕ) → (extent F ids id)
 unfolding extent spans_with upto
 extent_count F ids id = go (spans F)
   where
-    go : (s : ℕ) → (upto s (noted F ids id) nothing).count ≡ upto s (λ i t. if eqb (get_or ids i 0) id then suc t else t) 0
+    go : (s : ℕ) → (upto s (noted F ids id) nothing).count ≡ upto s (λ i t. when eqb (get_or ids i 0) id then suc t else t) 0
     go zero = refl
-    go (suc s) = noted_count F ids id s _ ∙ ap (λ (n : ℕ). if eqb (get_or ids s 0) id then suc n else n) (go s)
+    go (suc s) = noted_count F ids id s _ ∙ ap (λ (n : ℕ). when eqb (get_or ids s 0) id then suc n else n) (go s)

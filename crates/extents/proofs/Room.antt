@@ -11,7 +11,7 @@ use lib.Dec.{eqb}
 use lib.Ieee.{Float}
 use lib.Ieee.Exact.{HasValue}
 use borrow.Author.Tests.{eqb-true, eqb-false, leb-true, leb-false, ltb-false, not-true, not-false}
-use Rattle.rules.specs.Base.{if◌then◌else◌}
+use Rattle.rules.specs.Base.{when◌then◌else◌}
 use Rattle.rules.specs.Field.{Field, spans, area_of}
 use Rattle.rules.specs.Refusals.{too_wide, too_many, wrong_length, refusal}
 use Rattle.rules.specs.Growth.{flagged}
@@ -222,7 +222,7 @@ borne_shown F ids most id s e p l h g =
     is_shown most id p (within most id t l) l
 
 shown-extent : (F : Field) (ids : List ℕ) (most id : ℕ) → shown most id ≡ true → extent_of F ids most id ≡ extent F ids id
-unfolding extent_of if◌then◌else◌
+unfolding extent_of when◌then◌else◌
 shown-extent F ids most id t = rw t
 
 -- of every id that is neither 0 nor flagged and that a span bears

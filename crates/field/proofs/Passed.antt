@@ -6,7 +6,7 @@ use mathlib.Core.Bool.{true, false}
 use mathlib.Core.List.{List, [], ◌∷◌}
 use lib.ListN.{length}
 use borrow.Author.Tests.{eqb-true, eq-eqb, ltb-false, not-false}
-use Rattle.rules.specs.Base.{◌and◌, if◌then◌else◌, every}
+use Rattle.rules.specs.Base.{◌and◌, when◌then◌else◌, every}
 use Rattle.rules.specs.Field.{Field, spans}
 use Rattle.rules.specs.Refusals.{good_cells, good_con, too_wide, too_many, wrong_length, wrong_cells, wrong_reach, refusal, most_spans}
 use Rattle.laws.proofs.Basics.{both, neither, every-at}
@@ -56,7 +56,7 @@ reached_of F lens e =
 
 -- what an entry's own lists are does not make the field unsound
 pub sound_of : (F : Field) (lens : List ℕ) → refusal F lens ≡ 0 → Sound F
-unfolding refusal if◌then◌else◌ wrong_length ◌and◌ every
+unfolding refusal when◌then◌else◌ wrong_length ◌and◌ every
 sound_of F lens e =
     let v = passed F lens e in
     let l = lengths F lens v.lengths in

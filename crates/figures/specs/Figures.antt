@@ -1,7 +1,7 @@
 -- "Starred figures are proved as a single statement over one list of cases". Each case is run as a caller runs it: both entries on lists
 -- of zeros and a workspace of the least length, the second on what the first gave.
 use Rattle.std.specs.Prelude.{ℕ, ◌+◌, ◌*◌, ◌-◌, ◌/◌, ◌%◌, ◌≡◌, refl, Bool, true, List, [], ◌∷◌, length, get_or, replicate, eqb, ltb}
-use Rattle.rules.specs.Base.{◌and◌, ◌or◌, if◌then◌else◌, upto, tab, every, any, keep, many}
+use Rattle.rules.specs.Base.{◌and◌, ◌or◌, when◌then◌else◌, upto, tab, every, any, keep, many}
 use Rattle.rules.specs.Field.{Field, spans, cell_of, cell_to, leaves, con_of, near, corner, area_of}
 use Rattle.rules.specs.Net.{net_of, neighbours_of}
 use Rattle.rules.specs.Net as net
@@ -38,7 +38,7 @@ pub record Run : Type 0 where
   pub regions : RegionOutcome
 
 unfoldable pub run : Case → Run
-unfolding ◌and◌ ◌or◌ if◌then◌else◌ upto tab every any keep many cell_of cell_to leaves con_of near corner area_of neighbours_of net.near net.corner net.area_of
+unfolding ◌and◌ ◌or◌ when◌then◌else◌ upto tab every any keep many cell_of cell_to leaves con_of near corner area_of neighbours_of net.near net.corner net.area_of
     good_cells good_con good_back too_wide too_many wrong_length wrong_cells wrong_reach wrong_back refusal too_short too_far region_refusal
     same start_at start least_of lower pass1 pass2 raw greatest term blur_at blur
     walkable put paint_of painted first_id blank sorted remains look takes finds wrote written round rounds expand sees or_else objects pushed visit flow flood floods loaded turn grown
@@ -89,7 +89,7 @@ case form F border least merge claims =
 
 -- 6 by 3, areas 1 in columns 0 to 2 and 2 in 3 to 5
 abbrev pub halves : Field
-halves = flat 6 3 (λ c. if ltb (c % 6) 3 then 1 else 2)
+halves = flat 6 3 (λ c. when ltb (c % 6) 3 then 1 else 2)
 
 -- document 01's figures: those of the compared form
 unfoldable pub compared_figures : List Case
@@ -135,7 +135,7 @@ figures =
     compared_figures
 
 pub figures_agree : agrees figures ≡ true
-unfolding ◌and◌ ◌or◌ if◌then◌else◌ every run holds all_hold agrees figures compared_figures open_con flat open_field
+unfolding ◌and◌ ◌or◌ when◌then◌else◌ every run holds all_hold agrees figures compared_figures open_con flat open_field
 figures_agree = refl
 
 -- the distances of the compared form's figures, in this one
@@ -149,5 +149,5 @@ dense_distances =
     []
 
 pub dense_distances_agree : agrees dense_distances ≡ true
-unfolding ◌and◌ ◌or◌ if◌then◌else◌ every run holds all_hold agrees dense_distances open_con flat open_field
+unfolding ◌and◌ ◌or◌ when◌then◌else◌ every run holds all_hold agrees dense_distances open_con flat open_field
 dense_distances_agree = refl

@@ -1,6 +1,6 @@
 -- Mending by computation, on the open field of 3 by 3 with connections that were edited: what is listed, what is left, and a list without room.
 use Rattle.std.specs.Prelude.{ℕ, ◌≡◌, refl, List, [], ◌∷◌, set}
-use Rattle.rules.specs.Base.{◌and◌, ◌or◌, if◌then◌else◌, tab, every}
+use Rattle.rules.specs.Base.{◌and◌, ◌or◌, when◌then◌else◌, tab, every}
 use Rattle.rules.specs.Field.{cell_of, cell_to, leaves, con_of, near}
 use Rattle.rules.specs.Refusals.{good_cells, good_con, good_back, too_wide, too_many, wrong_length, wrong_cells, wrong_reach, wrong_back, refusal}
 use Rattle.rules.specs.Mend.{relinked, stays, stays_at, mended_at, mended_con, changes_to, changed_to, mend_refusal, mend_outcome}
@@ -27,7 +27,7 @@ pub mending_agrees : (mend_outcome (relinked good edited) (sevens 14) ≡ record
     × (mend_outcome (relinked good edited) (sevens 11) ≡ record { refused = 27; count = 0; con = edited; changes = sevens 11 })
     × (mend_outcome (relinked good left) [] ≡ record { refused = 0; count = 0; con = left; changes = [] })
     × (mend_outcome (relinked good []) [] ≡ record { refused = 3; count = 0; con = []; changes = [] })
-unfolding ◌and◌ ◌or◌ if◌then◌else◌ tab every cell_of cell_to leaves con_of near
+unfolding ◌and◌ ◌or◌ when◌then◌else◌ tab every cell_of cell_to leaves con_of near
     good_cells good_con good_back too_wide too_many wrong_length wrong_cells wrong_reach wrong_back refusal
     stays stays_at mended_at mended_con changes_to changed_to mend_refusal mend_outcome flat open_con open_field edited left listed sevens
 mending_agrees = (refl, refl, refl, refl)

@@ -1,6 +1,6 @@
 -- Files and what is printed for them, by computation: document 01's example whole, and each cause of 20 and 21.
 use Rattle.std.specs.Prelude.{ℕ, zero, suc, ◌*◌, ◌/◌, ◌%◌, ◌≡◌, refl, Bool, true, false, List, [], ◌∷◌, ◌++◌, take, drop, eqb}
-use Rattle.rules.specs.Base.{◌and◌, ◌or◌, if◌then◌else◌, upto, tab, every, any, keep, many}
+use Rattle.rules.specs.Base.{◌and◌, ◌or◌, when◌then◌else◌, upto, tab, every, any, keep, many}
 use Rattle.rules.specs.Field.{cell_of, cell_to, leaves, con_of, near, corner, area_of}
 use Rattle.rules.specs.Net.{neighbours_of}
 use Rattle.rules.specs.Net as net
@@ -41,7 +41,7 @@ one more = header 1 1 0 ++ (cell 1 ++ (span 255 255 255 255 ++ more))
 -- one span a cell, all connected: the row of a cell c, and its cells from c on
 pub open_span : ℕ → ℕ → ℕ → List ℕ
 open_span w h c =
-    let to : ℕ → ℕ = λ d. if leaves w h c d then 255 else 0 in
+    let to : ℕ → ℕ = λ d. when leaves w h c d then 255 else 0 in
     cell 1 ++ span (to 0) (to 1) (to 2) (to 3)
 
 pub open_spans : ℕ → ℕ → ℕ → ℕ → List ℕ
@@ -65,7 +65,7 @@ pub record Print : Type 0 where
 
 -- each file prints what stands beside it
 pub prints : List Print → Bool
-unfolding ◌and◌ ◌or◌ if◌then◌else◌ upto tab every any keep many cell_of cell_to leaves con_of near corner area_of neighbours_of net.near net.corner net.area_of
+unfolding ◌and◌ ◌or◌ when◌then◌else◌ upto tab every any keep many cell_of cell_to leaves con_of near corner area_of neighbours_of net.near net.corner net.area_of
     good_cells good_con good_back too_wide too_many wrong_length wrong_cells wrong_reach wrong_back refusal too_short too_far region_refusal
     same start_at start least_of lower pass1 pass2 raw greatest term blur_at blur
     walkable put paint_of painted first_id blank sorted remains look takes finds wrote written round rounds expand sees or_else objects pushed visit flow flood floods loaded turn grown
@@ -120,5 +120,5 @@ examples =
     []
 
 pub examples_agree : prints examples ≡ true
-unfolding ◌and◌ if◌then◌else◌ tab leaves text prints examples same_bytes header cell span alone end open_span open_spans
+unfolding ◌and◌ when◌then◌else◌ tab leaves text prints examples same_bytes header cell span alone end open_span open_spans
 examples_agree = refl

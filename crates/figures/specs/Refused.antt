@@ -1,7 +1,7 @@
 -- Each refusal from 1 to 8 on a field that is wrong in one place, and none beside it, by computation. A refused call is shown to
 -- return zeros and to leave its lists, which are lent full of 7s.
 use Rattle.std.specs.Prelude.{ℕ, zero, suc, ◌+◌, ◌*◌, ◌≡◌, refl, Bool, true, false, List, [], ◌∷◌, ◌++◌, set, take, replicate, eqb}
-use Rattle.rules.specs.Base.{◌and◌, ◌or◌, if◌then◌else◌, upto, tab, every, any}
+use Rattle.rules.specs.Base.{◌and◌, ◌or◌, when◌then◌else◌, upto, tab, every, any}
 use Rattle.rules.specs.Field.{Field, spans, cell_of, cell_to, leaves, con_of, near}
 use Rattle.rules.specs.Refusals.{good_cells, good_con, good_back, too_wide, too_many, wrong_length, wrong_cells, wrong_reach, wrong_back, refusal, too_short, too_far, region_refusal}
 use Rattle.rules.specs.Numbering.{dense}
@@ -123,7 +123,7 @@ right_calls =
     []
 
 pub refusals_agree : (each refuses_distance wrong_fields ≡ true) × (each refuses_regions wrong_fields ≡ true) × (each refuses_regions wrong_calls ≡ true) × (each accepts right_calls ≡ true)
-unfolding ◌and◌ ◌or◌ if◌then◌else◌ upto tab every any cell_of cell_to leaves con_of near
+unfolding ◌and◌ ◌or◌ when◌then◌else◌ upto tab every any cell_of cell_to leaves con_of near
     good_cells good_con good_back too_wide too_many wrong_length wrong_cells wrong_reach wrong_back refusal too_short too_far region_refusal
     distance_outcome region_outcome open_con flat open_field each refuses_distance refuses_regions accepts sevens wrong_fields wrong_calls right_calls
     with_index with_count with_area with_con bare tower

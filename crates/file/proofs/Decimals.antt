@@ -6,17 +6,17 @@ use native.Mathlib.Decide.{dec_lt}
 use mathlib.Core.Path.{◌≡◌, refl, sym, ap, subst, ◌∙◌}
 use mathlib.Core.List.{List, [], ◌∷◌, ◌++◌}
 use borrow.Author.Tests.{lt-ltb, le-ltb}
-use Rattle.rules.specs.Base.{if◌then◌else◌}
+use Rattle.rules.specs.Base.{when◌then◌else◌}
 use Rattle.rules.specs.Listing.{digits, decimal}
 use Rattle.file.specs.Written.{Room, Wrote}
 use Rattle.file.proofs.Writing.{room_first, room_then, wrote_then}
 
 one : (k v : ℕ) → v < 10 → digits (suc k) v ≡ (48 + v % 10) ∷ []
-unfolding digits if◌then◌else◌
+unfolding digits when◌then◌else◌
 one k v h = rw (lt-ltb v 10 h)
 
 more : (k v : ℕ) → 10 ≤ v → digits (suc k) v ≡ digits k (v / 10) ++ ((48 + v % 10) ∷ [])
-unfolding digits if◌then◌else◌
+unfolding digits when◌then◌else◌
 more k v h = rw (le-ltb v 10 h)
 
 -- one digit more than enough changes nothing: of a number below ten, and then of one below ten times as much

@@ -9,7 +9,7 @@ use lib.ListN.{length, get_or, take, drop, length-take, length-drop}
 use lib.Seq.{take_all, take-take, get_or-take, length-take-le}
 use lib.Dec.{leb, eqb}
 use borrow.Author.Tests.{lt-ltb, le-leb, ne_eqb}
-use Rattle.rules.specs.Base.{if◌then◌else◌}
+use Rattle.rules.specs.Base.{when◌then◌else◌}
 use Rattle.rules.specs.Field.{Field}
 use Rattle.rules.specs.Outcomes.{Sizes}
 use Rattle.rules.specs.File.{with_span, with_cell, word, read_on, read_file, empty_field}
@@ -34,7 +34,7 @@ none-take (suc m) (x ∷ l) h = ne_eqb (suc (length (take m l))) 0 (λ e. omega 
 -- what can still be read: so many cells, so many spans, the end, and a byte after it
 first_on : (k cells due promised : ℕ) (bytes : List ℕ) (m : ℕ) (F : Field) (z : Sizes) → promised ≤ 200 → 2 * cells + 6 * (due + (200 - promised)) + 2 ≤ m
     → read_on k cells due promised (take m bytes) F z ≡ read_on k cells due promised bytes F z
-unfolding read_on if◌then◌else◌
+unfolding read_on when◌then◌else◌
 first_on zero cells due promised bytes m F z p h = refl
 first_on (suc k) cells due promised bytes zero F z p h = absurd (omega arith)
 first_on (suc k) cells due promised [] (suc m) F z p h = refl
@@ -56,7 +56,7 @@ unfolding word
 word-take m i l h = rw (get_or-take m l i 0 (omega arith), get_or-take m l (i + 1) 0 h) refl
 
 first_file : (bytes : List ℕ) (m : ℕ) → 3261 ≤ m → read_file (take m bytes) ≡ read_file bytes
-unfolding read_file if◌then◌else◌
+unfolding read_file when◌then◌else◌
 first_file bytes zero h = absurd (omega arith)
 first_file [] (suc m) h = refl
 first_file (kind ∷ rest) (suc m) h =
@@ -87,7 +87,7 @@ first_bytes_decide bytes m h = rw (first_file bytes m h) refl
 -- the same of the reading with its place; a record cut short has fewer bytes than are looked at
 place_on : (k p cells due promised : ℕ) (bytes : List ℕ) (m : ℕ) (F : Field) (z : Sizes) → promised ≤ 200 → 2 * cells + 6 * (due + (200 - promised)) + 2 ≤ m
     → read_on_at 200 k p cells due promised (take m bytes) F z ≡ read_on_at 200 k p cells due promised bytes F z
-unfolding read_on_at if◌then◌else◌
+unfolding read_on_at when◌then◌else◌
 place_on zero p cells due promised bytes m F z q h = refl
 place_on (suc k) p cells due promised bytes zero F z q h = absurd (omega arith)
 place_on (suc k) p cells due promised [] (suc m) F z q h = refl
@@ -128,7 +128,7 @@ place_fuel (suc j) (suc k) p zero zero promised (kind ∷ rest) F z h g = refl
 
 -- the first 3,261 bytes decide where a file is refused, too
 pub first_bytes_place : (bytes : List ℕ) (m : ℕ) → 3261 ≤ m → read_file_at 1024 200 (take m bytes) ≡ read_file_at 1024 200 bytes
-unfolding read_file_at if◌then◌else◌
+unfolding read_file_at when◌then◌else◌
 first_bytes_place bytes zero h = absurd (omega arith)
 first_bytes_place [] (suc m) h = refl
 first_bytes_place (kind ∷ rest) (suc m) h =

@@ -11,7 +11,7 @@ use mathlib.Core.Path.{◌≡◌, refl, sym, ap, subst, ◌∙◌}
 use mathlib.Core.List.{List, [], ◌∷◌, ◌++◌, append_assoc, append-nil}
 use lib.ListN.{length, get_or, length-append}
 use borrow.Author.Tests.{eq-eqb, ne_eqb}
-use Rattle.rules.specs.Base.{if◌then◌else◌, tab}
+use Rattle.rules.specs.Base.{when◌then◌else◌, tab}
 use Rattle.rules.specs.Listing.{decimal, joined, cell_text, row_text, rows_text}
 use Rattle.file.specs.Written.{written, Room, Wrote}
 use Rattle.file.specs.Shown.{led, leds, layers_text, layer_text, cell_at, shown, Inside, Filled}
@@ -20,11 +20,11 @@ use Rattle.file.proofs.Writing.{written_none, written-length, room_first, room_t
 -- ---------------------------------------------------------------- joined texts are led texts
 
 led-first : (b : ℕ) (t : List ℕ) → led b 0 t ≡ t
-unfolding led if◌then◌else◌
+unfolding led when◌then◌else◌
 led-first b t = refl
 
 led_later : (b j : ℕ) (t : List ℕ) → (j ≡ 0 → ⊥) → led b j t ≡ b ∷ t
-unfolding led if◌then◌else◌
+unfolding led when◌then◌else◌
 led_later b j t n = rw (ne_eqb j 0 n)
 
 -- the texts after the first
@@ -153,11 +153,11 @@ module _ (out₀ : List ℕ) (at : ℕ) (whole out : List ℕ) (next : ℕ) (ids
 -- a cell
 module _ (ids : List ℕ) (i k : ℕ) where
   pub empty_cell : k ≡ 0 → cell_text ids i k ≡ 45 ∷ []
-  unfolding cell_text if◌then◌else◌
+  unfolding cell_text when◌then◌else◌
   empty_cell e = rw (eq-eqb k 0 e)
 
   pub full_cell : (k ≡ 0 → ⊥) → cell_text ids i k ≡ layers_text ids i k
-  unfolding cell_text layers_text if◌then◌else◌
+  unfolding cell_text layers_text when◌then◌else◌
   full_cell n = rw (ne_eqb k 0 n)
 
   module _ (out : List ℕ) (at : ℕ) where

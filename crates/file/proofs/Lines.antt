@@ -6,7 +6,7 @@ use mathlib.Core.Path.{◌≡◌, refl, sym, ap, subst, ◌∙◌}
 use mathlib.Core.List.{List, [], ◌∷◌, ◌++◌, append_assoc}
 use lib.ListN.{length, take, drop, length-append, take-append-drop}
 use lib.Dec.{ltb}
-use Rattle.rules.specs.Base.{if◌then◌else◌, tab}
+use Rattle.rules.specs.Base.{when◌then◌else◌, tab}
 use Rattle.rules.specs.Listing.{digits, decimal, text, refused_line}
 use Rattle.laws.proofs.Basics.{if-ind}
 use Rattle.file.specs.Written.{Room, Wrote}
@@ -57,8 +57,8 @@ pub digits-length : (k v : ℕ) → length (digits k v) ≤ k
 unfolding digits
 digits-length zero v = omega arith
 digits-length (suc k) v =
-    let m : length (if ltb v 10 then [] else digits k (v / 10)) ≤ k = if-ind (λ (l : List ℕ). length l ≤ k) (ltb v 10) (λ _. omega arith) (λ _. digits-length k (v / 10)) in
-    omega (arith, length-append (if ltb v 10 then [] else digits k (v / 10)) ((48 + v % 10) ∷ []))
+    let m : length (when ltb v 10 then [] else digits k (v / 10)) ≤ k = if-ind (λ (l : List ℕ). length l ≤ k) (ltb v 10) (λ _. omega arith) (λ _. digits-length k (v / 10)) in
+    omega (arith, length-append (when ltb v 10 then [] else digits k (v / 10)) ((48 + v % 10) ∷ []))
 
 named-length : (name : List ℕ) (v : ℕ) → length (named name v) ≤ length name + 5
 unfolding named

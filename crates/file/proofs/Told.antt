@@ -9,7 +9,7 @@ use lib.ListN.{length, get_or, take, drop}
 use lib.Seq.{take_at}
 use lib.Dec.{eqb}
 use borrow.Author.Tests.{eq-eqb, ne_eqb, eqb-true, eqb-false}
-use Rattle.rules.specs.Base.{if◌then◌else◌}
+use Rattle.rules.specs.Base.{when◌then◌else◌}
 use Rattle.rules.specs.Field.{Field}
 use Rattle.rules.specs.Outcomes.{Sizes}
 use Rattle.rules.specs.File.{Level, refused, described, read_file}
@@ -43,23 +43,23 @@ module _ (l : Loader) where
   header_short f e = f e
 
   pub reading_loaded : (t : Header) → l.refusal ≡ 0 → t ≡ header l → file.Described t l.spans ≡ reading_in l
-  unfolding reading_in if◌then◌else◌
+  unfolding reading_in when◌then◌else◌
   reading_loaded t e f = rw (eq-eqb l.refusal 0 e, f) refl
 
   pub reading_large : (l.refusal ≡ 0 → ⊥) → l.refusal ≡ 21 → file.Refused TooLarge ≡ reading_in l
-  unfolding reading_in if◌then◌else◌
+  unfolding reading_in when◌then◌else◌
   reading_large n e = rw (ne_eqb l.refusal 0 n, eq-eqb l.refusal 21 e)
 
   pub reading_bad : (l.refusal ≡ 0 → ⊥) → (l.refusal ≡ 21 → ⊥) → file.Refused Malformed ≡ reading_in l
-  unfolding reading_in if◌then◌else◌
+  unfolding reading_in when◌then◌else◌
   reading_bad n m = rw (ne_eqb l.refusal 0 n, ne_eqb l.refusal 21 m)
 
   pub place_none : l.refusal ≡ 0 → place.Nowhere ≡ place_in l
-  unfolding place_in if◌then◌else◌
+  unfolding place_in when◌then◌else◌
   place_none e = rw (eq-eqb l.refusal 0 e)
 
   pub place_some : (l.refusal ≡ 0 → ⊥) → place.At l.position ≡ place_in l
-  unfolding place_in if◌then◌else◌
+  unfolding place_in when◌then◌else◌
   place_some n = rw (ne_eqb l.refusal 0 n)
 
 -- ---------------------------------------------------------------- what is told
@@ -99,7 +99,7 @@ module _ (bytes index count area con : List ℕ) (l : Loader) (index' count' are
   -- ---------------------------------------------------------------- the place
 
   place_by_lem : (p : Placed) → told (loading l index' count' area' con') ≡ told_by index count area con p → place_in l ≡ place_by p
-  unfolding told_by place_by place_in if◌then◌else◌
+  unfolding told_by place_by place_in when◌then◌else◌
   place_by_lem (refused_at n p F) e = let t = told_no l index' count' area' con' n (capped p) _ _ _ _ e in rw (ne_eqb l.refusal 0 t.0, t.2) refl
   place_by_lem (describes L) e = let t = told_yes l index' count' area' con' _ _ _ _ _ _ _ _ e in rw (eq-eqb l.refusal 0 t.0) refl
 
@@ -131,7 +131,7 @@ module _ (bytes index count area con : List ℕ) (l : Loader) (index' count' are
   -- every part of the promise, for what reading the file comes to
   refused_reads : (n q : ℕ) (F : Field) → refused_at n q F ≡ read_file_at 1024 200 bytes → (n ≡ 20) ⊎ (n ≡ 21)
       → told (loading l index' count' area' con') ≡ told_by index count area con (refused_at n q F) → Reads bytes index count area con (reading_in l) index' count' area' con'
-  unfolding told_by reading_in held field_by reading_by if◌then◌else◌
+  unfolding told_by reading_in held field_by reading_by when◌then◌else◌
   refused_reads n q F p f e =
       let t = told_no l index' count' area' con' n (capped q) _ _ _ _ e in
       let r : refused n ≡ read_file bytes = ap reading_by p ∙ place-left_out bytes in
@@ -157,7 +157,7 @@ module _ (bytes index count area con : List ℕ) (l : Loader) (index' count' are
 
   loaded_reads : (L : Level) → describes L ≡ read_file_at 1024 200 bytes → Measured 1024 200 L → told (loading l index' count' area' con') ≡ told_by index count area con (describes L)
       → Reads bytes index count area con (reading_in l) index' count' area' con'
-  unfolding told_by reading_in held field_by reading_by if◌then◌else◌
+  unfolding told_by reading_in held field_by reading_by when◌then◌else◌
   loaded_reads L p f e =
       let t = told_yes l index' count' area' con' _ _ _ _ _ _ _ _ e in
       let r : described L ≡ read_file bytes = ap reading_by p ∙ place-left_out bytes in

@@ -1,6 +1,6 @@
 -- The answers of the reader, in document 01's numbers and in the rule's words.
 use Rattle.std.specs.Prelude.{ℕ, ◌*◌, ◌≤◌, ◌≡◌, List, length, take, eqb}
-use Rattle.rules.specs.Base.{if◌then◌else◌}
+use Rattle.rules.specs.Base.{when◌then◌else◌}
 use Rattle.rules.specs.Field.{Field}
 use Rattle.rules.specs.Outcomes.{Sizes}
 use Rattle.rules.specs.File.{Reading, refused, described, read_file}
@@ -70,8 +70,8 @@ header l = record { w = l.w; h = l.h; border = l.border; least = l.least; merge 
 
 unfoldable pub reading_in : Loader → FileReading
 reading_in l =
-    if eqb l.refusal 0 then file.Described (header l) l.spans else
-    if eqb l.refusal 21 then file.Refused TooLarge else file.Refused Malformed
+    when eqb l.refusal 0 then file.Described (header l) l.spans else
+    when eqb l.refusal 21 then file.Refused TooLarge else file.Refused Malformed
 
 -- numbers of 16 bits
 pub record Short (l : Loader) : Type 0 where
@@ -88,7 +88,7 @@ place_by (describes L) = place.Nowhere
 
 -- by a loader's numbers
 unfoldable pub place_in : Loader → FilePlace
-place_in l = if eqb l.refusal 0 then place.Nowhere else place.At l.position
+place_in l = when eqb l.refusal 0 then place.Nowhere else place.At l.position
 
 -- before the first byte
 unfoldable pub begun : List ℕ → List ℕ → List ℕ → List ℕ → Loading

@@ -1,6 +1,6 @@
 -- The listing as it is written, part by part.
 use Rattle.std.specs.Prelude.{ℕ, zero, suc, ◌+◌, ◌*◌, ◌≤◌, ◌<◌, ◌≡◌, true, List, [], ◌∷◌, ◌++◌, length, get_or, take, drop, eqb}
-use Rattle.rules.specs.Base.{if◌then◌else◌, tab}
+use Rattle.rules.specs.Base.{when◌then◌else◌, tab}
 use Rattle.rules.specs.Field.{Field}
 use Rattle.rules.specs.Refusals.{good_cells}
 use Rattle.rules.specs.Outcomes.{RegionOutcome}
@@ -9,7 +9,7 @@ use Rattle.field.specs.Lent.{lent}
 
 -- text j of those that are joined: the byte between stands before it, unless it is the first
 unfoldable pub led : ℕ → ℕ → List ℕ → List ℕ
-led between j t = if eqb j 0 then t else between ∷ t
+led between j t = when eqb j 0 then t else between ∷ t
 
 -- texts j, j + 1, .., k of them, each led
 unfoldable pub leds : ℕ → ℕ → ℕ → (ℕ → List ℕ) → List ℕ

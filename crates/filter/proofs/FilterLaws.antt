@@ -12,7 +12,7 @@ use lib.ListN.{length, get_or, set, drop, length-drop, get_or-eq_default}
 use lib.Seq.{ext_get_or, get_or-drop}
 use lib.Dec.{eqb}
 use borrow.Author.Tests.{eq-eqb, ne_eqb}
-use Rattle.rules.specs.Base.{◌and◌, ◌or◌, if◌then◌else◌, any, upto}
+use Rattle.rules.specs.Base.{◌and◌, ◌or◌, when◌then◌else◌, any, upto}
 use Rattle.rules.specs.Records.{Rec, fresh, at}
 use Rattle.rules.specs.Filter.{seen, Gather, gather, total, remove_all, filter_one, filtered}
 use Rattle.rules.specs.Reasons.{group_count, gone_with}
@@ -62,20 +62,20 @@ like_gathered ws ws' m H f l = record {
 
 -- ---- a record's turn
 
-skips : (a b c : Bool) (x y : List Rec) → (a ≡ true) → x ≡ (if a or b or c then x else y)
-unfolding ◌or◌ if◌then◌else◌
+skips : (a b c : Bool) (x y : List Rec) → (a ≡ true) → x ≡ (when a or b or c then x else y)
+unfolding ◌or◌ when◌then◌else◌
 skips a b c x y e = rw e
 
-skips_2 : (a b c : Bool) (x y : List Rec) → a ≡ false → b ≡ true → x ≡ (if a or b or c then x else y)
-unfolding ◌or◌ if◌then◌else◌
+skips_2 : (a b c : Bool) (x y : List Rec) → a ≡ false → b ≡ true → x ≡ (when a or b or c then x else y)
+unfolding ◌or◌ when◌then◌else◌
 skips_2 a b c x y e f = rw (e, f)
 
-skips_3 : (a b c : Bool) (x y : List Rec) → a ≡ false → b ≡ false → c ≡ true → x ≡ (if a or b or c then x else y)
-unfolding ◌or◌ if◌then◌else◌
+skips_3 : (a b c : Bool) (x y : List Rec) → a ≡ false → b ≡ false → c ≡ true → x ≡ (when a or b or c then x else y)
+unfolding ◌or◌ when◌then◌else◌
 skips_3 a b c x y e f g = rw (e, f, g)
 
-goes : (a b c : Bool) (x y z : List Rec) → a ≡ false → b ≡ false → c ≡ false → z ≡ y → z ≡ (if a or b or c then x else y)
-unfolding ◌or◌ if◌then◌else◌
+goes : (a b c : Bool) (x y z : List Rec) → a ≡ false → b ≡ false → c ≡ false → z ≡ y → z ≡ (when a or b or c then x else y)
+unfolding ◌or◌ when◌then◌else◌
 goes a b c x y z e f g q = rw (e, f, g) q
 
 module _ (ws : List ℕ) (m least i : ℕ) (h : i < m) where
@@ -117,8 +117,8 @@ module _ (ws : List ℕ) (m least i : ℕ) (h : i < m) where
 
 -- ---- the group's count, as a record's turn gives it
 
-skips_count : (a b c : Bool) (x : ℕ) → a or b or c ≡ true → 0 ≡ (if a or b or c then 0 else x)
-unfolding if◌then◌else◌
+skips_count : (a b c : Bool) (x : ℕ) → a or b or c ≡ true → 0 ≡ (when a or b or c then 0 else x)
+unfolding when◌then◌else◌
 skips_count a b c x e = rw e
 
 or-first : (a b c : Bool) → a ≡ true → a or b or c ≡ true
@@ -133,8 +133,8 @@ or_third : (a b c : Bool) → a ≡ false → b ≡ false → c ≡ true → a o
 unfolding ◌or◌
 or_third a b c e f g = rw (e, f, g)
 
-goes_count : (a b c : Bool) (x z : ℕ) → a ≡ false → b ≡ false → c ≡ false → z ≡ x → z ≡ (if a or b or c then 0 else x)
-unfolding ◌or◌ if◌then◌else◌
+goes_count : (a b c : Bool) (x z : ℕ) → a ≡ false → b ≡ false → c ≡ false → z ≡ x → z ≡ (when a or b or c then 0 else x)
+unfolding ◌or◌ when◌then◌else◌
 goes_count a b c x z e f g q = rw (e, f, g) q
 
 module _ (ws : List ℕ) (m i : ℕ) (h : i < m) where
@@ -172,16 +172,16 @@ module _ (ws ws₁ ws₂ ws₃ ws₄ : List ℕ) (m least i f : ℕ) (C : Calm m
       ∙ ap (λ (rs : List Rec). gather (suc m) (i ∷ []) rs []) (ap (λ (q : Gather). q.recs) g₁)
       ∙ ap (λ (k : ℕ). gather (suc k) (i ∷ []) (set (recs_of ws m) i (seen (at (recs_of ws m) i))) []) (sym (recs_length ws m))
 
-  judged : recs_of ws₄ m ≡ (if small least (recs_of ws m) (group_at ws₂ m 0 f).found then remove_all (group_at ws₂ m 0 f).found (group_at ws₂ m 0 f).recs else (group_at ws₂ m 0 f).recs)
+  judged : recs_of ws₄ m ≡ (when small least (recs_of ws m) (group_at ws₂ m 0 f).found then remove_all (group_at ws₂ m 0 f).found (group_at ws₂ m 0 f).recs else (group_at ws₂ m 0 f).recs)
   unfolding group_at remove_small
   judged =
-      r₄ ∙ r₃ ∙ ap (λ (b : Bool). if b then remove_all (part (6 * m) (6 * m + f) ws₂) (recs_of ws₂ m) else recs_of ws₂ m)
+      r₄ ∙ r₃ ∙ ap (λ (b : Bool). when b then remove_all (part (6 * m) (6 * m + f) ws₂) (recs_of ws₂ m) else recs_of ws₂ m)
       (small_like least (recs_of ws m) (recs_of ws₂ m)
       (like_gathered ws ws₂ m C.held (frame_then (frame_wider (4 * m) (7 * m) f₁ (omega arith) (omega arith)) f₂) (l₂ ∙ l₁)) (part (6 * m) (6 * m + f) ws₂))
 
   pub group_done : recs_of ws₄ m ≡ filter_group least i (recs_of ws m)
   unfolding filter_group
-  group_done = judged ∙ ap (λ (q : Gather). if small least (recs_of ws m) q.found then remove_all q.found q.recs else q.recs) group_is
+  group_done = judged ∙ ap (λ (q : Gather). when small least (recs_of ws m) q.found then remove_all q.found q.recs else q.recs) group_is
 
   pub group_count_lem : (k : ℕ) → k ≡ total (recs_of ws₂ m) (part (6 * m) (6 * m + f) ws₂) → k ≡ group_count i (recs_of ws m)
   unfolding group_count
@@ -238,8 +238,8 @@ filter_done least m i ws₀ ws h g e = let q : i ≡ length (recs_of ws₀ m) = 
 
 -- ---- the group with which one record is gone
 
-skips_turn : (a b c : Bool) (x y : List Rec) → a or b or c ≡ true → (if a or b or c then x else y) ≡ x
-unfolding if◌then◌else◌
+skips_turn : (a b c : Bool) (x y : List Rec) → a or b or c ≡ true → (when a or b or c then x else y) ≡ x
+unfolding when◌then◌else◌
 skips_turn a b c x y e = rw e
 
 -- a record whose turn is passed by changes nothing
@@ -248,18 +248,18 @@ unfolding filter_one
 turn_skipped least i rs e = skips_turn _ _ _ _ _ e
 
 turn-counted : (i : ℕ) (rs : List Rec) → eqb (at rs i).id 0 or eqb (at rs i).count 0 or (at rs i).visited ≡ false → turn_count i rs ≡ group_count i rs
-unfolding turn_count if◌then◌else◌
+unfolding turn_count when◌then◌else◌
 turn-counted i rs e = rw e
 
-never_both : (e : Bool) (x y : ℕ) → (if not e and e then x else y) ≡ y
-unfolding ◌and◌ if◌then◌else◌
+never_both : (e : Bool) (x y : ℕ) → (when not e and e then x else y) ≡ y
+unfolding ◌and◌ when◌then◌else◌
 never_both true x y = refl
 never_both false x y = refl
 
 -- a record's turn that takes record r's id is one that is not passed by
 gone_count : (least r i : ℕ) (rs : List Rec) (told : ℕ)
-    → (if not (eqb (at rs r).id 0) and eqb (at (filter_one least i rs) r).id 0 then turn_count i rs else told)
-    ≡ (if not (eqb (at rs r).id 0) and eqb (at (filter_one least i rs) r).id 0 then group_count i rs else told)
+    → (when not (eqb (at rs r).id 0) and eqb (at (filter_one least i rs) r).id 0 then turn_count i rs else told)
+    ≡ (when not (eqb (at rs r).id 0) and eqb (at (filter_one least i rs) r).id 0 then group_count i rs else told)
 gone_count least r i rs told = ⊎_elim
     (λ (e : skip ≡ true). rw (turn_skipped least i rs e) (never_both (eqb (at rs r).id 0) (turn_count i rs) told ∙ sym (never_both (eqb (at rs r).id 0) (group_count i rs) told)))
     (λ (e : skip ≡ false). rw (turn-counted i rs e)) (cases skip)
@@ -272,13 +272,13 @@ unfolding gone_with
 gone_start least r m ws = refl
 
 gone_next : (least r i : ℕ) (rs rs₀ : List Rec) (told told' : ℕ) → rs ≡ upto i (filter_one least) rs₀ → told ≡ gone_with least r i rs₀
-    → told' ≡ (if not (eqb (at rs r).id 0) and eqb (at (filter_one least i rs) r).id 0 then turn_count i rs else told) → told' ≡ gone_with least r (i + 1) rs₀
+    → told' ≡ (when not (eqb (at rs r).id 0) and eqb (at (filter_one least i rs) r).id 0 then turn_count i rs else told) → told' ≡ gone_with least r (i + 1) rs₀
 unfolding gone_with
 gone_next least r i rs rs₀ told told' e t q = rw add-one (q ∙ gone_count least r i rs told ∙ rw (e, t))
 
 pub gone_go : (least r m i : ℕ) (ws₀ ws ws' : List ℕ) (told told' count : ℕ) → r < m → recs_of ws m ≡ upto i (filter_one least) (recs_of ws₀ m) → recs_of ws' m ≡ filter_one least i (recs_of ws m)
     → told ≡ gone_with least r i (recs_of ws₀ m) → count ≡ turn_count i (recs_of ws m)
-    → told' ≡ (if not (eqb (get_or ws r 0) 0) and eqb (get_or ws' r 0) 0 then count else told) → told' ≡ gone_with least r (i + 1) (recs_of ws₀ m)
+    → told' ≡ (when not (eqb (get_or ws r 0) 0) and eqb (get_or ws' r 0) 0 then count else told) → told' ≡ gone_with least r (i + 1) (recs_of ws₀ m)
 gone_go least r m i ws₀ ws ws' told told' count h e f t c q =
     gone_next least r i (recs_of ws m) (recs_of ws₀ m) told told' e t (q ∙ rw (← f, id_is ws m 0 r h, id_is ws' m 0 r h, c))
 

@@ -11,7 +11,7 @@ use lib.ListN.{length, get_or, set, drop, length-set, length-drop}
 use lib.Seq.{get_or-set_same, get_or-set_other, take-suc, get_or-drop}
 use lib.Dec.{eqb}
 use borrow.Author.Tests.{eq-eqb, ne_eqb, le-leb, lt-leb}
-use Rattle.rules.specs.Base.{◌or◌, if◌then◌else◌}
+use Rattle.rules.specs.Base.{◌or◌, when◌then◌else◌}
 use Rattle.rules.specs.Records.{Rec, fresh, at}
 use Rattle.rules.specs.Filter.{seen, Gather, reach, gather}
 use Rattle.laws.proofs.Basics.{tally_le, tally-set}
@@ -69,8 +69,8 @@ is_zero : (x : ℕ) → x ≡ 0 → not (eqb x 0) ≡ false
 is_zero x h = rw (eq-eqb x 0 h)
 
 -- one entry, over plain tests
-one_by : (a b c : Bool) (g h : Gather) → (a ≡ true) ⊎ ((b ≡ true) ⊎ (c ≡ true)) → g ≡ (if a or b or c then g else h)
-unfolding ◌or◌ if◌then◌else◌
+one_by : (a b c : Bool) (g h : Gather) → (a ≡ true) ⊎ ((b ≡ true) ⊎ (c ≡ true)) → g ≡ (when a or b or c then g else h)
+unfolding ◌or◌ when◌then◌else◌
 one_by true b c g h e = refl
 one_by false true c g h e = refl
 one_by false false true g h e = refl
@@ -79,8 +79,8 @@ one_by false false false g h e = ⊎_elim (λ (p : false ≡ true). absurd (no_w
     no_way : false ≡ true → ⊥
     no_way p = let z : ◌≡◌ {A = ℕ} 0 1 = cc in omega arith
 
-one_else : (a b c : Bool) (g h : Gather) → a ≡ false → b ≡ false → c ≡ false → h ≡ (if a or b or c then g else h)
-unfolding ◌or◌ if◌then◌else◌
+one_else : (a b c : Bool) (g h : Gather) → a ≡ false → b ≡ false → c ≡ false → h ≡ (when a or b or c then g else h)
+unfolding ◌or◌ when◌then◌else◌
 one_else a b c g h p q r = rw (p, q, r)
 
 module _ (ws : List ℕ) (m r top : ℕ) where

@@ -11,7 +11,7 @@ use lib.Seq.{get_or-set_same, get_or-set_other}
 use lib.Dec.{ltb}
 use borrow.Author.Tests.{le-leb, lt-leb, lt-ltb, le-ltb}
 use borrow.Rule.Slice.PartMut.{put_mid, mid_of}
-use Rattle.rules.specs.Base.{if◌then◌else◌, ◌and◌, ◌or◌, any}
+use Rattle.rules.specs.Base.{when◌then◌else◌, ◌and◌, ◌or◌, any}
 use Rattle.rules.specs.Growth.{flagged}
 use Rattle.rules.specs.Records.{Rec, at}
 use Rattle.rules.specs.Filter.{removed, total, remove_all}
@@ -195,11 +195,11 @@ module _ (m f : ℕ) (ws₀ : List ℕ) where
 
 module _ (least m f : ℕ) (ws : List ℕ) (b : Bool) (q : b ≡ small least (recs_of ws m) (part (6 * m) (6 * m + f) ws)) where
   pub gone_all : (ws' : List ℕ) → b ≡ true → recs_of ws' m ≡ remove_all (part (6 * m) (6 * m + f) ws) (recs_of ws m) → recs_of ws' m ≡ remove_small least (recs_of ws m) (part (6 * m) (6 * m + f) ws)
-  unfolding remove_small if◌then◌else◌
+  unfolding remove_small when◌then◌else◌
   gone_all ws' z e = rw (← q, z) e
 
   pub gone_none : b ≡ false → recs_of ws m ≡ remove_small least (recs_of ws m) (part (6 * m) (6 * m + f) ws)
-  unfolding remove_small if◌then◌else◌
+  unfolding remove_small when◌then◌else◌
   gone_none z = rw (← q, z)
 
 -- ---- the spare columns

@@ -1,6 +1,6 @@
 -- The filter, as the code goes through it. A group under way lies in the two spare columns: who waits, last in last, and who is found.
 use Rattle.std.specs.Prelude.{ℕ, suc, ◌+◌, ◌-◌, ◌*◌, ◌≤◌, ◌<◌, ◌≡◌, Bool, not, List, [], ◌∷◌, ◌++◌, length, get_or, set, eqb, ltb}
-use Rattle.rules.specs.Base.{◌and◌, ◌or◌, if◌then◌else◌, any}
+use Rattle.rules.specs.Base.{◌and◌, ◌or◌, when◌then◌else◌, any}
 use Rattle.rules.specs.Growth.{flagged}
 use Rattle.rules.specs.Records.{Rec, at}
 use Rattle.rules.specs.Filter.{seen, Gather, gather, total, remove_all}
@@ -26,7 +26,7 @@ found_in ws m f = part (found_at m) (found_at m + f) ws
 unfoldable pub reach_one : ℕ → Gather → Gather
 reach_one r g =
     let q = at g.recs r in
-    if flagged r or q.visited or eqb q.id 0 then g
+    when flagged r or q.visited or eqb q.id 0 then g
     else record { todo = q.id ∷ g.todo; recs = set g.recs r (seen q); found = g.found }
 
 unfoldable pub group_at : List ℕ → ℕ → ℕ → ℕ → Gather
@@ -71,14 +71,14 @@ small least rs l = ltb (total rs l) least and not (any_flagged rs l)
 
 -- "gets id 0 and count 0"
 unfoldable pub remove_small : ℕ → List Rec → List ℕ → List Rec
-remove_small least rs l = if small least rs l then remove_all l rs else rs
+remove_small least rs l = when small least rs l then remove_all l rs else rs
 
 -- the group of record i, gathered and judged
 unfoldable pub filter_group : ℕ → ℕ → List Rec → List Rec
 filter_group least i rs =
     let g = gather (suc (length rs)) (i ∷ []) (set rs i (seen (at rs i))) [] in
-    if small least rs g.found then remove_all g.found g.recs else g.recs
+    when small least rs g.found then remove_all g.found g.recs else g.recs
 
 -- the count of the group that record i begins, 0 where it begins none
 unfoldable pub turn_count : ℕ → List Rec → ℕ
-turn_count i rs = if eqb (at rs i).id 0 or eqb (at rs i).count 0 or (at rs i).visited then 0 else group_count i rs
+turn_count i rs = when eqb (at rs i).id 0 or eqb (at rs i).count 0 or (at rs i).visited then 0 else group_count i rs

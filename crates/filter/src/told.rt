@@ -1,6 +1,6 @@
 // The filter, and the group with which one record is removed: "Why has this span no room?"
 ghost use Rattle.std.specs.Prelude.{◌≡◌, not, ◌*◌, ◌<◌, eqb};
-ghost use Rattle.rules.specs.Base.{◌and◌, if◌then◌else◌};
+ghost use Rattle.rules.specs.Base.{◌and◌, when◌then◌else◌};
 ghost use Rattle.rules.specs.Filter.{filtered};
 ghost use Rattle.rules.specs.Reasons.{gone_with};
 ghost use Rattle.space.specs.Space.{Frame};
@@ -12,7 +12,7 @@ use crate::whole::filter_one;
 
 // The count with which a record is gone, after one more group of that count: its id was `before`, and is `after`.
 fn gone(before: u16, after: u16, count: usize, told: usize) -> usize
-    ensures { result ≡ (if not (eqb before 0) and eqb after 0 then count else told) }
+    ensures { result ≡ (when not (eqb before 0) and eqb after 0 then count else told) }
 {
     if before == 0 {
         return told;

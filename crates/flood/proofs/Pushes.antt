@@ -10,7 +10,7 @@ use lib.ListN.{length, get_or, set, length-set}
 use lib.Seq.{get_or-set_other, take-set-le, take-set-lt}
 use lib.Dec.{eqb}
 use borrow.Author.Tests.{eq-eqb, ne_eqb, le-leb, lt-leb}
-use Rattle.rules.specs.Base.{◌and◌, if◌then◌else◌, upto}
+use Rattle.rules.specs.Base.{◌and◌, when◌then◌else◌, upto}
 use Rattle.rules.specs.Net.{near, area_of}
 use Rattle.rules.specs.Growth.{put, Seed, pushed}
 use Rattle.laws.proofs.Basics.{upto_next}
@@ -35,7 +35,7 @@ flow_push n stack ids ws id t h ht hs hw =
 
 module _ (table : ℕ) (ar dist ids ws cons : List ℕ) (stack : ℕ) (q : Seed) (s d : ℕ) (h : Height) (v : AtSpan table ar ws cons s) (hd : d < 4) where
   pub skip_none : q.area < 256 → get_or cons d 0 ≡ 255 → flow_at (length ar) stack ids ws h ≡ pushed (net_at table ar ws) dist q s d (flow_at (length ar) stack ids ws h)
-  unfolding pushed ◌and◌ if◌then◌else◌
+  unfolding pushed ◌and◌ when◌then◌else◌
   skip_none b z =
       let e = ap (area_of (net_at table ar ws)) (v.opens.shut d hd z) ∙ area_none (net_at table ar ws) v.closed in
       let y : eqb (area_of (net_at table ar ws) (near (net_at table ar ws) s d)) q.area ≡ false = ne_eqb _ _ (λ (y : area_of (net_at table ar ws) (near (net_at table ar ws) s d) ≡ q.area). omega arith) in
@@ -49,23 +49,23 @@ module _ (table : ℕ) (ar dist ids ws cons : List ℕ) (stack : ℕ) (q : Seed)
     area_there = ap (area_of (net_at table ar ws)) is ∙ area_at table ar ws t ht
 
     pub skip_area : (get_or ar t 0 ≡ q.area → ⊥) → flow_at (length ar) stack ids ws h ≡ pushed (net_at table ar ws) dist q s d (flow_at (length ar) stack ids ws h)
-    unfolding pushed ◌and◌ if◌then◌else◌
+    unfolding pushed ◌and◌ when◌then◌else◌
     skip_area a = rw (area_there, ne_eqb _ _ a)
 
     module _ (a : get_or ar t 0 ≡ q.area) where
       pub skip_id : (get_or ids t 0 ≡ 0 → ⊥) → flow_at (length ar) stack ids ws h ≡ pushed (net_at table ar ws) dist q s d (flow_at (length ar) stack ids ws h)
-      unfolding pushed ◌and◌ if◌then◌else◌ flow_at
+      unfolding pushed ◌and◌ when◌then◌else◌ flow_at
       skip_id z = rw (area_there, eq-eqb _ _ a, is, ne_eqb _ _ z)
 
       module _ (z : get_or ids t 0 ≡ 0) where
         pub skip_shallow : get_or dist t 0 < q.limit → flow_at (length ar) stack ids ws h ≡ pushed (net_at table ar ws) dist q s d (flow_at (length ar) stack ids ws h)
-        unfolding pushed ◌and◌ if◌then◌else◌ flow_at
+        unfolding pushed ◌and◌ when◌then◌else◌ flow_at
         skip_shallow l = rw (area_there, eq-eqb _ _ a, is, eq-eqb _ _ z, lt-leb q.limit (get_or dist t 0) l)
 
         pub push_flow : q.limit ≤ get_or dist t 0 → length ar ≤ stack → stack + h.top < length ws
             → flow_at (length ar) stack (set ids t q.id) (set (set ws t 0) (stack + h.top) t) (record { top = h.top + 1; count = h.count })
             ≡ pushed (net_at table ar ws) dist q s d (flow_at (length ar) stack ids ws h)
-        unfolding pushed ◌and◌ if◌then◌else◌ flow_at
+        unfolding pushed ◌and◌ when◌then◌else◌ flow_at
         push_flow l low hi = flow_push (length ar) stack ids ws q.id t h ht low hi ∙ rw (area_there, eq-eqb _ _ a, is, eq-eqb _ _ z, le-leb q.limit (get_or dist t 0) l)
 
 -- ---------------------------------------------------------------- what a push leaves alone

@@ -8,7 +8,7 @@ use native.Mathlib.Omega.{arith}
 use lib.ListN.{length, get_or, get_or-eq_default}
 use lib.Dec.{eqb}
 use borrow.Author.Tests.{eq-eqb, ne_eqb}
-use Rattle.rules.specs.Base.{◌and◌, if◌then◌else◌}
+use Rattle.rules.specs.Base.{◌and◌, when◌then◌else◌}
 use Rattle.rules.specs.Field.{none}
 use Rattle.rules.specs.Net.{Net, near, corner, area_of}
 use Rattle.rules.specs.Growth.{Marks, Seed, flagged, other, sees, or_else, objects}
@@ -45,7 +45,7 @@ module _ (table : ℕ) (ar ids ws cons : List ℕ) (q : Seed) (s d : ℕ) (v : A
   no_area N t e a b = ne_eqb _ _ (λ (y : area_of N (near N s d) ≡ q.area). omega (arith, ap (area_of N) e))
 
   pub sees-none : q.area < 256 → get_or cons d 0 ≡ 255 → 0 ≡ sees (net_at table ar ws) (marks_at (length ar) ids ws) q s d
-  unfolding sees if◌then◌else◌
+  unfolding sees when◌then◌else◌
   sees-none b z = rw (no_area (net_at table ar ws) 0 (v.opens.shut d hd z) (area_none (net_at table ar ws) v.closed) b)
 
   module _ (t : ℕ) (e : t ≡ get_or ws (table + (4 * s + d)) 0) (h : t < length ar) where
@@ -53,17 +53,17 @@ module _ (table : ℕ) (ar ids ws cons : List ℕ) (q : Seed) (s d : ℕ) (v : A
     area_there = ap (area_of (net_at table ar ws)) (near_is table ar ws cons s d t v hd e) ∙ area_at table ar ws t h
 
     pub sees-other_area : (get_or ar t 0 ≡ q.area → ⊥) → 0 ≡ sees (net_at table ar ws) (marks_at (length ar) ids ws) q s d
-    unfolding sees if◌then◌else◌
+    unfolding sees when◌then◌else◌
     sees-other_area k = rw (area_there, ne_eqb _ _ k)
 
     module _ (k : get_or ar t 0 ≡ q.area) (b : Bool) (eb : b ≡ flagged (get_or ids t 0)) where
       pub sees-flagged : b ≡ true → 1 ≡ sees (net_at table ar ws) (marks_at (length ar) ids ws) q s d
-      unfolding sees if◌then◌else◌
+      unfolding sees when◌then◌else◌
       sees-flagged y = rw (area_there, eq-eqb _ _ k, near_is table ar ws cons s d t v hd e, sym eb ∙ y)
 
       module _ (nb : b ≡ false) (r : Bool) (o : r ≡ other q.id (get_or ids t 0)) where
         pub sees-other_id : r ≡ true → 2 ≡ sees (net_at table ar ws) (marks_at (length ar) ids ws) q s d
-        unfolding sees if◌then◌else◌
+        unfolding sees when◌then◌else◌
         sees-other_id y = rw (area_there, eq-eqb _ _ k, near_is table ar ws cons s d t v hd e, sym eb ∙ nb, sym o ∙ y)
 
         module _ (no : r ≡ false) (u : ℕ) (eu : u ≡ get_or ws (table + (4 * t + (d + 1) % 4)) 0) (x : Bool) (ex : x ≡ bears ar ids q u) where
@@ -76,11 +76,11 @@ module _ (table : ℕ) (ar ids ws cons : List ℕ) (q : Seed) (s d : ℕ) (v : A
           corner_says = rw corner_is (sym ex)
 
           pub sees-corner : x ≡ true → 2 ≡ sees (net_at table ar ws) (marks_at (length ar) ids ws) q s d
-          unfolding sees if◌then◌else◌
+          unfolding sees when◌then◌else◌
           sees-corner y = let z = corner_says ∙ y in rw (area_there, eq-eqb _ _ k, near_is table ar ws cons s d t v hd e, sym eb ∙ nb, sym o ∙ no, z)
 
           pub sees-nothing : x ≡ false → 0 ≡ sees (net_at table ar ws) (marks_at (length ar) ids ws) q s d
-          unfolding sees if◌then◌else◌
+          unfolding sees when◌then◌else◌
           sees-nothing y = let z = corner_says ∙ y in rw (area_there, eq-eqb _ _ k, near_is table ar ws cons s d t v hd e, sym eb ∙ nb, sym o ∙ no, z)
 
 -- ---------------------------------------------------------------- the four directions

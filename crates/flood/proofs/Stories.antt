@@ -8,7 +8,7 @@ use native.Mathlib.Omega.{arith}
 use lib.ListN.{length, get_or, set, get_or-eq_default}
 use lib.Dec.{eqb}
 use borrow.Author.Tests.{eq-eqb, ne_eqb}
-use Rattle.rules.specs.Base.{◌and◌, if◌then◌else◌}
+use Rattle.rules.specs.Base.{◌and◌, when◌then◌else◌}
 use Rattle.rules.specs.Field.{none}
 use Rattle.rules.specs.Net.{Net, near, corner}
 use Rattle.rules.specs.Growth.{Marks, Seed, Flow, other, sees, objects, visit}
@@ -36,7 +36,7 @@ at_no v l e k = sym (ne_eqb v 2 (λ y. k (e ∙ y)))
 
 -- a direction that leads nowhere
 none-objector : (N : Net) (m : Marks) (q : Seed) (s d : ℕ) → near N s d ≡ none → get_or m.ids none 0 ≡ 0 → near N none ((d + 1) % 4) ≡ none → objector N m q s d ≡ none
-unfolding objector corner if◌then◌else◌ ◌and◌
+unfolding objector corner when◌then◌else◌ ◌and◌
 none-objector N m q s d e i c = rw (e, i) c
 
 none-near : (N : Net) (d : ℕ) → length N.neighbours ≤ 4 * none → near N none d ≡ none
@@ -58,47 +58,47 @@ module _ (table : ℕ) (ar ids ws cons : List ℕ) (q : Seed) (s d : ℕ) (v : A
       sym (none-objector (net_at table ar ws) (marks_at (length ar) ids ws) q s d (there ∙ z) i (none-near (net_at table ar ws) ((d + 1) % 4) (short table ar ws v.room few)))
 
   pub objector-side : (r : Bool) → r ≡ other q.id (get_or ids t 0) → r ≡ true → t ≡ objector (net_at table ar ws) (marks_at (length ar) ids ws) q s d
-  unfolding objector if◌then◌else◌
+  unfolding objector when◌then◌else◌
   objector-side r o y = rw (there, sym o ∙ y)
 
   pub objector-corner : (r : Bool) → r ≡ other q.id (get_or ids t 0) → r ≡ false → t < length ar → (u : ℕ) → u ≡ get_or ws (table + (4 * t + (d + 1) % 4)) 0
       → u ≡ objector (net_at table ar ws) (marks_at (length ar) ids ws) q s d
-  unfolding objector corner if◌then◌else◌
+  unfolding objector corner when◌then◌else◌
   objector-corner r o y h u eu = rw (there, sym o ∙ y) (eu ∙ sym (near-at table ar ws t ((d + 1) % 4) v.room h (turned d 1)))
 
 module _ (N : Net) (m : Marks) (q : Seed) (s : ℕ) (a : Bool) (ea : a ≡ eqb (sees N m q s 0) 2) where
   pub objecting_0 : a ≡ true → (o : ℕ) → o ≡ objector N m q s 0 → o ≡ objecting N m q s
-  unfolding objecting if◌then◌else◌
+  unfolding objecting when◌then◌else◌
   objecting_0 y o e = rw (sym ea ∙ y) e
 
   module _ (y : a ≡ false) (b : Bool) (eb : b ≡ eqb (sees N m q s 1) 2) where
     pub objecting_1 : b ≡ true → (o : ℕ) → o ≡ objector N m q s 1 → o ≡ objecting N m q s
-    unfolding objecting if◌then◌else◌
+    unfolding objecting when◌then◌else◌
     objecting_1 z o e = rw (sym ea ∙ y, sym eb ∙ z) e
 
     module _ (z : b ≡ false) (c : Bool) (ec : c ≡ eqb (sees N m q s 2) 2) where
       pub objecting_2 : c ≡ true → (o : ℕ) → o ≡ objector N m q s 2 → o ≡ objecting N m q s
-      unfolding objecting if◌then◌else◌
+      unfolding objecting when◌then◌else◌
       objecting_2 x o e = rw (sym ea ∙ y, sym eb ∙ z, sym ec ∙ x) e
 
       pub objecting_3 : c ≡ false → (o : ℕ) → o ≡ objector N m q s 3 → o ≡ objecting N m q s
-      unfolding objecting if◌then◌else◌
+      unfolding objecting when◌then◌else◌
       objecting_3 x o e = rw (sym ea ∙ y, sym eb ∙ z, sym ec ∙ x) e
 
 -- ---------------------------------------------------------------- a visit
 
 module _ (N : Net) (m : Marks) (q : Seed) (c : ℕ) (y : Story) where
   pub visit-other : (c ≡ y.span → ⊥) → y ≡ visit_tells N m q c y
-  unfolding visit_tells if◌then◌else◌ ◌and◌
+  unfolding visit_tells when◌then◌else◌ ◌and◌
   visit-other h = rw (ne_eqb c y.span h)
 
   visit_calm : objects N m q c ≡ false → y ≡ visit_tells N m q c y
-  unfolding visit_tells if◌then◌else◌ ◌and◌
+  unfolding visit_tells when◌then◌else◌ ◌and◌
   visit_calm z = rw (z, and_no (eqb c y.span))
 
   pub visit-back : c ≡ y.span → objects N m q c ≡ true → (o : ℕ) → o ≡ objecting N m q c
       → record { span = y.span; from = y.from; gave = q.id; objecting = o } ≡ visit_tells N m q c y
-  unfolding visit_tells gave_back if◌then◌else◌ ◌and◌
+  unfolding visit_tells gave_back when◌then◌else◌ ◌and◌
   visit-back h z o e = rw (eq-eqb c y.span h, z, ← e)
 
 -- entry t is popped: ws₁ is the workspace without it, and N₁ the net there

@@ -10,7 +10,7 @@ use native.Mathlib.Numerals.{add-one}
 use native.Mathlib.Decide.{ℕ_discrete}
 use lib.ListN.{length, get_or, set, length-set}
 use lib.Seq.{get_or-set_other, get_or-set_same, take-set-le}
-use Rattle.rules.specs.Base.{if◌then◌else◌, upto}
+use Rattle.rules.specs.Base.{when◌then◌else◌, upto}
 use Rattle.rules.specs.Net.{Net}
 use Rattle.rules.specs.Growth.{Seed, objects, pushed, visit}
 use Rattle.space.specs.Space.{tally, stack_at}
@@ -58,13 +58,13 @@ module _ (n stack : ℕ) (dist ids ws ws₁ : List ℕ) (t k : ℕ) (gone : ws�
     says = rw (← is, ← same, ← popped_marks) (sym o)
 
     pub visit-objects : r ≡ true → flow_at n stack (set ids s 0) ws₁ (record { top = t; count = k }) ≡ visit N dist q x (flow_at n stack ids ws (record { top = t; count = k }))
-    unfolding visit flow_at if◌then◌else◌
+    unfolding visit flow_at when◌then◌else◌
     visit-objects y = let z = says ∙ y in rw (z, is) (popped_flow (set ids x 0) k)
 
     pub visit_counts : (ids' ws' : List ℕ) (h : Height) → r ≡ false
         → flow_at n stack ids' ws' h ≡ upto 4 (pushed N₁ dist q s) (flow_at n stack ids ws₁ (record { top = t; count = k + 1 }))
         → flow_at n stack ids' ws' h ≡ visit N dist q x (flow_at n stack ids ws (record { top = t; count = k }))
-    unfolding visit flow_at if◌then◌else◌
+    unfolding visit flow_at when◌then◌else◌
     visit_counts ids' ws' h y e = let z = says ∙ y in rw z (rw (is, same, popped_flow ids (k + 1), add-one) at e)
 
 -- popping keeps what is outside of the stack's section, and leaves zeros past the entries

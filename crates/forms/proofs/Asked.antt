@@ -9,7 +9,7 @@ use mathlib.Core.List.{List, [], ◌∷◌}
 use lib.ListN.{length, take, drop}
 use lib.Dec.{eqb, ltb, leb}
 use borrow.Author.Tests.{eq-eqb, ne_eqb, ltb-true, ltb-false}
-use Rattle.rules.specs.Base.{◌and◌, if◌then◌else◌}
+use Rattle.rules.specs.Base.{◌and◌, when◌then◌else◌}
 use Rattle.rules.specs.Stored.{IdOutcome, old_ids, spread, new_runs, packed, pack_refusal, read_refusal, pack_outcome, unpack_outcome, unpacked, mark_at, marks_in, chosen, spans_before, within, id_at, id_whole}
 use Rattle.laws.proofs.Basics.{if-ind, All}
 use Rattle.forms.proofs.Runs.{spread_runs}
@@ -69,11 +69,11 @@ tells (suc c) (k ∷ x ∷ y ∷ z ∷ w ∷ rest) p s span =
 
 -- "says which stretch it read", on every file: the one that the halving chose, and before one is chosen, stretch 0 with 22
 pub stretch_told : (file : List ℕ) (span : ℕ) → length file % 5 ≡ 1 → (id_at file span).stretch ≡ chosen file span
-unfolding id_at if◌then◌else◌
+unfolding id_at when◌then◌else◌
 stretch_told file span o = rw (eq-eqb (length file % 5) 1 o) (tells 64 (drop (325 * chosen file span) file) (chosen file span) (spans_before file (chosen file span)) span)
 
 pub no_stretch : (file : List ℕ) (span : ℕ) → (length file % 5 ≡ 1 → ⊥) → id_at file span ≡ found 22 0 0
-unfolding id_at if◌then◌else◌
+unfolding id_at when◌then◌else◌
 no_stretch file span n = rw (ne_eqb (length file % 5) 1 n)
 
 -- and it is the one that was read: with the kind 7 records that were looked at it decides the answer, whatever the other bytes are
@@ -98,7 +98,7 @@ looks (suc k) (suc b) l span lo hi h =
     let g = pow-suc 2 b in
     if-ind (λ (m : List ℕ). length m ≤ suc b) (ltb lo hi)
     (λ y. let d = ltb-true lo hi y in
-    let next : length (if leb (mark_at l mid) span then looked k l span (suc mid) hi else looked k l span lo mid) ≤ b =
+    let next : length (when leb (mark_at l mid) span then looked k l span (suc mid) hi else looked k l span lo mid) ≤ b =
     if-ind (λ (m : List ℕ). length m ≤ b) (leb (mark_at l mid) span)
     (λ _. looks k b l span (suc mid) hi (omega arith))
     (λ _. looks k b l span lo mid (omega arith)) in

@@ -6,7 +6,7 @@ use mathlib.Core.Path.{◌≡◌, refl, sym, ap, ◌∙◌}
 use mathlib.Core.Bool.{Bool, true, false, not}
 use mathlib.Core.List.{List, ◌++◌}
 use lib.ListN.{length, take, drop}
-use Rattle.rules.specs.Base.{◌and◌, if◌then◌else◌}
+use Rattle.rules.specs.Base.{◌and◌, when◌then◌else◌}
 use Rattle.rules.specs.Stored.{old_bytes, old_fine, old_ids, runs_of, spread, longest, new_bytes, marks_fit, new_fine, new_runs, right_numbers, packed, unpacked, pack_refusal, read_refusal, given_out, pack_outcome, unpack_outcome}
 use Rattle.laws.proofs.Basics.{both, All}
 use Rattle.forms.proofs.Runs.{spread_runs, longest_runs, sized_runs, runs_spread}
@@ -15,8 +15,8 @@ use Rattle.forms.proofs.Room.{gives, given_done, accepted}
 
 -- ---------------------------------------------------------------- the refusals of a file alone
 
-choice : (b : Bool) → ◌≡◌ {A = ℕ} (if b then 0 else 22) 0 → b ≡ true
-unfolding if◌then◌else◌
+choice : (b : Bool) → ◌≡◌ {A = ℕ} (when b then 0 else 22) 0 → b ≡ true
+unfolding when◌then◌else◌
 choice true e = refl
 choice false e = absurd (omega arith)
 
@@ -30,8 +30,8 @@ pub record Read (g : List ℕ) : Type 0 where
   pub long : longest (new_runs g) ≡ true
   pub right : right_numbers g ≡ true
 
-choices : (b c d : Bool) → ◌≡◌ {A = ℕ} (if not b then 22 else if not c then 23 else if not d then 25 else 0) 0 → (b ≡ true) × (c ≡ true) × (d ≡ true)
-unfolding if◌then◌else◌
+choices : (b c d : Bool) → ◌≡◌ {A = ℕ} (when not b then 22 else when not c then 23 else when not d then 25 else 0) 0 → (b ≡ true) × (c ≡ true) × (d ≡ true)
+unfolding when◌then◌else◌
 choices true true true e = (refl, refl, refl)
 choices true true false e = absurd (omega arith)
 choices true false d e = absurd (omega arith)
@@ -58,7 +58,7 @@ pack_back f a e =
     ap (λ rs. old_bytes (spread rs)) (packed_runs f a p.1) ∙ ap old_bytes (spread_runs (old_ids f)) ∙ old_again f a p.0
 
 pub pack_accepted : (f : List ℕ) → All Byte f → pack_refusal f ≡ 0 → read_refusal (packed f) ≡ 0
-unfolding read_refusal new_fine right_numbers if◌then◌else◌
+unfolding read_refusal new_fine right_numbers when◌then◌else◌
 pack_accepted f a e =
     let m = (pack_fine f e).1 in
     let r = packed_reads f a m in
@@ -82,7 +82,7 @@ module _ (g : List ℕ) (a : All Byte g) (e : Read g) where
   unpack_back = ap new_bytes unpacked_runs ∙ sym (from_below 0 0 (new_runs g) (omega arith)) ∙ again.same e.right
 
   pub unpack_accepted : pack_refusal (unpacked g) ≡ 0
-  unfolding pack_refusal new_runs if◌then◌else◌ ◌and◌
+  unfolding pack_refusal new_runs when◌then◌else◌ ◌and◌
   unpack_accepted =
       let f : old_fine (unpacked g) ≡ true = unpacked_fine g in
       let m : marks_fit 0 0 (runs_of (old_ids (unpacked g))) ≡ true = ap (marks_fit 0 0) unpacked_runs ∙ sym (fit_below 0 0 (new_runs g) (omega arith)) ∙ again.fits in
@@ -124,13 +124,13 @@ one_form g h out₀ out₁ a b p q e =
     let k = accepted (read_refusal h) (unpacked h) out₁ q in
     sym (unpack_back g a (read_fine g d.fine)) ∙ ap packed (sym d.bytes ∙ e ∙ k.bytes) ∙ unpack_back h b (read_fine h k.fine)
 
-not_full : (b : Bool) → ◌≡◌ {A = ℕ} (if b then 0 else 22) 24 → ⊥
-unfolding if◌then◌else◌
+not_full : (b : Bool) → ◌≡◌ {A = ℕ} (when b then 0 else 22) 24 → ⊥
+unfolding when◌then◌else◌
 not_full true e = omega arith
 not_full false e = omega arith
 
-not_full_2 : (b c d : Bool) → ◌≡◌ {A = ℕ} (if not b then 22 else if not c then 23 else if not d then 25 else 0) 24 → ⊥
-unfolding if◌then◌else◌
+not_full_2 : (b c d : Bool) → ◌≡◌ {A = ℕ} (when not b then 22 else when not c then 23 else when not d then 25 else 0) 24 → ⊥
+unfolding when◌then◌else◌
 not_full_2 true true true e = omega arith
 not_full_2 true true false e = omega arith
 not_full_2 true false d e = omega arith

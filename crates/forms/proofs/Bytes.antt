@@ -9,7 +9,7 @@ use mathlib.Core.List.{List, [], ◌∷◌, ◌++◌}
 use lib.ListN.{length}
 use lib.Dec.{eqb, ltb, leb}
 use borrow.Author.Tests.{eqb-true, eq-eqb, ne_eqb, ltb-true, lt-ltb, leb-true, le-leb}
-use Rattle.rules.specs.Base.{◌and◌, if◌then◌else◌}
+use Rattle.rules.specs.Base.{◌and◌, when◌then◌else◌}
 use Rattle.rules.specs.Stored.{Run, two, four, four_of, span_record, old_bytes, old_fine, old_ids, run_record, mark_record, new_from, marks_fit, new_fine_from, new_fine, new_runs_from, right_from}
 use Rattle.laws.proofs.Basics.{both, and_both, if-ind, All}
 use Rattle.forms.proofs.Runs.{run, AllSized, sized-none, sized_cons, sized-first, sized_rest}
@@ -73,17 +73,17 @@ pub record Reads (t s : ℕ) (rs : List Run) (file : List ℕ) : Type 0 where
 
 -- the rest of a form after a run: where 64 runs are full a kind 7 record comes first
 unfoldable pub from : ℕ → ℕ → List Run → List ℕ
-from t s rs = if eqb t 64 then mark_record s ++ new_from 0 s rs else new_from t s rs
+from t s rs = when eqb t 64 then mark_record s ++ new_from 0 s rs else new_from t s rs
 
 unfoldable pub fit_from : ℕ → ℕ → List Run → Bool
-fit_from t s rs = if eqb t 64 then leb s 4294967295 and marks_fit 0 s rs else marks_fit t s rs
+fit_from t s rs = when eqb t 64 then leb s 4294967295 and marks_fit 0 s rs else marks_fit t s rs
 
 pub from_below : (t s : ℕ) (rs : List Run) → t < 64 → from t s rs ≡ new_from t s rs
-unfolding from if◌then◌else◌
+unfolding from when◌then◌else◌
 from_below t s rs h = rw (ne_eqb t 64 (λ e. omega arith))
 
 pub fit_below : (t s : ℕ) (rs : List Run) → t < 64 → fit_from t s rs ≡ marks_fit t s rs
-unfolding fit_from if◌then◌else◌
+unfolding fit_from when◌then◌else◌
 fit_below t s rs h = rw (ne_eqb t 64 (λ e. omega arith))
 
 -- ---------------------------------------------------------------- written, then read
@@ -93,7 +93,7 @@ unfolding new_fine_from new_runs_from right_from ◌and◌
 read_end t s h = record { fine = lt-ltb t 64 h; runs = refl; right = refl }
 
 read_run : (t s x k : ℕ) (rs : List Run) (file : List ℕ) → t < 64 → 0 < k → Reads (suc t) (s + k) rs file → Reads t s (run x k ∷ rs) (run_record x k ++ file)
-unfolding new_fine_from new_runs_from right_from run_record two ◌and◌ if◌then◌else◌
+unfolding new_fine_from new_runs_from right_from run_record two ◌and◌ when◌then◌else◌
 read_run t s x k rs file h g r = record {
   fine = rw (ne_eqb t 64 (λ e. omega arith), two_read k, lt-ltb 0 k g) r.fine;
   runs = rw (ne_eqb t 64 (λ e. omega arith), two_read k, two_read x) (ap (λ l. run x k ∷ l) r.runs);
@@ -104,7 +104,7 @@ four_read : (v : ℕ) → v ≤ 4294967295 → v % 256 + 256 * (v / 256 % 256) +
 four_read v h = let e : v / 16777216 % 256 ≡ v / 16777216 = omega arith in omega arith
 
 read_mark : (s : ℕ) (rs : List Run) (file : List ℕ) → s ≤ 4294967295 → Reads 0 s rs file → Reads 64 s rs (mark_record s ++ file)
-unfolding new_fine_from new_runs_from right_from mark_record four four_of ◌and◌ if◌then◌else◌
+unfolding new_fine_from new_runs_from right_from mark_record four four_of ◌and◌ when◌then◌else◌
 read_mark s rs file h r = record {
   fine = rw (le-leb s 4294967295 h) r.fine;
   runs = r.runs;
@@ -112,7 +112,7 @@ read_mark s rs file h r = record {
 }
 
 read_full : (s : ℕ) (rs : List Run) → (marks_fit 0 s rs ≡ true → Reads 0 s rs (new_from 0 s rs)) → fit_from 64 s rs ≡ true → Reads 64 s rs (from 64 s rs)
-unfolding fit_from from if◌then◌else◌
+unfolding fit_from from when◌then◌else◌
 read_full s rs ih f =
     let p = both (leb s 4294967295) (marks_fit 0 s rs) f in
     read_mark s rs (new_from 0 s rs) (leb-true s 4294967295 p.0) (ih p.1)
@@ -172,7 +172,7 @@ again-end t s k e =
 
 again_mark : (s k a b c d : ℕ) (rest : List ℕ) → a < 256 → b < 256 → c < 256 → d < 256 → new_fine_from 64 s (k ∷ a ∷ b ∷ c ∷ d ∷ rest) ≡ true
     → (new_fine_from 0 s rest ≡ true → Again 0 s rest) → Again 64 s (k ∷ a ∷ b ∷ c ∷ d ∷ rest)
-unfolding new_fine_from new_runs_from right_from from fit_from mark_record if◌then◌else◌
+unfolding new_fine_from new_runs_from right_from from fit_from mark_record when◌then◌else◌
 again_mark s k a b c d rest ha hb hc hd e ih =
     let p = both (eqb k 7 and leb s 4294967295) (new_fine_from 0 s rest) e in
     let q = both (eqb k 7) (leb s 4294967295) p.0 in
@@ -192,7 +192,7 @@ bytes_run a b c d ha hc = rw (low_two a b ha, high_two a b ha, low_two c d hc, h
 
 again-run : (t s k a b c d : ℕ) (rest : List ℕ) → (t ≡ 64 → ⊥) → t ≤ 64 → a < 256 → b < 256 → c < 256 → d < 256 → new_fine_from t s (k ∷ a ∷ b ∷ c ∷ d ∷ rest) ≡ true
     → (new_fine_from (suc t) (s + (c + 256 * d)) rest ≡ true → Again (suc t) (s + (c + 256 * d)) rest) → Again t s (k ∷ a ∷ b ∷ c ∷ d ∷ rest)
-unfolding new_fine_from new_runs_from right_from new_from marks_fit from fit_from if◌then◌else◌
+unfolding new_fine_from new_runs_from right_from new_from marks_fit from fit_from when◌then◌else◌
 again-run t s k a b c d rest n le ha hb hc hd e ih =
     let z = ne_eqb t 64 n in
     let e' : (eqb k 6 and ltb 0 (c + 256 * d)) and new_fine_from (suc t) (s + (c + 256 * d)) rest ≡ true = rw z at e in

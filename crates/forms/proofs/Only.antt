@@ -8,7 +8,7 @@ use mathlib.Core.List.{List, [], ◌∷◌}
 use lib.ListN.{length, get_or, drop, length-drop}
 use lib.Seq.{get_or-drop}
 use lib.Dec.{eqb, ltb, leb}
-use Rattle.rules.specs.Base.{if◌then◌else◌}
+use Rattle.rules.specs.Base.{when◌then◌else◌}
 use Rattle.rules.specs.Stored.{marks_in, mark_at, halving, chosen, spans_before, within, id_at}
 use Rattle.laws.proofs.Basics.{All}
 
@@ -17,8 +17,8 @@ unfoldable pub looked : ℕ → List ℕ → ℕ → ℕ → ℕ → List ℕ
 looked zero l span lo hi = []
 looked (suc k) l span lo hi =
     let mid = (lo + hi) / 2 in
-    let next = if leb (mark_at l mid) span then looked k l span (suc mid) hi else looked k l span lo mid in
-    if ltb lo hi then mid ∷ next else []
+    let next = when leb (mark_at l mid) span then looked k l span (suc mid) hi else looked k l span lo mid in
+    when ltb lo hi then mid ∷ next else []
 
 unfoldable pub looked_at : List ℕ → ℕ → List ℕ
 looked_at l span = looked (marks_in l) l span 0 (marks_in l)
@@ -52,32 +52,32 @@ halving_cases : (l m : List ℕ) (span k lo hi : ℕ) → spans_before l lo ≡ 
     → (mid : ℕ) → mark_at l mid ≡ mark_at m mid → (z : Bool)
     → (spans_before l (suc mid) ≡ spans_before m (suc mid) → z ≡ true → Way l m (halving k l span (suc mid) hi) (halving k m span (suc mid) hi))
     → (z ≡ false → Way l m (halving k l span lo mid) (halving k m span lo mid))
-    → Way l m (if z then halving k l span (suc mid) hi else halving k l span lo mid) (if z then halving k m span (suc mid) hi else halving k m span lo mid)
-unfolding if◌then◌else◌
+    → Way l m (when z then halving k l span (suc mid) hi else halving k l span lo mid) (when z then halving k m span (suc mid) hi else halving k m span lo mid)
+unfolding when◌then◌else◌
 halving_cases l m span k lo hi b mid e true f g = f (way_suc l m mid e) refl
 halving_cases l m span k lo hi b mid e false f g = g refl
 
-choice : (A B : List ℕ) (P : ℕ → Type 0) (z : Bool) → All P (if z then A else B) → (z ≡ true → All P A) × (z ≡ false → All P B)
-unfolding if◌then◌else◌
+choice : (A B : List ℕ) (P : ℕ → Type 0) (z : Bool) → All P (when z then A else B) → (z ≡ true → All P A) × (z ≡ false → All P B)
+unfolding when◌then◌else◌
 choice A B P true a = (λ e. a, λ e. absurd (true≢false e))
 choice A B P false a = (λ e. absurd (false≢true e), λ e. a)
 
 outer : (l m : List ℕ) (span k lo hi : ℕ) (A : List ℕ) (x y : ℕ) (z : Bool) → spans_before l lo ≡ spans_before m lo
-    → All (SameMark l m) (if z then ((lo + hi) / 2) ∷ A else []) → (All (SameMark l m) (((lo + hi) / 2) ∷ A) → Way l m x y) → Way l m (if z then x else lo) (if z then y else lo)
-unfolding if◌then◌else◌
+    → All (SameMark l m) (when z then ((lo + hi) / 2) ∷ A else []) → (All (SameMark l m) (((lo + hi) / 2) ∷ A) → Way l m x y) → Way l m (when z then x else lo) (when z then y else lo)
+unfolding when◌then◌else◌
 outer l m span k lo hi A x y true b a f = f a
 outer l m span k lo hi A x y false b a f = record { same = refl; before = b }
 
 rest_look : (l m : List ℕ) (span k lo hi : ℕ) → ((lo' hi' : ℕ) → spans_before l lo' ≡ spans_before m lo' → All (SameMark l m) (looked k l span lo' hi') → Way l m (halving k l span lo' hi') (halving k m span lo' hi'))
     → spans_before l lo ≡ spans_before m lo
-    → All (SameMark l m) (((lo + hi) / 2) ∷ (if leb (mark_at l ((lo + hi) / 2)) span then looked k l span (suc ((lo + hi) / 2)) hi else looked k l span lo ((lo + hi) / 2)))
-    → Way l m (if leb (mark_at l ((lo + hi) / 2)) span then halving k l span (suc ((lo + hi) / 2)) hi else halving k l span lo ((lo + hi) / 2))
-    (if leb (mark_at m ((lo + hi) / 2)) span then halving k m span (suc ((lo + hi) / 2)) hi else halving k m span lo ((lo + hi) / 2))
+    → All (SameMark l m) (((lo + hi) / 2) ∷ (when leb (mark_at l ((lo + hi) / 2)) span then looked k l span (suc ((lo + hi) / 2)) hi else looked k l span lo ((lo + hi) / 2)))
+    → Way l m (when leb (mark_at l ((lo + hi) / 2)) span then halving k l span (suc ((lo + hi) / 2)) hi else halving k l span lo ((lo + hi) / 2))
+    (when leb (mark_at m ((lo + hi) / 2)) span then halving k m span (suc ((lo + hi) / 2)) hi else halving k m span lo ((lo + hi) / 2))
 rest_look l m span k lo hi ih b a =
     let e = mark_same l m ((lo + hi) / 2) a.0 in
     let c = choice (looked k l span (suc ((lo + hi) / 2)) hi) (looked k l span lo ((lo + hi) / 2)) (SameMark l m) (leb (mark_at l ((lo + hi) / 2)) span) a.1 in
-    subst (λ v. Way l m (if leb (mark_at l ((lo + hi) / 2)) span then halving k l span (suc ((lo + hi) / 2)) hi else halving k l span lo ((lo + hi) / 2))
-    (if leb v span then halving k m span (suc ((lo + hi) / 2)) hi else halving k m span lo ((lo + hi) / 2))) e
+    subst (λ v. Way l m (when leb (mark_at l ((lo + hi) / 2)) span then halving k l span (suc ((lo + hi) / 2)) hi else halving k l span lo ((lo + hi) / 2))
+    (when leb v span then halving k m span (suc ((lo + hi) / 2)) hi else halving k m span lo ((lo + hi) / 2))) e
     (halving_cases l m span k lo hi b ((lo + hi) / 2) e (leb (mark_at l ((lo + hi) / 2)) span)
     (λ s z. ih (suc ((lo + hi) / 2)) hi s (c.0 z)) (λ z. ih lo ((lo + hi) / 2) b (c.1 z)))
 
@@ -85,7 +85,7 @@ same_way : (k : ℕ) (l m : List ℕ) (span lo hi : ℕ) → spans_before l lo �
 unfolding halving looked
 same_way zero l m span lo hi b a = record { same = refl; before = b }
 same_way (suc k) l m span lo hi b a =
-    outer l m span k lo hi (if leb (mark_at l ((lo + hi) / 2)) span then looked k l span (suc ((lo + hi) / 2)) hi else looked k l span lo ((lo + hi) / 2)) _ _ (ltb lo hi) b a
+    outer l m span k lo hi (when leb (mark_at l ((lo + hi) / 2)) span then looked k l span (suc ((lo + hi) / 2)) hi else looked k l span lo ((lo + hi) / 2)) _ _ (ltb lo hi) b a
     (rest_look l m span k lo hi (λ lo' hi'. same_way k l m span lo' hi') b)
 
 -- ---------------------------------------------------------------- the stretch
@@ -149,7 +149,7 @@ none-same l m = refl
 
 marks_same : (l m : List ℕ) → length l ≡ length m → marks_in l ≡ marks_in m
 unfolding marks_in
-marks_same l m e = ap (λ n. if ltb 4294967295 (n / 325) then 4294967295 else n / 325) e
+marks_same l m e = ap (λ n. when ltb 4294967295 (n / 325) then 4294967295 else n / 325) e
 
 ways : (l m : List ℕ) (span : ℕ) → length l ≡ length m → All (SameMark l m) (looked_at l span) → Way l m (chosen l span) (chosen m span)
 unfolding chosen looked_at
@@ -165,7 +165,7 @@ only_these l m span e a f =
     within_local 64 (chosen l span) (spans_before l (chosen l span)) span (drop (325 * chosen l span) l) (drop (325 * chosen l span) m)
     (length-drop (325 * chosen l span) l ∙ ap (λ n. n - 325 * chosen l span) e ∙ sym (length-drop (325 * chosen l span) m))
     (λ i h. get_or-drop (325 * chosen l span) l i 0 ∙ f (325 * chosen l span + i) (omega arith) (omega arith) ∙ sym (get_or-drop (325 * chosen l span) m i 0)) in
-    ap (λ n. if eqb (n % 5) 1 then within (chosen l span) 64 (drop (325 * chosen l span) l) (spans_before l (chosen l span)) span else record { refused = 22; id = 0; stretch = 0 }) e
-    ∙ ap (λ o. if eqb (length m % 5) 1 then o else record { refused = 22; id = 0; stretch = 0 })
+    ap (λ n. when eqb (n % 5) 1 then within (chosen l span) 64 (drop (325 * chosen l span) l) (spans_before l (chosen l span)) span else record { refused = 22; id = 0; stretch = 0 }) e
+    ∙ ap (λ o. when eqb (length m % 5) 1 then o else record { refused = 22; id = 0; stretch = 0 })
     (g ∙ ap (λ z. within (chosen l span) 64 (drop (325 * chosen l span) m) z span) w.before
     ∙ ap (λ z. within z 64 (drop (325 * z) m) (spans_before m z) span) w.same)

@@ -8,7 +8,7 @@ use mathlib.Core.List.{List, ◌++◌}
 use lib.ListN.{length, take, drop, length-append, length-drop}
 use lib.Seq.{take-append_seam, drop-append_seam}
 use borrow.Author.Tests.{ne_eqb, lt-ltb, le-ltb}
-use Rattle.rules.specs.Base.{if◌then◌else◌}
+use Rattle.rules.specs.Base.{when◌then◌else◌}
 use Rattle.rules.specs.Stored.{StoredOutcome, given_out}
 
 -- an outcome
@@ -16,15 +16,15 @@ abbrev pub gives : ℕ → ℕ → List ℕ → StoredOutcome
 gives r n out = record { refused = r; long = n; out = out }
 
 pub given_refused : (r : ℕ) (t out₀ : List ℕ) → (r ≡ 0 → ⊥) → given_out r t out₀ ≡ gives r 0 out₀
-unfolding given_out if◌then◌else◌
+unfolding given_out when◌then◌else◌
 given_refused r t out₀ n = rw (ne_eqb r 0 n)
 
 pub given_full : (t out₀ : List ℕ) → length out₀ < length t → given_out 0 t out₀ ≡ gives 24 0 out₀
-unfolding given_out if◌then◌else◌
+unfolding given_out when◌then◌else◌
 given_full t out₀ h = rw (lt-ltb (length out₀) (length t) h)
 
 pub given_done : (t out₀ : List ℕ) → length t ≤ length out₀ → given_out 0 t out₀ ≡ gives 0 (length t) (t ++ drop (length t) out₀)
-unfolding given_out if◌then◌else◌
+unfolding given_out when◌then◌else◌
 given_done t out₀ h = rw (le-ltb (length out₀) (length t) h)
 
 -- the three cases

@@ -9,7 +9,7 @@ use mathlib.Core.List.{List, [], ◌∷◌, ◌++◌}
 use lib.ListN.{replicate}
 use lib.Dec.{eqb, ltb}
 use borrow.Author.Tests.{eqb-true, eq-eqb, ne_eqb, ltb-true, ltb-false, lt-ltb, le-ltb, not-true}
-use Rattle.rules.specs.Base.{◌and◌, ◌or◌, if◌then◌else◌}
+use Rattle.rules.specs.Base.{◌and◌, ◌or◌, when◌then◌else◌}
 use Rattle.rules.specs.Stored.{Run, joins, runs_from, runs_of, spread, longest_after, longest}
 use Rattle.laws.proofs.Basics.{both, either, and_both, or_left, or_right, and_no, if-ind, All}
 
@@ -120,7 +120,7 @@ sized_runs (x ∷ xs) a = sized_from x 1 xs (omega arith) (omega arith) a.0 a.1
 
 -- spans of its id lengthen a run, within the limit
 grows : (x k j : ℕ) (ys : List ℕ) → k + j ≤ 65535 → runs_from x k (replicate j x ++ ys) ≡ runs_from x (k + j) ys
-unfolding runs_from if◌then◌else◌
+unfolding runs_from when◌then◌else◌
 grows x k zero ys h = let e : k + 0 ≡ k = omega arith in rw e
 grows x k (suc j) ys h =
     let e : suc k + j ≡ k + suc j = omega arith in
@@ -155,14 +155,14 @@ spread-first x k ys s =
 
 again-step : (x k y l : ℕ) (rs : List Run) → Sized (run y l) → (not (eqb x y) or eqb k 65535) ≡ true
     → runs_from y l (spread rs) ≡ run y l ∷ rs → runs_from x k (replicate l y ++ spread rs) ≡ run x k ∷ run y l ∷ rs
-unfolding runs_from if◌then◌else◌
+unfolding runs_from when◌then◌else◌
 again-step x k y l rs s p q =
     let e : 1 + (l - 1) ≡ l = omega (arith, s.some) in
     ap (runs_from x k) (first_of y l s.some (spread rs))
     ∙ rw (apart x k y p) (ap (λ z. run x k ∷ z) (grows y 1 (l - 1) (spread rs) (omega (arith, s.some, s.most)) ∙ ap (λ z. runs_from y z (spread rs)) e ∙ q))
 
 pub runs_again : (x k : ℕ) (rs : List Run) → AllSized rs → longest_after x k rs ≡ true → runs_from x k (spread rs) ≡ run x k ∷ rs
-unfolding runs_from longest_after spread if◌then◌else◌
+unfolding runs_from longest_after spread when◌then◌else◌
 runs_again x k [] a e = refl
 runs_again x k (r ∷ rs) a e =
     again-step x k r.id r.long rs (sized-first r rs a) (both (not (eqb x r.id) or eqb k 65535) (longest_after r.id r.long rs) e).0

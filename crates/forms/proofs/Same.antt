@@ -10,7 +10,7 @@ use lib.ListN.{length, get_or, drop, length-drop}
 use lib.Seq.{drop-drop, get_or-drop}
 use lib.Dec.{eqb, ltb, leb}
 use borrow.Author.Tests.{eqb-true, eq-eqb, ne_eqb, ltb-true, ltb-false, le-ltb, leb-true, leb-false}
-use Rattle.rules.specs.Base.{◌and◌, if◌then◌else◌}
+use Rattle.rules.specs.Base.{◌and◌, when◌then◌else◌}
 use Rattle.rules.specs.Stored.{Run, IdOutcome, four_of, new_fine_from, new_fine, new_runs_from, new_runs, right_from, right_numbers, read_refusal, seek, marks_in, mark_at, halving, chosen, spans_before, within, id_at, id_whole}
 use Rattle.laws.proofs.Basics.{both, if-ind}
 use Rattle.forms.proofs.Bytes.{new_length}
@@ -19,7 +19,7 @@ use Rattle.forms.proofs.Told.{found}
 
 -- the full reader from a record on: where 64 runs of a stretch are before it, the next run is one of the next stretch
 unfoldable pub seek_from : ℕ → ℕ → ℕ → List Run → ℕ → IdOutcome
-seek_from p t s rs span = if eqb t 64 then seek (suc p) 0 s rs span else seek p t s rs span
+seek_from p t s rs span = when eqb t 64 then seek (suc p) 0 s rs span else seek p t s rs span
 
 -- a stretch that is full, c of its runs being left: the number after it, and what comes next
 pub record Walked (c t s : ℕ) (l : List ℕ) (s' : ℕ) : Type 0 where
@@ -38,7 +38,7 @@ pub record Full (c t s : ℕ) (l : List ℕ) : Type 0 where
 -- the number itself
 walk_mark : (s k a b x d : ℕ) (rest : List ℕ) → new_fine_from 64 s (k ∷ a ∷ b ∷ x ∷ d ∷ rest) ≡ true → right_from 64 s (k ∷ a ∷ b ∷ x ∷ d ∷ rest) ≡ true
     → Walked 0 64 s (k ∷ a ∷ b ∷ x ∷ d ∷ rest) s
-unfolding new_fine_from right_from new_runs_from seek_from if◌then◌else◌
+unfolding new_fine_from right_from new_runs_from seek_from when◌then◌else◌
 walk_mark s k a b x d rest e f =
     let p = both (eqb k 7 and leb s 4294967295) (new_fine_from 0 s rest) e in
     let q = both (eqb (four_of a b x d) s) (right_from 0 s rest) f in
@@ -55,7 +55,7 @@ walk_mark s k a b x d rest e f =
 -- one run, and the rest of the stretch
 module _ (c t s k a b x d : ℕ) (rest : List ℕ) (n : t < 64) (e : new_fine_from t s (k ∷ a ∷ b ∷ x ∷ d ∷ rest) ≡ true) where
   split_run : (eqb k 6 and ltb 0 (x + 256 * d)) and new_fine_from (suc t) (s + (x + 256 * d)) rest ≡ true
-  unfolding new_fine_from if◌then◌else◌
+  unfolding new_fine_from when◌then◌else◌
   split_run = rw (ne_eqb t 64 (λ z. omega arith)) at e
 
   run_fine : (eqb k 6 and ltb 0 (x + 256 * d)) ≡ true
@@ -68,24 +68,24 @@ module _ (c t s k a b x d : ℕ) (rest : List ℕ) (n : t < 64) (e : new_fine_fr
   some = ltb-true 0 (x + 256 * d) (both (eqb k 6) (ltb 0 (x + 256 * d)) run_fine).1
 
   rest_right : right_from t s (k ∷ a ∷ b ∷ x ∷ d ∷ rest) ≡ true → right_from (suc t) (s + (x + 256 * d)) rest ≡ true
-  unfolding right_from if◌then◌else◌
+  unfolding right_from when◌then◌else◌
   rest_right f = rw (ne_eqb t 64 (λ z. omega arith)) at f
 
   seek-run : (p span : ℕ) → seek_from p t s (new_runs_from t (k ∷ a ∷ b ∷ x ∷ d ∷ rest)) span
-      ≡ (if ltb span (s + (x + 256 * d)) then found 0 (a + 256 * b) p else seek_from p (suc t) (s + (x + 256 * d)) (new_runs_from (suc t) rest) span)
-  unfolding new_runs_from seek_from seek if◌then◌else◌
+      ≡ (when ltb span (s + (x + 256 * d)) then found 0 (a + 256 * b) p else seek_from p (suc t) (s + (x + 256 * d)) (new_runs_from (suc t) rest) span)
+  unfolding new_runs_from seek_from seek when◌then◌else◌
   seek-run p span = rw (ne_eqb t 64 (λ z. omega arith))
 
   within-run : (p span : ℕ) → within p (suc c) (k ∷ a ∷ b ∷ x ∷ d ∷ rest) s span
-      ≡ (if ltb span (s + (x + 256 * d)) then found 0 (a + 256 * b) p else within p c rest (s + (x + 256 * d)) span)
-  unfolding within if◌then◌else◌
+      ≡ (when ltb span (s + (x + 256 * d)) then found 0 (a + 256 * b) p else within p c rest (s + (x + 256 * d)) span)
+  unfolding within when◌then◌else◌
   within-run p span = rw run_fine
 
   agree_cases : (p span : ℕ) → (s + (x + 256 * d) ≤ span → within p c rest (s + (x + 256 * d)) span ≡ seek_from p (suc t) (s + (x + 256 * d)) (new_runs_from (suc t) rest) span)
       → (z : Bool) → ltb span (s + (x + 256 * d)) ≡ z
-      → (if z then found 0 (a + 256 * b) p else within p c rest (s + (x + 256 * d)) span)
-      ≡ (if z then found 0 (a + 256 * b) p else seek_from p (suc t) (s + (x + 256 * d)) (new_runs_from (suc t) rest) span)
-  unfolding if◌then◌else◌
+      → (when z then found 0 (a + 256 * b) p else within p c rest (s + (x + 256 * d)) span)
+      ≡ (when z then found 0 (a + 256 * b) p else seek_from p (suc t) (s + (x + 256 * d)) (new_runs_from (suc t) rest) span)
+  unfolding when◌then◌else◌
   agree_cases p span g true y = refl
   agree_cases p span g false y = g (ltb-false span (s + (x + 256 * d)) y)
 
@@ -96,9 +96,9 @@ module _ (c t s k a b x d : ℕ) (rest : List ℕ) (n : t < 64) (e : new_fine_fr
 
   pass : (p span : ℕ) → s + (x + 256 * d) ≤ span
       → seek_from p t s (new_runs_from t (k ∷ a ∷ b ∷ x ∷ d ∷ rest)) span ≡ seek_from p (suc t) (s + (x + 256 * d)) (new_runs_from (suc t) rest) span
-  unfolding if◌then◌else◌
+  unfolding when◌then◌else◌
   pass p span h =
-      seek-run p span ∙ ap (λ z. if z then found 0 (a + 256 * b) p else seek_from p (suc t) (s + (x + 256 * d)) (new_runs_from (suc t) rest) span) (le-ltb span (s + (x + 256 * d)) h)
+      seek-run p span ∙ ap (λ z. when z then found 0 (a + 256 * b) p else seek_from p (suc t) (s + (x + 256 * d)) (new_runs_from (suc t) rest) span) (le-ltb span (s + (x + 256 * d)) h)
 
   walk-run : (s' : ℕ) → Walked c (suc t) (s + (x + 256 * d)) rest s' → Walked (suc c) t s (k ∷ a ∷ b ∷ x ∷ d ∷ rest) s'
   walk-run s' w =
@@ -135,7 +135,7 @@ walk (suc c) (k ∷ a ∷ b ∷ x ∷ d ∷ rest) t s e f g h =
 
 -- the last stretch, which is not full
 last_end : (c t s k p span : ℕ) → t < 64 → new_fine_from t s (k ∷ []) ≡ true → within p (suc c) (k ∷ []) s span ≡ seek_from p t s (new_runs_from t (k ∷ [])) span
-unfolding new_fine_from within new_runs_from seek_from seek if◌then◌else◌
+unfolding new_fine_from within new_runs_from seek_from seek when◌then◌else◌
 last_end c t s k p span n e =
     let q = both (eqb k 4) (ltb t 64) e in
     rw (q.0, ne_eqb t 64 (λ z. omega arith))
@@ -162,7 +162,7 @@ short_3 t s k a b x e = false≢true e
 
 -- after a number there is something
 no_rest : (t s k a b x d : ℕ) (rest : List ℕ) → t ≡ 64 → new_fine_from t s (k ∷ a ∷ b ∷ x ∷ d ∷ rest) ≡ true → length rest < 1 → ⊥
-unfolding new_fine_from if◌then◌else◌
+unfolding new_fine_from when◌then◌else◌
 no_rest t s k a b x d [] z e h = no_end 0 s (both (eqb k 7 and leb s 4294967295) (new_fine_from 0 s []) (rw (eq-eqb t 64 z) at e)).1
 no_rest t s k a b x d (y ∷ rest) z e h = omega arith
 
@@ -198,7 +198,7 @@ mark_of l p =
     )
 
 seek-plain : (p s : ℕ) (rs : List Run) (span : ℕ) → seek_from p 0 s rs span ≡ seek p 0 s rs span
-unfolding seek_from if◌then◌else◌
+unfolding seek_from when◌then◌else◌
 seek-plain p s rs span = refl
 
 module _ (l : List ℕ) (a : new_fine l ≡ true) (b : right_numbers l ≡ true) (o : length l % 5 ≡ 1) where
@@ -292,7 +292,7 @@ unfolding spans_before
 none_before l span = omega arith
 
 all_marks : (l : List ℕ) → length l / 325 ≤ 4294967295 → marks_in l ≡ length l / 325
-unfolding marks_in if◌then◌else◌
+unfolding marks_in when◌then◌else◌
 all_marks l h = rw (le-ltb 4294967295 (length l / 325) h)
 
 -- of every file
@@ -303,7 +303,7 @@ chosen-leaves l span = halving-leaves (marks_in l) l span (marks_in l) 0 (marks_
 -- ---------------------------------------------------------------- the theorem
 
 pub same_answer : (l : List ℕ) (span : ℕ) → read_refusal l ≡ 0 → id_at l span ≡ id_whole l span
-unfolding id_at id_whole if◌then◌else◌
+unfolding id_at id_whole when◌then◌else◌
 same_answer l span e =
     let r = read_fine l e in
     let o = new_length l r.fine in

@@ -8,7 +8,7 @@ use mathlib.Core.List.{List, [], ◌∷◌, ◌++◌}
 use lib.ListN.{length, get_or, replicate, take}
 use lib.Dec.{eqb, ltb}
 use borrow.Author.Tests.{eqb-true, eqb-false, eq-eqb, ltb-true, ltb-false}
-use Rattle.rules.specs.Base.{if◌then◌else◌}
+use Rattle.rules.specs.Base.{when◌then◌else◌}
 use Rattle.rules.specs.Stored.{Run, IdOutcome, old_ids, spread, new_runs, unpacked, read_refusal, unpack_outcome, seek, id_whole}
 use Rattle.laws.proofs.Basics.{if-ind}
 use Rattle.forms.proofs.Bytes.{old_read}
@@ -80,7 +80,7 @@ seek-told (r ∷ rs) p t s span h =
 
 -- the full reader's answer is that of the ids which the runs of the file stand for
 pub whole_told : (file : List ℕ) (span : ℕ) → read_refusal file ≡ 0 → Told (spread (new_runs file)) span (id_whole file span)
-unfolding id_whole if◌then◌else◌
+unfolding id_whole when◌then◌else◌
 whole_told file span e =
     let z : span - 0 ≡ span = omega arith in
     rw (eq-eqb (read_refusal file) 0 e) (subst (λ i. Told (spread (new_runs file)) i (seek 0 0 0 (new_runs file) span)) z (seek-told (new_runs file) 0 0 0 span (omega arith)))
@@ -124,7 +124,7 @@ seek_stretch (r ∷ rs) p t s span b h =
     (λ e.
     let g = ltb-false span (s + r.long) e in
     let z : span - (s + r.long) ≡ span - s - r.long = omega arith in
-    next_stretch r rs (span - s) (64 * p + t) (if eqb (suc t) 64 then seek (suc p) 0 (s + r.long) rs span else seek p (suc t) (s + r.long) rs span) (omega arith)
+    next_stretch r rs (span - s) (64 * p + t) (when eqb (suc t) 64 then seek (suc p) 0 (s + r.long) rs span else seek p (suc t) (s + r.long) rs span) (omega arith)
     (if-ind (Stretch rs (span - s - r.long) (suc (64 * p + t))) (eqb (suc t) 64)
     (λ u.
     let v : 64 * suc p + 0 ≡ suc (64 * p + t) = omega (arith, eqb-true (suc t) 64 u) in
@@ -138,7 +138,7 @@ seek_stretch (r ∷ rs) p t s span b h =
 
 -- "After every 64 runs": the stretch of the run that holds the span
 pub whole_stretch : (file : List ℕ) (span : ℕ) → read_refusal file ≡ 0 → (j : ℕ) × Held (new_runs file) span j × ((id_whole file span).stretch ≡ j / 64)
-unfolding id_whole if◌then◌else◌
+unfolding id_whole when◌then◌else◌
 whole_stretch file span e =
     let z : span - 0 ≡ span = omega arith in
     let w = seek_stretch (new_runs file) 0 0 0 span (omega arith) (omega arith) in

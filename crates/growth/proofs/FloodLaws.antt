@@ -11,7 +11,7 @@ use mathlib.Core.List.{List, [], ◌∷◌}
 use lib.ListN.{length, get_or, drop}
 use lib.Dec.{eqb}
 use borrow.Author.Tests.{eqb-true, eq-eqb, ne_eqb}
-use Rattle.rules.specs.Base.{◌and◌, ◌or◌, if◌then◌else◌}
+use Rattle.rules.specs.Base.{◌and◌, ◌or◌, when◌then◌else◌}
 use Rattle.rules.specs.Field.{none}
 use Rattle.rules.specs.Net.{Net, spans, area_of}
 use Rattle.rules.specs.Growth.{Marks, id_of, Flow, flood, floods, floods_run_out, Ids}
@@ -36,9 +36,9 @@ next_begins n next e ids v h z = record {
 
 -- a flood from a span of id 0 with the next id: the ids stay below the next id after it, if that is not flagged
 pub flood_below : (N : Net) (dist : List ℕ) (level next e : ℕ) (m : Marks) → IdsBelowNext (spans N) next m.ids → e < spans N → area_of N e < 256 → id_of m e ≡ 0
-    → (if eqb (flood N dist level next m e).count 0 then next else suc next) < 0x8000
-    → IdsBelowNext (spans N) (if eqb (flood N dist level next m e).count 0 then next else suc next) (flood N dist level next m e).marks.ids
-unfolding if◌then◌else◌
+    → (when eqb (flood N dist level next m e).count 0 then next else suc next) < 0x8000
+    → IdsBelowNext (spans N) (when eqb (flood N dist level next m e).count 0 then next else suc next) (flood N dist level next m e).marks.ids
+unfolding when◌then◌else◌
 flood_below N dist level next e m v h a z =
     let f = flood N dist level next m e in
     let l = flood-leaves N dist level next m e v.some v.plain h (λ k. omega arith) v.size z (λ t k. omega (arith, v.below t (omega (arith, v.plain)))) in
@@ -52,8 +52,8 @@ flood_below N dist level next e m v h a z =
     go : (c : Bool) (ids' : List ℕ) → length ids' ≡ spans N
         → ((t : ℕ) → get_or ids' t 0 < 0x8000 → ((get_or m.ids t 0 < next) × (get_or m.ids t 0 ≡ get_or ids' t 0)) ⊎ (get_or ids' t 0 ≡ next))
         → (c ≡ true → (t : ℕ) → get_or ids' t 0 ≡ get_or m.ids t 0)
-        → (if c then next else suc next) < 0x8000
-        → IdsBelowNext (spans N) (if c then next else suc next) ids'
+        → (when c then next else suc next) < 0x8000
+        → IdsBelowNext (spans N) (when c then next else suc next) ids'
     go true ids' s k w p = record { size = s; some = v.some; plain = p; below = λ x q. rw (w refl x) (v.below x (rw (w refl x) at q)) }
     go false ids' s k w p = record {
       size = s;
@@ -65,41 +65,41 @@ flood_below N dist level next e m v h a z =
 -- ---------------------------------------------------------------- one entry, as the code has it
 
 abbrev either_ids : Bool → Marks → Marks → ℕ → ℕ → Ids
-either_ids t p q i j = if t then record { marks = p; next = i } else record { marks = q; next = j }
+either_ids t p q i j = when t then record { marks = p; next = i } else record { marks = q; next = j }
 
 on_either : (N : Net) (dist : List ℕ) (level : ℕ) (es : List ℕ) (t : Bool) (p q : Marks) (i j : ℕ)
-    → (if t then floods N dist level es p i else floods N dist level es q j)
+    → (when t then floods N dist level es p i else floods N dist level es q j)
     ≡ floods N dist level es (either_ids t p q i j).marks (either_ids t p q i j).next
-unfolding if◌then◌else◌
+unfolding when◌then◌else◌
 on_either N dist level es true p q i j = refl
 on_either N dist level es false p q i j = refl
 
 run_either : (N : Net) (dist : List ℕ) (level : ℕ) (es : List ℕ) (t c : Bool) (p q : Marks) (id : ℕ) → id < 0x8000
-    → (if t then (not c and eqb (suc id) 0x8000) or floods_run_out N dist level es p (if c then id else suc id) else floods_run_out N dist level es q id)
-    ≡ eqb (either_ids t p q (if c then id else suc id) id).next 0x8000
-    or floods_run_out N dist level es (either_ids t p q (if c then id else suc id) id).marks (either_ids t p q (if c then id else suc id) id).next
-unfolding if◌then◌else◌ ◌and◌ ◌or◌
+    → (when t then (not c and eqb (suc id) 0x8000) or floods_run_out N dist level es p (when c then id else suc id) else floods_run_out N dist level es q id)
+    ≡ eqb (either_ids t p q (when c then id else suc id) id).next 0x8000
+    or floods_run_out N dist level es (either_ids t p q (when c then id else suc id) id).marks (either_ids t p q (when c then id else suc id) id).next
+unfolding when◌then◌else◌ ◌and◌ ◌or◌
 run_either N dist level es true true p q id h = rw (ne_eqb id 0x8000 (omega arith))
 run_either N dist level es true false p q id h = refl
 run_either N dist level es false c p q id h = rw (ne_eqb id 0x8000 (omega arith))
 
 module _ (N : Net) (dist : List ℕ) (level e id : ℕ) (m : Marks) where
   pub one_used : e ≡ none → record { marks = m; next = id } ≡ flood_one N dist level e m id
-  unfolding flood_one ◌and◌ if◌then◌else◌
+  unfolding flood_one ◌and◌ when◌then◌else◌
   one_used h = rw (eq-eqb e none h)
 
   pub one-has_id : (e ≡ none → ⊥) → (id_of m e ≡ 0 → ⊥) → record { marks = m; next = id } ≡ flood_one N dist level e m id
-  unfolding flood_one ◌and◌ if◌then◌else◌
+  unfolding flood_one ◌and◌ when◌then◌else◌
   one-has_id h k = rw (ne_eqb e none h, ne_eqb (id_of m e) 0 k)
 
   pub one_failed : (e ≡ none → ⊥) → id_of m e ≡ 0 → (flood N dist level id m e).count ≡ 0
       → record { marks = (flood N dist level id m e).marks; next = id } ≡ flood_one N dist level e m id
-  unfolding flood_one ◌and◌ if◌then◌else◌
+  unfolding flood_one ◌and◌ when◌then◌else◌
   one_failed h k c = rw (ne_eqb e none h, eq-eqb (id_of m e) 0 k, eq-eqb _ _ c)
 
   pub one_won : (e ≡ none → ⊥) → id_of m e ≡ 0 → ((flood N dist level id m e).count ≡ 0 → ⊥)
       → record { marks = (flood N dist level id m e).marks; next = id + 1 } ≡ flood_one N dist level e m id
-  unfolding flood_one ◌and◌ if◌then◌else◌
+  unfolding flood_one ◌and◌ when◌then◌else◌
   one_won h k c = rw (ne_eqb e none h, eq-eqb (id_of m e) 0 k, ne_eqb _ _ c, add-one id)
 
   pub floods-step : (es : List ℕ) → floods N dist level (e ∷ es) m id ≡ floods N dist level es (flood_one N dist level e m id).marks (flood_one N dist level e m id).next
@@ -108,23 +108,23 @@ module _ (N : Net) (dist : List ℕ) (level e id : ℕ) (m : Marks) where
 
 -- what a flood from an entry does to the watched span
 tells_either : (N : Net) (dist : List ℕ) (level : ℕ) (es : List ℕ) (t : Bool) (p q : Marks) (i j : ℕ) (y z : Story)
-    → (if t then floods_tell N dist level es p i y else floods_tell N dist level es q j z)
-    ≡ floods_tell N dist level es (either_ids t p q i j).marks (either_ids t p q i j).next (if t then y else z)
-unfolding if◌then◌else◌
+    → (when t then floods_tell N dist level es p i y else floods_tell N dist level es q j z)
+    ≡ floods_tell N dist level es (either_ids t p q i j).marks (either_ids t p q i j).next (when t then y else z)
+unfolding when◌then◌else◌
 tells_either N dist level es true p q i j y z = refl
 tells_either N dist level es false p q i j y z = refl
 
 module _ (N : Net) (dist : List ℕ) (level e id : ℕ) (m : Marks) (y : Story) where
   pub tells_used : e ≡ none → y ≡ one_tells N dist level e m id y
-  unfolding one_tells ◌and◌ if◌then◌else◌
+  unfolding one_tells ◌and◌ when◌then◌else◌
   tells_used h = rw (eq-eqb e none h)
 
   pub tells_has_id : (e ≡ none → ⊥) → (id_of m e ≡ 0 → ⊥) → y ≡ one_tells N dist level e m id y
-  unfolding one_tells ◌and◌ if◌then◌else◌
+  unfolding one_tells ◌and◌ when◌then◌else◌
   tells_has_id h k = rw (ne_eqb e none h, ne_eqb (id_of m e) 0 k)
 
   pub tells_flood : (e ≡ none → ⊥) → id_of m e ≡ 0 → (y' : Story) → y' ≡ flood_tells N dist level id m e y → y' ≡ one_tells N dist level e m id y
-  unfolding one_tells ◌and◌ if◌then◌else◌
+  unfolding one_tells ◌and◌ when◌then◌else◌
   tells_flood h k y' q = rw (ne_eqb e none h, eq-eqb (id_of m e) 0 k) q
 
   tells_step : (es : List ℕ)
@@ -156,7 +156,7 @@ module _ (ar dist : List ℕ) (b e level next : ℕ) (ids ws ids' ws' : List ℕ
   won_one h c = rw flooded_marks (one_won (net_at b ar ws) dist level e next (marks_at (length ar) ids ws) h z (λ k. c (flooded_count ∙ k)))
 
   module _ (v : IdsBelowNext (length ar) next ids) (h : e < length ar) (a : get_or ar e 0 < 256) where
-    below_after : (if eqb r 0 then next else suc next) < 0x8000 → IdsBelowNext (length ar) (if eqb r 0 then next else suc next) ids'
+    below_after : (when eqb r 0 then next else suc next) < 0x8000 → IdsBelowNext (length ar) (when eqb r 0 then next else suc next) ids'
     below_after p =
         let n = spans-at b ar ws in
         let s = flood_below (net_at b ar ws) dist level next e (marks_at (length ar) ids ws) (rw n v) (rw n h) (rw (area_at b ar ws e h) a) z (rw (← flooded_count) p) in
@@ -164,11 +164,11 @@ module _ (ar dist : List ℕ) (b e level next : ℕ) (ids ws ids' ws' : List ℕ
         rw (n, ← flooded_count, m) at s
 
     pub failed_below : r ≡ 0 → IdsBelowNext (length ar) next ids'
-    unfolding if◌then◌else◌
+    unfolding when◌then◌else◌
     failed_below c = let s = rw (eq-eqb r 0 c) at below_after in s v.plain
 
     pub won_below : (r ≡ 0 → ⊥) → next + 1 < 0x8000 → IdsBelowNext (length ar) (next + 1) ids'
-    unfolding if◌then◌else◌
+    unfolding when◌then◌else◌
     won_below c p = let s = rw (ne_eqb r 0 c) at below_after in rw (add-one next) (s (omega arith))
 
 pub flag_not : (r : ℕ) → r ≤ 0x8000 → (r ≡ 0x8000 → ⊥) → r < 0x8000

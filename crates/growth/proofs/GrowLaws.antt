@@ -5,7 +5,7 @@ use mathlib.Core.Path.{◌≡◌, refl, sym, ap, ◌∙◌}
 use mathlib.Core.Bool.{Bool, true, false}
 use mathlib.Core.List.{List, []}
 use lib.ListN.{length, get_or, drop, replicate}
-use Rattle.rules.specs.Base.{if◌then◌else◌}
+use Rattle.rules.specs.Base.{when◌then◌else◌}
 use Rattle.rules.specs.Net.{Net}
 use Rattle.rules.specs.Growth.{Marks, expand, expand_strays, or_else, blank, turns_stop}
 use Rattle.rules.specs.Reasons.{Story, begins, expand_tells, turns_tell}
@@ -74,19 +74,19 @@ module _ (ar con dist : List ℕ) (at : Sections) (most next : ℕ) (ids ws : Li
     past₃ : (x : ℕ) → 9 * length ar ≤ x → get_or ws₃ x 0 ≡ get_or ws x 0
     past₃ x h = past_same (length ar) x ws₂ ws₃ (omega arith) d ∙ past₂ x h
 
-    last_stop : (if o then 13 else 0) ≡ stops_of (net_at at.table ar ws) ar dist (turns_for most) (record { marks = marks_at (length ar) ids ws; stacks = []; next = next })
+    last_stop : (when o then 13 else 0) ≡ stops_of (net_at at.table ar ws) ar dist (turns_for most) (record { marks = marks_at (length ar) ids ws; stacks = []; next = next })
     unfolding stops_of or_else
     last_stop =
         let none : turns_stop (net_at at.table ar ws) dist (2 * turns_for most) (turns_for most) (record { marks = marks_at (length ar) ids ws; stacks = []; next = next }) ≡ 0
         = sym (rw c at e.stops) ∙ g in
-        rw none (ap (λ (y : Bool). if y then 13 else 0) (q ∙ strays_is _ _ _ _ net₂ marks₂))
+        rw none (ap (λ (y : Bool). when y then 13 else 0) (q ∙ strays_is _ _ _ _ net₂ marks₂))
       where
         strays_is : (N N' : Net) (x y : Marks) → N ≡ N' → x ≡ y → expand_strays N 0 x (blank ar x.ids) ≡ expand_strays N' 0 y (blank ar y.ids)
         strays_is N N' x y p q = rw (p, q)
 
     -- the last expansion is stopped
     pub grew_strayed : (last : ℕ) → o ≡ true → Grew ar dist at.table most next ids ws last 13 ids₃ ws₃
-    unfolding if◌then◌else◌
+    unfolding when◌then◌else◌
     grew_strayed last y = record {
       past = past₃;
       stops = rw y at last_stop;
@@ -96,7 +96,7 @@ module _ (ar con dist : List ℕ) (at : Sections) (most next : ℕ) (ids ws : Li
     }
 
     pub grew : o ≡ false → Grew ar dist at.table most next ids ws id stop ids₃ ws₃
-    unfolding if◌then◌else◌
+    unfolding when◌then◌else◌
     grew y = record {
       past = past₃;
       stops = g ∙ rw y at last_stop;

@@ -9,7 +9,7 @@ use mathlib.Core.List.{List, []}
 use lib.ListN.{length, get_or, set}
 use lib.Dec.{eqb}
 use borrow.Author.Tests.{eq-eqb, ne_eqb}
-use Rattle.rules.specs.Base.{if◌then◌else◌}
+use Rattle.rules.specs.Base.{when◌then◌else◌}
 use Rattle.rules.specs.Net.{Net}
 use Rattle.rules.specs.Growth.{Marks, sorted, remains, Turn, loaded, Spread, expand, expand_strays, Ids, floods, floods_run_out}
 use Rattle.rules.specs.Reasons.{Story, expand_tells, floods_tell}
@@ -86,7 +86,7 @@ module _ (ar con dist : List ℕ) (at : Sections) (next : ℕ) (fs : List ℕ) (
   pub turn_strayed : (ids₂ ws₂ : List ℕ) → Expanded ar con at next fs' j' level ids ws₁ ids₂ ws₂
       → (y : Bool) → y ≡ expand_strays (net_at at.table ar ws₁) level (marks_at (length ar) ids ws₁) (get_or (stacks_at (length ar) ws₁ fs') j' []) → y ≡ true
       → Turned ar con dist at next fs j level ids ws next 13 fs' j' ids₂ ws₂
-  unfolding stops_at if◌then◌else◌
+  unfolding stops_at when◌then◌else◌
   turn_strayed ids₂ ws₂ x y e z = record {
     size = x.size ∙ size₁;
     past = λ z h. x.past z h ∙ l.past z h;
@@ -111,12 +111,12 @@ module _ (ar con dist : List ℕ) (at : Sections) (next : ℕ) (fs : List ℕ) (
           ≡ floods_run_out N dist level (expand N level t.marks (entries t)).stack (expand N level t.marks (entries t)).marks t.next
       rule_out = rw (net₂, ← ap (λ (z : Spread). z.stack) rule_expand, ← ap (λ (z : Spread). z.marks) rule_expand, o.id)
 
-      stops_is : (r : ℕ) → r ≡ (if eqb next' 0x8000 then 12 else 0) → r ≡ stops_at N dist level j' t
-      unfolding stops_at if◌then◌else◌
+      stops_is : (r : ℕ) → r ≡ (when eqb next' 0x8000 then 12 else 0) → r ≡ stops_at N dist level j' t
+      unfolding stops_at when◌then◌else◌
       stops_is r q = q ∙ rw (sym (strays_is t o y ye) ∙ yf, f.out ∙ rule_out)
 
     pub turn_out : next' ≡ 0x8000 → Turned ar con dist at next fs j level ids ws next 12 fs' j' ids₃ ws₃
-    unfolding if◌then◌else◌
+    unfolding when◌then◌else◌
     turn_out z = record {
       size = f.size ∙ x.size ∙ size₁;
       past = past₃;
@@ -140,7 +140,7 @@ module _ (ar con dist : List ℕ) (at : Sections) (next : ℕ) (fs : List ℕ) (
           turn_eq (ap (λ (z : Ids). z.marks) r) k (ap (λ (z : Ids). z.next) r)
 
       pub turned : Turned ar con dist at next fs j level ids ws next' 0 fs' j' ids₃ ws₃
-      unfolding if◌then◌else◌
+      unfolding when◌then◌else◌
       turned = record {
         size = f.size ∙ x.size ∙ size₁;
         past = past₃;

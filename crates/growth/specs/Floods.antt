@@ -1,6 +1,6 @@
 -- Floods from the entries of a stack.
 use Rattle.std.specs.Prelude.{ℕ, suc, ◌+◌, ◌≤◌, ◌<◌, ◌≡◌, false, not, List, length, get_or, drop, eqb}
-use Rattle.rules.specs.Base.{◌and◌, if◌then◌else◌}
+use Rattle.rules.specs.Base.{◌and◌, when◌then◌else◌}
 use Rattle.rules.specs.Field.{none}
 use Rattle.rules.specs.Net.{Net}
 use Rattle.rules.specs.Growth.{Marks, id_of, flood, floods, floods_run_out, Ids}
@@ -13,13 +13,13 @@ use Rattle.expand.specs.Layout.{Entries}
 unfoldable pub flood_one : Net → List ℕ → ℕ → ℕ → Marks → ℕ → Ids
 flood_one N dist level e m id =
     let f = flood N dist level id m e in
-    if not (eqb e none) and eqb (id_of m e) 0
-    then record { marks = f.marks; next = if eqb f.count 0 then id else suc id }
+    when not (eqb e none) and eqb (id_of m e) 0
+    then record { marks = f.marks; next = when eqb f.count 0 then id else suc id }
     else record { marks = m; next = id }
 
 -- what it does to the watched span
 unfoldable pub one_tells : Net → List ℕ → ℕ → ℕ → Marks → ℕ → Story → Story
-one_tells N dist level e m id y = if not (eqb e none) and eqb (id_of m e) 0 then flood_tells N dist level id m e y else y
+one_tells N dist level e m id y = when not (eqb e none) and eqb (id_of m e) 0 then flood_tells N dist level id m e y else y
 
 -- the ids that floods have given are below the next, which is not flagged; the others are flagged
 pub record IdsBelowNext (n next : ℕ) (ids : List ℕ) : Type 0 where

@@ -1,7 +1,7 @@
 -- Growth from the painting on.
 use Rattle.std.specs.Prelude.{ℕ, ◌+◌, ◌*◌, ◌/◌, ◌≤◌, ◌<◌, ◌≡◌, List, [], length, get_or, replicate}
 use Rattle.rules.specs.Field.{Field, spans}
-use Rattle.rules.specs.Base.{if◌then◌else◌, upto}
+use Rattle.rules.specs.Base.{when◌then◌else◌, upto}
 use Rattle.rules.specs.Net.{Net, net_of}
 use Rattle.rules.specs.Growth.{expand, expand_strays, or_else, blank, Turn, turn, turns_stop, grown, stops}
 use Rattle.rules.specs.Reasons.{Story, begins, expand_tells, turns_tell}
@@ -19,7 +19,7 @@ turns_for most = (most + 1) / 2
 unfoldable pub stops_of : Net → List ℕ → List ℕ → ℕ → Turn → ℕ
 stops_of N areas dist count start =
     let t = upto count (turn N dist (2 * count)) start in
-    or_else (turns_stop N dist (2 * count) count start) (if expand_strays N 0 t.marks (blank areas t.marks.ids) then 13 else 0)
+    or_else (turns_stop N dist (2 * count) count start) (when expand_strays N 0 t.marks (blank areas t.marks.ids) then 13 else 0)
 
 -- what the turns and the last expansion do to the watched span
 unfoldable pub tells_of : Net → List ℕ → List ℕ → ℕ → Turn → Story → Story

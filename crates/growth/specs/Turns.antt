@@ -1,6 +1,6 @@
 -- One turn over the level stacks at n .. 9n of the workspace.
 use Rattle.std.specs.Prelude.{ℕ, ◌+◌, ◌*◌, ◌%◌, ◌≤◌, ◌<◌, ◌≡◌, false, List, [], length, get_or, set, take, eqb}
-use Rattle.rules.specs.Base.{if◌then◌else◌, upto}
+use Rattle.rules.specs.Base.{when◌then◌else◌, upto}
 use Rattle.rules.specs.Net.{Net}
 use Rattle.rules.specs.Growth.{sorted, remains, Turn, loaded, expand, expand_strays, floods, floods_run_out, turn, turns_stop}
 use Rattle.rules.specs.Reasons.{Story, expand_tells, floods_tell}
@@ -104,8 +104,8 @@ unfoldable pub stops_at : Net → List ℕ → ℕ → ℕ → Turn → ℕ
 stops_at N dist level j t =
     let entries = get_or (loaded N dist level j t) j [] in
     let e = expand N level t.marks entries in
-    if expand_strays N level t.marks entries then 13 else
-    if floods_run_out N dist level e.stack e.marks t.next then 12 else 0
+    when expand_strays N level t.marks entries then 13 else
+    when floods_run_out N dist level e.stack e.marks t.next then 12 else 0
 
 -- what a turn at a level, with its number, does to the watched span
 unfoldable pub tells_at : Net → List ℕ → ℕ → ℕ → Turn → Story → Story

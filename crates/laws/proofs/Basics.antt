@@ -12,7 +12,7 @@ use lib.ListN.{drop_of_length-le, length, get_or, set, take, replicate, length-s
 use lib.Seq.{drop-cons, get_or-set_same, get_or-set_other, take-nil}
 use lib.Dec.{eqb}
 use borrow.Author.Tests.{eqb-true, eq-eqb, leb-true, leb-false, ltb-true, ltb-false}
-use Rattle.rules.specs.Base.{◌and◌, ◌or◌, if◌then◌else◌, upto, tab, every, any, keep, many}
+use Rattle.rules.specs.Base.{◌and◌, ◌or◌, when◌then◌else◌, upto, tab, every, any, keep, many}
 
 -- ---------------------------------------------------------------- tests and choices
 
@@ -86,15 +86,15 @@ and_no true = refl
 and_no false = refl
 
 -- by cases on a test, with its equation
-pub if-ind {ℓ κ} : {A : Type ℓ} (P : A → Type κ) (b : Bool) {x y : A} → (b ≡ true → P x) → (b ≡ false → P y) → P (if b then x else y)
-unfolding if◌then◌else◌
+pub if-ind {ℓ κ} : {A : Type ℓ} (P : A → Type κ) (b : Bool) {x y : A} → (b ≡ true → P x) → (b ≡ false → P y) → P (when b then x else y)
+unfolding when◌then◌else◌
 if-ind P true p q = p refl
 if-ind P false p q = q refl
 
 -- two choices by one test
 pub if_ind₂ {ℓ κ μ} : {A : Type ℓ} {B : Type κ} (P : A → B → Type μ) (b : Bool) {x y : A} {u v : B} → (b ≡ true → P x u) → (b ≡ false → P y v)
-    → P (if b then x else y) (if b then u else v)
-unfolding if◌then◌else◌
+    → P (when b then x else y) (when b then u else v)
+unfolding when◌then◌else◌
 if_ind₂ P true p q = p refl
 if_ind₂ P false p q = q refl
 
@@ -267,7 +267,7 @@ tab_all P (suc n) at h = (
 module _ {ℓ} {A : Type ℓ} (p : A → Bool) where
   unfoldable pub tally : List A → ℕ
   tally [] = 0
-  tally (x ∷ l) = if p x then suc (tally l) else tally l
+  tally (x ∷ l) = when p x then suc (tally l) else tally l
 
   pub tally_le : (l : List A) → tally l ≤ length l
   unfolding tally
@@ -276,23 +276,23 @@ module _ {ℓ} {A : Type ℓ} (p : A → Bool) where
 
   -- one fewer where one loses it
   pub tally-set : (l : List A) (i : ℕ) (v d : A) → i < length l → p (get_or l i d) ≡ true → p v ≡ false → suc (tally (set l i v)) ≡ tally l
-  unfolding tally if◌then◌else◌
+  unfolding tally when◌then◌else◌
   tally-set [] i v d h a b = omega arith
   tally-set (x ∷ l) zero v d h a b = rw (a, b)
   tally-set (x ∷ l) (suc i) v d h a b = more (p x) (tally-set l i v d (omega arith) a b)
     where
-      more : (t : Bool) → suc (tally (set l i v)) ≡ tally l → suc (if t then suc (tally (set l i v)) else tally (set l i v)) ≡ (if t then suc (tally l) else tally l)
+      more : (t : Bool) → suc (tally (set l i v)) ≡ tally l → suc (when t then suc (tally (set l i v)) else tally (set l i v)) ≡ (when t then suc (tally l) else tally l)
       more true r = ap suc r
       more false r = r
 
   -- no more where one that has it is stored over
   pub tally-over : (l : List A) (i : ℕ) (v d : A) → i < length l → p (get_or l i d) ≡ true → tally (set l i v) ≤ tally l
-  unfolding tally if◌then◌else◌
+  unfolding tally when◌then◌else◌
   tally-over [] i v d h a = le_refl 0
   tally-over (x ∷ l) zero v d h a = rw a (if-ind (λ n. n ≤ suc (tally l)) (p v) (λ _. omega arith) (λ _. omega arith))
   tally-over (x ∷ l) (suc i) v d h a = more (p x) (tally-over l i v d (omega arith) a)
     where
-      more : (t : Bool) → tally (set l i v) ≤ tally l → (if t then suc (tally (set l i v)) else tally (set l i v)) ≤ (if t then suc (tally l) else tally l)
+      more : (t : Bool) → tally (set l i v) ≤ tally l → (when t then suc (tally (set l i v)) else tally (set l i v)) ≤ (when t then suc (tally l) else tally l)
       more true r = omega arith
       more false r = r
 

@@ -7,7 +7,7 @@ use mathlib.Core.Bool.{Bool, true, false, false≢true}
 use mathlib.Core.List.{List, [], ◌∷◌}
 use lib.ListN.{length, get_or}
 use borrow.Author.Tests.{eqb-true, eqb-false, leb-true, ltb-true, not-true, not-false}
-use Rattle.rules.specs.Base.{if◌then◌else◌, every}
+use Rattle.rules.specs.Base.{when◌then◌else◌, every}
 use Rattle.rules.specs.Field.{Field, spans, none, near, cell_of, cell_to, leaves, con_of}
 use Rattle.rules.specs.Refusals.{good_cells, good_con, too_wide, too_many, wrong_length, wrong_cells, wrong_reach, wrong_back, refusal}
 use Rattle.laws.proofs.Basics.{both, either, if-ind, tests, every-at, in_list}
@@ -15,8 +15,8 @@ use Rattle.laws.proofs.Basics.{both, either, if-ind, tests, every-at, in_list}
 -- ---------------------------------------------------------------- not refused
 
 -- a choice of a number above 0, or the rest, that came to 0
-pub fell : (b : Bool) (k r : ℕ) → 0 < k → (if b then k else r) ≡ 0 → (b ≡ false) × (r ≡ 0)
-unfolding if◌then◌else◌
+pub fell : (b : Bool) (k r : ℕ) → 0 < k → (when b then k else r) ≡ 0 → (b ≡ false) × (r ≡ 0)
+unfolding when◌then◌else◌
 fell true k r h e = absurd (omega arith)
 fell false k r h e = (refl, e)
 

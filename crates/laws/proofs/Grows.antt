@@ -10,7 +10,7 @@ use mathlib.Core.List.{List, [], ◌∷◌}
 use lib.ListN.{length, get_or, length-set}
 use lib.Dec.{eqb}
 use borrow.Author.Tests.{eqb-false, not-true}
-use Rattle.rules.specs.Base.{if◌then◌else◌, upto}
+use Rattle.rules.specs.Base.{when◌then◌else◌, upto}
 use Rattle.rules.specs.Field.{Field, none}
 use Rattle.rules.specs.Net.{Net, net_of, spans, area_of}
 use Rattle.rules.specs.Growth.{Marks, id_of, put, finds, wrote, written, Spread, round, rounds, expand, expand_strays, floods_run_out, or_else, Turn, loaded, turn, turn_stops, turns_stop, sorted, remains, blank, painted, first_id, grown, stops}
@@ -102,14 +102,14 @@ module _ (N : Net) where
       let entries = get_or (loaded N dist level (k % 8) t) (k % 8) [] in
       let e = expand N level t.marks entries in
       (expand_strays N level t.marks entries ≡ false) × (floods_run_out N dist level e.stack e.marks t.next ≡ false)
-  unfolding turn_stops if◌then◌else◌
+  unfolding turn_stops when◌then◌else◌
   turn_goes dist top k t o =
       let level = top - 2 * (k + 1) in
       let entries = get_or (loaded N dist level (k % 8) t) (k % 8) [] in
       let e = expand N level t.marks entries in
       neither_stops (expand_strays N level t.marks entries) (floods_run_out N dist level e.stack e.marks t.next) o
     where
-      neither_stops : (a b : Bool) → ◌≡◌ {A = ℕ} (if a then 13 else if b then 12 else 0) 0 → (a ≡ false) × (b ≡ false)
+      neither_stops : (a b : Bool) → ◌≡◌ {A = ℕ} (when a then 13 else when b then 12 else 0) 0 → (a ≡ false) × (b ≡ false)
       neither_stops true b o = absurd (omega arith)
       neither_stops false true o = absurd (omega arith)
       neither_stops false false o = (refl, refl)
@@ -153,8 +153,8 @@ pub record Unstopped (F : Field) (dist : List ℕ) (most b : ℕ) : Type 0 where
   pub last : let t = upto (2 * ((most + 1) / 2) / 2) (turn (net_of F) dist (2 * ((most + 1) / 2))) (record { marks = painted F b; stacks = []; next = first_id b }) in
       expand_strays (net_of F) 0 t.marks (blank (net_of F).areas t.marks.ids) ≡ false
 
-thirteen : (a : Bool) → ◌≡◌ {A = ℕ} (if a then 13 else 0) 0 → a ≡ false
-unfolding if◌then◌else◌
+thirteen : (a : Bool) → ◌≡◌ {A = ℕ} (when a then 13 else 0) 0 → a ≡ false
+unfolding when◌then◌else◌
 thirteen true e = absurd (omega arith)
 thirteen false e = refl
 

@@ -8,7 +8,7 @@ use mathlib.Core.List.{List, [], ◌∷◌, map}
 use lib.ListN.{length, get_or, set, get_or-map, length-set}
 use lib.Dec.{eqb}
 use borrow.Author.Tests.{eqb-true, eqb-false, ne_eqb, not-true, not-false}
-use Rattle.rules.specs.Base.{if◌then◌else◌, any, upto}
+use Rattle.rules.specs.Base.{when◌then◌else◌, any, upto}
 use Rattle.rules.specs.Field.{Field}
 use Rattle.rules.specs.Records.{Rec, fresh, at, has, records}
 use Rattle.rules.specs.Filter.{filtered}
@@ -78,7 +78,7 @@ renamed-bare o n r e =
     (λ _. if-ind (λ (l : List ℕ). l ≡ []) (has r.list o) (λ h. absurd (has-none r.list o h e)) (λ _. e))
 
 pub renamed-fresh : (o n : ℕ) → renamed o n (fresh 0) ≡ fresh 0
-unfolding renamed fresh if◌then◌else◌
+unfolding renamed fresh when◌then◌else◌
 renamed-fresh o n = refl
 
 pub at_map : (f : Rec → Rec) → f (fresh 0) ≡ fresh 0 → (rs : List Rec) (x : ℕ) → at (map f rs) x ≡ f (at rs x)

@@ -11,7 +11,7 @@ use lib.ListN.{length, get_or, set, length-set}
 use lib.Seq.{get_or-set_same, get_or-set_other}
 use lib.Dec.{eqb}
 use borrow.Author.Tests.{eqb-true, eqb-false, eq-eqb, ne_eqb, lt-leb, not-true}
-use Rattle.rules.specs.Base.{◌and◌, ◌or◌, if◌then◌else◌, many}
+use Rattle.rules.specs.Base.{◌and◌, ◌or◌, when◌then◌else◌, many}
 use Rattle.rules.specs.Field.{none}
 use Rattle.rules.specs.Net.{Net, spans, area_of, near}
 use Rattle.rules.specs.Growth.{Marks, id_of, put, Seed, Flow, pushed, visit, flow, flood, floods, floods_run_out, Ids, objects, other, flagged}
@@ -113,7 +113,7 @@ module _ (N : Net) (dist : List ℕ) (q : Seed) (base m₀ : Marks) (z : eqb q.i
 pub flood-zeros : (N : Net) (dist : List ℕ) (level id : ℕ) (m : Marks) (s : ℕ) → eqb id 0 ≡ false → flagged id ≡ false
     → s < spans N → (area_of N s ≡ 256 → ⊥) → length m.ids ≡ spans N → id_of m s ≡ 0
     → (length (flood N dist level id m s).marks.ids ≡ spans N)
-    × (zeros (flood N dist level id m s).marks.ids + (if eqb (flood N dist level id m s).count 0 then 0 else 1) ≤ zeros m.ids)
+    × (zeros (flood N dist level id m s).marks.ids + (when eqb (flood N dist level id m s).count 0 then 0 else 1) ≤ zeros m.ids)
 unfolding flood put Same Blank
 flood-zeros N dist level id m s z u h a n b =
     let q : Seed = record { area = area_of N s; id = id; limit = level - 2 } in
@@ -139,19 +139,19 @@ flood-zeros N dist level id m s z u h a n b =
           omega (arith, zeros-lower m.ids f.marks.ids w.0 sized (λ t k _. r.1.down t k) (rw (← sized) (nonzero_in f.marks.ids w.0 there)) w.3 there)),
     )
 
-pub if_add : (b : Bool) (i : ℕ) → (if b then i else suc i) ≡ i + (if b then 0 else 1)
-unfolding if◌then◌else◌
+pub if_add : (b : Bool) (i : ℕ) → (when b then i else suc i) ≡ i + (when b then 0 else 1)
+unfolding when◌then◌else◌
 if_add true i = omega arith
 if_add false i = omega arith
 
 -- an id that is not the last, or that a failed flood gives back, leaves one that is not flagged
-pub after_last : (c : Bool) (id : ℕ) → id < 0x8000 → not c and eqb (suc id) 0x8000 ≡ false → (if c then id else suc id) < 0x8000
-unfolding if◌then◌else◌ ◌and◌
+pub after_last : (c : Bool) (id : ℕ) → id < 0x8000 → not c and eqb (suc id) 0x8000 ≡ false → (when c then id else suc id) < 0x8000
+unfolding when◌then◌else◌ ◌and◌
 after_last true id b e = b
 after_last false id b e = let k = eqb-false (suc id) 0x8000 e in omega arith
 
-not_last : (c : Bool) (id : ℕ) → (if c then 0 else 1) + id < 0x8000 → not c and eqb (suc id) 0x8000 ≡ false
-unfolding if◌then◌else◌ ◌and◌
+not_last : (c : Bool) (id : ℕ) → (when c then 0 else 1) + id < 0x8000 → not c and eqb (suc id) 0x8000 ≡ false
+unfolding when◌then◌else◌ ◌and◌
 not_last true id h = refl
 not_last false id h = ne_eqb (suc id) 0x8000 (omega arith)
 
@@ -173,7 +173,7 @@ module _ (N : Net) (dist : List ℕ) (level : ℕ) (bytes : (s : ℕ) → s < sp
       let fl = flood-zeros N dist level id m e (ne_eqb id 0 (omega arith)) (lt-leb 0x8000 id (omega arith)) inside (λ k. omega (arith, bytes e inside)) n (eqb-true _ _ t2.1) in
       let f = flood N dist level id m e in
       let k = if_add (eqb f.count 0) id in
-      let r = floods_next es al.1 f.marks (if eqb f.count 0 then id else suc id) (omega arith) (after_last _ id b o2.0) fl.0 o2.1 in
+      let r = floods_next es al.1 f.marks (when eqb f.count 0 then id else suc id) (omega arith) (after_last _ id b o2.0) fl.0 o2.1 in
       (omega arith, r.1, omega arith, r.3))
       (λ _. floods_next es al.1 m id p b n)
 
@@ -190,5 +190,5 @@ module _ (N : Net) (dist : List ℕ) (level : ℕ) (bytes : (s : ℕ) → s < sp
       let fl = flood-zeros N dist level id m e (ne_eqb id 0 (omega arith)) (lt-leb 0x8000 id (omega arith)) inside (λ k. omega (arith, bytes e inside)) n (eqb-true _ _ t2.1) in
       let f = flood N dist level id m e in
       let k = if_add (eqb f.count 0) id in
-      rw (not_last (eqb f.count 0) id (omega arith)) (ids_suffice es al.1 f.marks (if eqb f.count 0 then id else suc id) (omega arith) (omega arith) fl.0))
+      rw (not_last (eqb f.count 0) id (omega arith)) (ids_suffice es al.1 f.marks (when eqb f.count 0 then id else suc id) (omega arith) (omega arith) fl.0))
       (λ _. ids_suffice es al.1 m id p b n)

@@ -7,7 +7,7 @@ use mathlib.Core.Bool.{Bool, true, false, not, false≢true}
 use mathlib.Core.List.{List, [], ◌∷◌, map}
 use lib.ListN.{length, length-map}
 use lib.Dec.{eqb}
-use Rattle.rules.specs.Base.{if◌then◌else◌, any, many}
+use Rattle.rules.specs.Base.{when◌then◌else◌, any, many}
 use Rattle.rules.specs.Field.{none}
 use Rattle.rules.specs.Net.{Net}
 use Rattle.rules.specs.Growth.{Marks, Spread, finds, round, rounds, expand}
@@ -22,21 +22,21 @@ unused_none = refl
 
 -- one entry more, marked or not (b), unused or not (u)
 more : (b u : Bool) (A B C : ℕ) → (b ≡ true → u ≡ true) → A + B ≡ C
-    → (if (if b then false else u) then suc A else A) + (if b then suc B else B) ≡ (if u then suc C else C)
-unfolding if◌then◌else◌
+    → (when (when b then false else u) then suc A else A) + (when b then suc B else B) ≡ (when u then suc C else C)
+unfolding when◌then◌else◌
 more true true A B C k r = omega arith
 more true false A B C k r = absurd (false≢true (k refl))
 more false true A B C k r = omega arith
 more false false A B C k r = r
 
-spare : (b : Bool) (e : ℕ) → unused (if b then none else e) ≡ (if b then false else unused e)
-unfolding if◌then◌else◌
+spare : (b : Bool) (e : ℕ) → unused (when b then none else e) ≡ (when b then false else unused e)
+unfolding when◌then◌else◌
 spare true e = unused_none
 spare false e = refl
 
 -- an unused entry for each that f marks
 pub marked : (f : ℕ → Bool) → ((e : ℕ) → f e ≡ true → unused e ≡ true) → (es : List ℕ)
-    → many unused (map (λ e. if f e then none else e) es) + many f es ≡ many unused es
+    → many unused (map (λ e. when f e then none else e) es) + many f es ≡ many unused es
 unfolding many
 marked f h [] = refl
 marked f h (e ∷ es) = rw (spare (f e) e) (more (f e) (unused e) _ _ _ (h e) (marked f h es))
@@ -60,5 +60,5 @@ many-map_le p f es = omega (arith, many_le p (map f es), length-map es f)
 -- the rules' expansion at level 0
 pub expand_settles : (N : Net) (m : Marks) (es : List ℕ)
     → any (finds N (expand N 0 m es).marks) (expand N 0 m es).stack ≡ false
-unfolding expand if◌then◌else◌
+unfolding expand when◌then◌else◌
 expand_settles N m es = settles N (suc (length es)) _ (suc-le-suc (many-map_le unused _ es))

@@ -11,7 +11,7 @@ use lib.ListN.{length, get_or, set, length-set}
 use lib.Seq.{get_or-set_same, get_or-set_other}
 use lib.Dec.{eqb}
 use borrow.Author.Tests.{eqb-true, eqb-false, ne_eqb, lt-leb, le-ltb, not-true}
-use Rattle.rules.specs.Base.{◌and◌, ◌or◌, if◌then◌else◌, upto, any}
+use Rattle.rules.specs.Base.{◌and◌, ◌or◌, when◌then◌else◌, upto, any}
 use Rattle.rules.specs.Field.{Field, none}
 use Rattle.rules.specs.Net.{Net, net_of, spans, area_of, near}
 use Rattle.rules.specs.Growth.{Marks, id_of, put, Taken, look, takes, finds, exceeds, strays, wrote, written, Spread, round, rounds, rounds_stray, expand, expand_strays, Seed, Flow, objects, pushed, visit, flow, flood, floods, Ids, or_else, Turn, loaded, turn, turn_stops, turns_stop, blank, painted, first_id, stops}
@@ -132,7 +132,7 @@ module _ (N : Net) (few : spans N ≤ 32000) where
       }
     where
       still : (p : Spread) (s : ℕ) → Bare N p.marks (spans N) s
-          → let r = (if finds N p.marks s then none else s) in (r ≡ none → ⊥) → (r < spans N) × (get_or (written N p.marks p.stack p.marks).ids r 0 ≡ 0)
+          → let r = (when finds N p.marks s then none else s) in (r ≡ none → ⊥) → (r < spans N) × (get_or (written N p.marks p.stack p.marks).ids r 0 ≡ 0)
       still p s h =
           if-ind (λ (r : ℕ). (r ≡ none → ⊥) → (r < spans N) × (get_or (written N p.marks p.stack p.marks).ids r 0 ≡ 0)) (finds N p.marks s)
           (λ y k. absurd (k refl))
@@ -153,7 +153,7 @@ module _ (N : Net) (few : spans N ≤ 32000) where
       calm_on false h = refl
 
       go : (b : Bool) → (b ≡ true → (rounds_stray N k (round N p) ≡ false) × Low (spans N) (rounds N k (round N p)).marks)
-          → (b and rounds_stray N k (round N p) ≡ false) × Low (spans N) (if b then rounds N k (round N p) else p).marks
+          → (b and rounds_stray N k (round N p) ≡ false) × Low (spans N) (when b then rounds N k (round N p) else p).marks
       go b h = (calm_on b h, if-ind (λ (q : Spread). Low (spans N) q.marks) b (λ z. (h z).1) (λ _. o.low))
 
   expand_calm : (level : ℕ) (m : Marks) (es : List ℕ) → length m.ids ≡ spans N → All (Inside N) es → Low (spans N) m
@@ -210,7 +210,7 @@ module _ (N : Net) (dist : List ℕ) (level : ℕ) (bytes : (s : ℕ) → s < sp
       let f = flood N dist level id m e in
       let o = flood-zeros N dist level id m e (ne_eqb id 0 (omega arith)) (lt-leb 0x8000 id (omega arith)) inside (λ k. omega (arith, bytes e inside)) n (eqb-true _ _ t2.1) in
       let k = if_add (eqb f.count 0) id in
-      floods_low es al.1 f.marks (if eqb f.count 0 then id else suc id) (omega arith) (omega arith) o.0
+      floods_low es al.1 f.marks (when eqb f.count 0 then id else suc id) (omega arith) (omega arith) o.0
       (record { bound = λ x. omega (arith, l.bound x, flood-lower N dist level id m e x, o.1) }))
       (λ _. floods_low es al.1 m id p b n l)
 
@@ -222,7 +222,7 @@ module _ (N : Net) (dist : List ℕ) (few : spans N ≤ 32000) (bytes : (s : ℕ
     low : Low (spans N) t.marks
 
   ample_turn : (top k : ℕ) (t : Turn) → Ample t → (turn_stops N dist top k t ≡ 0) × Ample (turn N dist top k t)
-  unfolding turn turn_stops if◌then◌else◌ Down
+  unfolding turn turn_stops when◌then◌else◌ Down
   ample_turn top k t h =
       let level = top - 2 * (k + 1) in
       let j = k % 8 in
@@ -252,7 +252,7 @@ module _ (N : Net) (dist : List ℕ) (few : spans N ≤ 32000) (bytes : (s : ℕ
 -- "at most 32,000 spans are never refused 12 or 13"
 pub never_stops : (F : Field) (dist : List ℕ) (most b : ℕ) → ((s : ℕ) → s < spans (net_of F) → area_of (net_of F) s < 256) → spans (net_of F) ≤ 32000
     → stops F dist most b ≡ 0
-unfolding stops painted or_else if◌then◌else◌
+unfolding stops painted or_else when◌then◌else◌
 never_stops F dist most b bytes few =
     let N = net_of F in
     let top = 2 * ((most + 1) / 2) in

@@ -9,7 +9,7 @@ use mathlib.Core.List.{List, [], ◌∷◌, ◌++◌, append_assoc, append-nil}
 use lib.ListN.{length, get_or, take, drop, length-append}
 use lib.Seq.{take_at, get_or_at, get_or-append-add}
 use borrow.Author.Tests.{eq-eqb, ne_eqb, lt-ltb, le-ltb}
-use Rattle.rules.specs.Base.{◌and◌, if◌then◌else◌}
+use Rattle.rules.specs.Base.{◌and◌, when◌then◌else◌}
 use Rattle.rules.specs.Contour.{trim}
 use Rattle.rules.specs.Merge.{dedup, tidy}
 use Rattle.laws.specs.Squeeze.{squeeze}
@@ -17,25 +17,25 @@ use Rattle.laws.specs.Squeeze.{squeeze}
 -- ---------------------------------------------------------------- a turn
 
 dedup_done : (k i : ℕ) (l : List ℕ) → length l ≤ i → dedup k i l ≡ l
-unfolding dedup if◌then◌else◌ ◌and◌
+unfolding dedup when◌then◌else◌ ◌and◌
 dedup_done zero i l h = refl
 dedup_done (suc k) i l h = rw (le-ltb i (length l) h)
 
 module _ (k i : ℕ) (l : List ℕ) (h : i < length l) (g : 1 < length l) where
   dedup-drop : get_or l i 0 ≡ get_or l ((i + 1) % length l) 0 → dedup (suc k) i l ≡ dedup k i (take i l ++ drop (suc i) l)
-  unfolding dedup if◌then◌else◌ ◌and◌
+  unfolding dedup when◌then◌else◌ ◌and◌
   dedup-drop e = rw (lt-ltb i (length l) h, lt-ltb 1 (length l) g, eq-eqb _ _ e)
 
   dedup-keep : (get_or l i 0 ≡ get_or l ((i + 1) % length l) 0 → ⊥) → dedup (suc k) i l ≡ dedup k (suc i) l
-  unfolding dedup if◌then◌else◌ ◌and◌
+  unfolding dedup when◌then◌else◌ ◌and◌
   dedup-keep e = rw (lt-ltb i (length l) h, lt-ltb 1 (length l) g, ne_eqb _ _ e)
 
 pub trim_same : (l : List ℕ) (m : ℕ) → 1 < length l → length l - 1 ≡ m → get_or l 0 0 ≡ get_or l m 0 → trim l ≡ take m l
-unfolding trim if◌then◌else◌ ◌and◌
+unfolding trim when◌then◌else◌ ◌and◌
 trim_same l m h q e = rw (lt-ltb 1 (length l) h, q, eq-eqb (get_or l 0 0) (get_or l m 0) e)
 
 pub trim-other : (l : List ℕ) (m : ℕ) → 1 < length l → length l - 1 ≡ m → (get_or l 0 0 ≡ get_or l m 0 → ⊥) → trim l ≡ l
-unfolding trim if◌then◌else◌ ◌and◌
+unfolding trim when◌then◌else◌ ◌and◌
 trim-other l m h q e = rw (lt-ltb 1 (length l) h, q, ne_eqb (get_or l 0 0) (get_or l m 0) e)
 
 -- ---------------------------------------------------------------- the last entry
@@ -67,22 +67,22 @@ last-after k z p x =
     ]
 
 last_is : (k : ℕ) (p : List ℕ) (x : ℕ) → dedup (suc k) (length p) (p ++ (x ∷ [])) ≡ trim (p ++ (x ∷ []))
-unfolding dedup trim if◌then◌else◌ ◌and◌
+unfolding dedup trim when◌then◌else◌ ◌and◌
 last_is k [] x = refl
 last_is k (z ∷ p) x = last-after k z p x
 
 -- ---------------------------------------------------------------- the runs
 
 squeeze-same : (x y : ℕ) (l : List ℕ) → x ≡ y → squeeze (x ∷ y ∷ l) ≡ squeeze (y ∷ l)
-unfolding squeeze if◌then◌else◌
+unfolding squeeze when◌then◌else◌
 squeeze-same x y l e = rw (eq-eqb x y e)
 
 squeeze-other : (x y : ℕ) (l : List ℕ) → (x ≡ y → ⊥) → squeeze (x ∷ y ∷ l) ≡ x ∷ squeeze (y ∷ l)
-unfolding squeeze if◌then◌else◌
+unfolding squeeze when◌then◌else◌
 squeeze-other x y l e = rw (ne_eqb x y e)
 
 squeeze-one : (x : ℕ) → squeeze (x ∷ []) ≡ x ∷ []
-unfolding squeeze if◌then◌else◌
+unfolding squeeze when◌then◌else◌
 squeeze-one x = refl
 
 get_or_next : (p : List ℕ) (x y : ℕ) (q : List ℕ) → get_or (p ++ (x ∷ y ∷ q)) (length p + 1) 0 ≡ y
@@ -111,7 +111,7 @@ dedup_is (suc k) p x (y ∷ q) h =
     ]
 
 none_is : (k : ℕ) → dedup k 0 [] ≡ trim (squeeze [])
-unfolding dedup trim squeeze if◌then◌else◌ ◌and◌
+unfolding dedup trim squeeze when◌then◌else◌ ◌and◌
 none_is zero = refl
 none_is (suc k) = refl
 

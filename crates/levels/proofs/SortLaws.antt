@@ -12,7 +12,7 @@ use mathlib.Core.List.{List, [], ◌∷◌, ◌++◌, append-nil}
 use lib.ListN.{length, get_or, set, replicate}
 use lib.Dec.{eqb}
 use borrow.Author.Tests.{eq-eqb, ne_eqb}
-use Rattle.rules.specs.Base.{◌and◌, if◌then◌else◌, tab, keep}
+use Rattle.rules.specs.Base.{◌and◌, when◌then◌else◌, tab, keep}
 use Rattle.rules.specs.Net.{Net}
 use Rattle.rules.specs.Growth.{walkable, blank, sorted, loaded}
 use Rattle.laws.proofs.Basics.{if-ind, and_no, tab-at, length-tab, get_d_any, zeros-at}
@@ -24,8 +24,8 @@ use Rattle.levels.proofs.CarryLaws.{total-appended, one_of_total}
 
 -- ---------------------------------------------------------------- lists made and kept
 
-if-append : (b : Bool) (x : ℕ) (l r : List ℕ) → (if b then x ∷ (l ++ r) else (l ++ r)) ≡ (if b then x ∷ l else l) ++ r
-unfolding if◌then◌else◌
+if-append : (b : Bool) (x : ℕ) (l r : List ℕ) → (when b then x ∷ (l ++ r) else (l ++ r)) ≡ (when b then x ∷ l else l) ++ r
+unfolding when◌then◌else◌
 if-append true x l r = refl
 if-append false x l r = refl
 
@@ -35,11 +35,11 @@ keep_append p [] ys = refl
 keep_append p (x ∷ xs) ys = rw (keep_append p xs ys) (if-append (p x) x (keep p xs) (keep p ys))
 
 pub keep_one : (p : ℕ → Bool) (x : ℕ) → p x ≡ true → keep p (x ∷ []) ≡ x ∷ []
-unfolding keep if◌then◌else◌
+unfolding keep when◌then◌else◌
 keep_one p x e = rw e
 
 pub keep_no : (p : ℕ → Bool) (x : ℕ) → p x ≡ false → keep p (x ∷ []) ≡ []
-unfolding keep if◌then◌else◌
+unfolding keep when◌then◌else◌
 keep_no p x e = rw e
 
 tab-last : (n at : ℕ) (f : ℕ → ℕ) → tab (suc n) at f ≡ tab n at f ++ (f (at + n) ∷ [])
@@ -159,7 +159,7 @@ unfolding sorted_to
 sorted_eight area dist ids level i = length-tab stack_count 0 _
 
 pub sorted_stacked : (area dist ids : List ℕ) (level : ℕ) → Stacked (length area) (sorted area dist ids level) 0
-unfolding loaded if◌then◌else◌
+unfolding loaded when◌then◌else◌
 sorted_stacked area dist ids level =
     let e = sorted_is area dist ids level in
     let N : Net = record { neighbours = []; areas = area } in

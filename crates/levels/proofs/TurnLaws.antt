@@ -8,7 +8,7 @@ use mathlib.Core.Path.{◌≡◌, refl, ◌∙◌}
 use mathlib.Core.List.{List, []}
 use lib.ListN.{length, get_or, length-map}
 use borrow.Author.Tests.{ne_eqb}
-use Rattle.rules.specs.Base.{if◌then◌else◌}
+use Rattle.rules.specs.Base.{when◌then◌else◌}
 use Rattle.rules.specs.Net.{Net, spans}
 use Rattle.rules.specs.Growth.{Marks, Spread, round, rounds, expand, remains, sorted, Turn, loaded, turn}
 use Rattle.laws.proofs.Basics.{if-ind}
@@ -20,12 +20,12 @@ use Rattle.levels.proofs.SortLaws.{sorted_stacked}
 -- ---------------------------------------------------------------- loading
 
 pub loaded-first : (N : Net) (dist : List ℕ) (level : ℕ) (t : Turn) → loaded N dist level 0 t ≡ sorted N.areas dist t.marks.ids level
-unfolding loaded if◌then◌else◌
+unfolding loaded when◌then◌else◌
 loaded-first N dist level t = refl
 
 pub loaded_next : (N : Net) (dist : List ℕ) (level j : ℕ) (t : Turn) → 0 < j
     → loaded N dist level j t ≡ appended j (remains t.marks.ids (get_or t.stacks (j - 1) [])) t.stacks
-unfolding loaded appended if◌then◌else◌
+unfolding loaded appended when◌then◌else◌
 loaded_next N dist level j t h = rw (ne_eqb j 0 (λ e. omega arith))
 
 loaded_stacked : (N : Net) (dist : List ℕ) (level j : ℕ) (t : Turn) → j < 8 → (0 < j → Stacked (spans N) t.stacks (j - 1)) → Stacked (spans N) (loaded N dist level j t) j

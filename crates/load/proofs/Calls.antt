@@ -10,7 +10,7 @@ use mathlib.Core.Logic.{◌⊎◌, inl, inr}
 use lib.ListN.{length, get_or, replicate}
 use lib.Dec.{leb, eqb}
 use borrow.Author.Tests.{eq-eqb, ne_eqb, le-leb, leb-true}
-use Rattle.rules.specs.Base.{◌and◌, if◌then◌else◌}
+use Rattle.rules.specs.Base.{◌and◌, when◌then◌else◌}
 use Rattle.rules.specs.File.{Level}
 use Rattle.rules.specs.Load as rule
 use Rattle.rules.specs.Load.{Placed, refused_at, describes, read_file_at, Loading, load_begin, load_end, load_piece, piece_refusal, going, roomy, feed, with, told, told_by, refused_told}
@@ -116,11 +116,11 @@ begun : ℕ → ℕ → Held → Loading
 begun cells spans x = record { loader = load_begin cells spans; index = x.index; count = x.count; area = x.area; con = x.con }
 
 begin_right : (cells spans : ℕ) (ns : List ℕ) → length ns ≡ 17 → begin_outcome cells spans ns ≡ left (load_begin cells spans)
-unfolding begin_outcome if◌then◌else◌
+unfolding begin_outcome when◌then◌else◌
 begin_right cells spans ns e = rw (eq-eqb (length ns) 17 e)
 
 end-right : (ns : List ℕ) → length ns ≡ 17 → end_outcome ns ≡ left (load_end (loader_in ns))
-unfolding end_outcome if◌then◌else◌
+unfolding end_outcome when◌then◌else◌
 end-right ns e = rw (eq-eqb (length ns) 17 e)
 
 left_numbers : (l : rule.Loader) (r : LoadAnswer) (ns : List ℕ) → Given (left l) r ns → ns ≡ numbers_of l
@@ -155,7 +155,7 @@ began cells spans x y r k e =
 -- the answer and the numbers say what the loader says
 told_by_lem : (l : rule.Loader) (r : LoadAnswer) (ns i c a o : List ℕ) → ns ≡ numbers_of l → r.refusal ≡ l.refusal → r.position ≡ position_of l
     → told_in r (record { numbers = ns; index = i; count = c; area = a; con = o }) ≡ told (record { loader = l; index = i; count = c; area = a; con = o })
-unfolding told_in told numbers_of position_of if◌then◌else◌
+unfolding told_in told numbers_of position_of when◌then◌else◌
 told_by_lem l r ns i c a o e f g =
     elim (ℕ_discrete l.refusal 0) [
       | yes q ↦
@@ -192,12 +192,12 @@ joined_bytes (more {p = p} {ps = ps} r k ks) i = append_bytes p (joined ps) k.by
 -- ---------------------------------------------------------------- from end to end
 
 room_begun : (cells spans : ℕ) (x : Held) → Room cells spans x → piece_refusal (begun cells spans x) ≡ 0
-unfolding begun piece_refusal going roomy load_begin if◌then◌else◌ ◌and◌
+unfolding begun piece_refusal going roomy load_begin when◌then◌else◌ ◌and◌
 room_begun cells spans x m =
     rw (le-leb cells (length x.index) m.indices, le-leb cells (length x.count) m.counts, le-leb spans (length x.area) m.areas, le-leb (4 * spans) (length x.con) m.cons) refl
 
 begun_room : (cells spans : ℕ) (x : Held) → piece_refusal (begun cells spans x) ≡ 0 → Room cells spans x
-unfolding begun piece_refusal going roomy load_begin if◌then◌else◌ ◌and◌
+unfolding begun piece_refusal going roomy load_begin when◌then◌else◌ ◌and◌
 begun_room cells spans x e =
     let b = roomy_is (leb cells (length x.index) and leb cells (length x.count) and leb spans (length x.area) and leb (4 * spans) (length x.con)) e in
     let b₁ = both _ _ b in
@@ -206,7 +206,7 @@ begun_room cells spans x e =
     record { indices = leb-true _ _ b₃.0; counts = leb-true _ _ b₃.1; areas = leb-true _ _ b₂.1; cons = leb-true _ _ b₁.1 }
 
 nothing-loaded : (cells spans : ℕ) (x : Held) → tell [] (begun cells spans x) ≡ refused_told 20 0 x.index x.count x.area x.con
-unfolding begun tell feed load_begin load_end going rule.refusing with told if◌then◌else◌ ◌and◌
+unfolding begun tell feed load_begin load_end going rule.refusing with told when◌then◌else◌ ◌and◌
 nothing-loaded cells spans x = refl
 
 -- the loader's last number is whether the end was declared
@@ -252,7 +252,7 @@ end_declares x y r k e f h =
 
 -- an answer 0 tells no refusal
 loaded-not_refused : (r : LoadAnswer) (x : Held) (n p : ℕ) (i c a o : List ℕ) → r.refusal ≡ 0 → told_in r x ≡ refused_told n p i c a o → ⊥
-unfolding told_in if◌then◌else◌
+unfolding told_in when◌then◌else◌
 loaded-not_refused r x n p i c a o e t =
     let u = (rw (eq-eqb r.refusal 0 e) at t) in
     let z : ◌≡◌ {A = ℕ} 0 1 = cc in
@@ -345,7 +345,7 @@ still_piece r p x y r' (odd n a b) k =
     record { answer = answers_same r' r (t.refusal ∙ sym a) (t.position ∙ sym b); nothing = t.same }
 
 end_odd : (ns : List ℕ) → (length ns ≡ 17 → ⊥) → end_outcome ns ≡ refused3 ns
-unfolding end_outcome if◌then◌else◌
+unfolding end_outcome when◌then◌else◌
 end_odd ns n = rw (ne_eqb (length ns) 17 n)
 
 given_3 : (ns : List ℕ) (r : LoadAnswer) (ms : List ℕ) → Given (refused3 ns) r ms → (r.refusal ≡ 3) × (r.position ≡ 0) × (ms ≡ ns)

@@ -8,7 +8,7 @@ use mathlib.Core.Bool.{Bool, true, false, true≢false}
 use mathlib.Core.List.{List, [], ◌∷◌}
 use lib.Dec.{ltb, eqb}
 use borrow.Author.Tests.{eqb-true, eq-eqb, ne_eqb}
-use Rattle.rules.specs.Base.{◌and◌, if◌then◌else◌}
+use Rattle.rules.specs.Base.{◌and◌, when◌then◌else◌}
 use Rattle.rules.specs.Load.{Loader, Loading, load_begin, going, refusing, onward, counted, wanted, kind_byte, sized, headed, header_byte}
 use Rattle.rules.specs.Load.{cell_on, cell_byte, span_on, span_byte, with, taken, byte_in, feed, closed, load_end, piece_refusal, load_piece}
 use Rattle.laws.proofs.Basics.{if-ind, both}
@@ -113,7 +113,7 @@ unfolding going refusing
 refusing_short l g = (refl, refl, eqb-true l.ended 0 (both (eqb l.refusal 0) (eqb l.ended 0) g).1)
 
 pub end_declared : (l : Loader) → going l ≡ true → Declared l (load_end l)
-unfolding load_end if◌then◌else◌
+unfolding load_end when◌then◌else◌
 end_declared l g =
     record {
       complete = λ k. rw (g, eq-eqb l.kind 4 k) (closed_complete l g);

@@ -7,7 +7,7 @@ use mathlib.Core.List.{List, [], ◌∷◌}
 use lib.ListN.{length, get_or, take, drop}
 use lib.Dec.{leb, ltb, eqb}
 use borrow.Author.Tests.{eqb-true, ltb-false, leb-false, lt-ltb}
-use Rattle.rules.specs.Base.{if◌then◌else◌}
+use Rattle.rules.specs.Base.{when◌then◌else◌}
 use Rattle.rules.specs.Field.{Field}
 use Rattle.rules.specs.Outcomes.{Sizes}
 use Rattle.rules.specs.File.{word, with_cell, with_span, empty_field}
@@ -87,7 +87,7 @@ told_exactly index count area con (describes L) =
     loaded_told F.w F.h L.sizes (length F.area) (over F.index index) (over F.count count) (over F.area area) (over F.con con)
 
 exact : (index count area con : List ℕ) (t : ℕ) (x : Placed) → Within t x → t < 4294967295 → told_by index count area con x ≡ told_exactly index count area con x
-unfolding Within told_by told_exactly capped if◌then◌else◌
+unfolding Within told_by told_exactly capped when◌then◌else◌
 exact index count area con t (refused_at n p F) h g = rw (lt-ltb p 4294967295 (omega arith))
 exact index count area con t (describes L) h g = refl
 

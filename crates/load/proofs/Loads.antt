@@ -12,7 +12,7 @@ use lib.ListN.{length, get_or, set, take, drop, length-append}
 use lib.Seq.{set-append_seam, drop-cons}
 use lib.Dec.{leb, ltb, eqb}
 use borrow.Author.Tests.{lt-ltb, le-ltb, le-leb, lt-leb, eq-eqb, ne_eqb}
-use Rattle.rules.specs.Base.{◌and◌, if◌then◌else◌}
+use Rattle.rules.specs.Base.{◌and◌, when◌then◌else◌}
 use Rattle.rules.specs.Field.{Field}
 use Rattle.rules.specs.Outcomes.{Sizes}
 use Rattle.rules.specs.File.{word, with_cell, with_span, empty_field}
@@ -24,7 +24,7 @@ use Rattle.load.proofs.Pieces.{feed-nothing, end_changes_nothing, loads, in_piec
 -- ---------------------------------------------------------------- places and lists
 
 up-capped : (p : ℕ) → up (capped p) ≡ capped (p + 1)
-unfolding up capped if◌then◌else◌
+unfolding up capped when◌then◌else◌
 up-capped p =
     elim (dec_lt (p + 1) 4294967295) [
       | yes h ↦ rw (lt-ltb p 4294967295 (omega arith), lt-ltb p 4294967295 (omega arith), lt-ltb (p + 1) 4294967295 h) refl
@@ -38,7 +38,7 @@ up-capped p =
     ]
 
 capped_some : (p : ℕ) → 1 ≤ p → capped p ≡ 0 → ⊥
-unfolding capped if◌then◌else◌
+unfolding capped when◌then◌else◌
 capped_some p h =
     elim (dec_lt p 4294967295) [
       | yes g ↦ rw (lt-ltb p 4294967295 g) (λ e. omega arith)
@@ -46,7 +46,7 @@ capped_some p h =
     ]
 
 up_small : (n : ℕ) → n < 4294967295 → up n ≡ n + 1
-unfolding up if◌then◌else◌
+unfolding up when◌then◌else◌
 up_small n h = rw (lt-ltb n 4294967295 h)
 
 -- a store at the end of what stands over a list
@@ -69,7 +69,7 @@ unfolding going refusing ◌and◌
 stopped l n p h = rw (ne_eqb n 0 h)
 
 told_refused : (x : Loading) (n p : ℕ) → (n ≡ 0 → ⊥) → told (with x (refusing n p x.loader)) ≡ refused_told n p x.index x.count x.area x.con
-unfolding told with refusing if◌then◌else◌
+unfolding told with refusing when◌then◌else◌
 told_refused x n p h = rw (ne_eqb n 0 h)
 
 with_loader : (x : Loading) (l : Loader) → going l ≡ false → going (with x l).loader ≡ false
@@ -86,12 +86,12 @@ tell_fed bytes x = refl
 
 -- a byte that is no kind in place
 refuses : (x : Loading) (b : ℕ) → (b ≡ wanted x.loader → ⊥) → going x.loader ≡ true → x.loader.kind ≡ 0 → byte_in x b ≡ with x (refusing 20 x.loader.received x.loader)
-unfolding byte_in taken kind_byte if◌then◌else◌
+unfolding byte_in taken kind_byte when◌then◌else◌
 refuses x b n g k = rw (g, eq-eqb x.loader.kind 0 k, ne_eqb b (wanted x.loader) n)
 
 -- a byte after the end record
 after_refuses : (x : Loading) (b : ℕ) → going x.loader ≡ true → x.loader.kind ≡ 4 → byte_in x b ≡ with x (refusing 20 x.loader.received x.loader)
-unfolding byte_in taken if◌then◌else◌
+unfolding byte_in taken when◌then◌else◌
 after_refuses x b g k = rw (g, k)
 
 -- a refusal is told, whatever comes after
@@ -148,12 +148,12 @@ module _ (M N : ℕ) (index₀ count₀ area₀ con₀ : List ℕ) (w h : ℕ) (
 
   -- cut short
   tell_cut : (kind got start p s due : ℕ) (F : Field) → (kind ≡ 4 → ⊥) → tell [] (stage kind got start p s due F) ≡ tells (refused_at 20 p F)
-  unfolding tell feed stage load_end going refusing with told told_by if◌then◌else◌ ◌and◌
+  unfolding tell feed stage load_end going refusing with told told_by when◌then◌else◌ ◌and◌
   tell_cut kind got start p s due F n = rw (ne_eqb kind 4 n) refl
 
   -- a kind byte
   kind_here : (start p s due kind : ℕ) (F : Field) → wanted (stage 0 0 start p s due F).loader ≡ kind → byte_in (stage 0 0 start p s due F) kind ≡ stage kind 0 (capped p) (p + 1) s due F
-  unfolding byte_in taken going stage with kind_byte onward if◌then◌else◌ ◌and◌
+  unfolding byte_in taken going stage with kind_byte onward when◌then◌else◌ ◌and◌
   kind_here start p s due kind F e = rw (eq-eqb kind (wanted (stage 0 0 start p s due F).loader) (sym e), up-capped p) refl
 
   kind_other : (start p s due b kind : ℕ) (F : Field) → wanted (stage 0 0 start p s due F).loader ≡ kind → (b ≡ kind → ⊥) → (bytes : List ℕ)
@@ -165,22 +165,22 @@ module _ (M N : ℕ) (index₀ count₀ area₀ con₀ : List ℕ) (w h : ℕ) (
 
   -- the kind that is in place
   wants_span : (start p s due : ℕ) (F : Field) → 1 ≤ p → wanted (stage 0 0 start p s (suc due) F).loader ≡ 3
-  unfolding stage wanted if◌then◌else◌
+  unfolding stage wanted when◌then◌else◌
   wants_span start p s due F g = rw (ne_eqb (capped p) 0 (capped_some p g), lt-ltb 0 (suc due) (omega arith))
 
   wants_cell : (start p s : ℕ) (F : Field) → 1 ≤ p → length F.index < w * h → wanted (stage 0 0 start p s 0 F).loader ≡ 2
-  unfolding stage wanted if◌then◌else◌
+  unfolding stage wanted when◌then◌else◌
   wants_cell start p s F g k = rw (ne_eqb (capped p) 0 (capped_some p g), lt-ltb (length F.index) (w * h) k)
 
   wants_end : (start p s : ℕ) (F : Field) → 1 ≤ p → w * h ≤ length F.index → wanted (stage 0 0 start p s 0 F).loader ≡ 4
-  unfolding stage wanted if◌then◌else◌
+  unfolding stage wanted when◌then◌else◌
   wants_end start p s F g k = rw (ne_eqb (capped p) 0 (capped_some p g), le-ltb (length F.index) (w * h) k)
 
   -- ---------------------------------------------------------------- a cell
 
   cell_refuses : (start p s c : ℕ) (F : Field) → N < s + c
       → byte_in (stage 2 0 start p s 0 F) c ≡ with (stage 2 0 start p s 0 F) (refusing 21 start (stage 2 0 start p s 0 F).loader)
-  unfolding byte_in taken going stage cell_byte with if◌then◌else◌ ◌and◌
+  unfolding byte_in taken going stage cell_byte with when◌then◌else◌ ◌and◌
   cell_refuses start p s c F n = rw (lt-ltb N (s + c) n) refl
 
   cell_refused : (start p s c q : ℕ) (F : Field) (bytes : List ℕ) → N < s + c → start ≡ capped q → tell (c ∷ bytes) (stage 2 0 start p s 0 F) ≡ tells (refused_at 21 q F)
@@ -191,7 +191,7 @@ module _ (M N : ℕ) (index₀ count₀ area₀ con₀ : List ℕ) (w h : ℕ) (
 
   cell-taken : (start p s c : ℕ) (F : Field) → s + c ≤ N → length F.index < length index₀ → length F.count ≡ length F.index → length F.count < length count₀
       → length F.index < 4294967295 → byte_in (stage 2 0 start p s 0 F) c ≡ stage 0 0 start (p + 1) s c (with_cell s c F)
-  unfolding byte_in taken going stage cell_byte cell_on counted onward with_cell if◌then◌else◌ ◌and◌
+  unfolding byte_in taken going stage cell_byte cell_on counted onward with_cell when◌then◌else◌ ◌and◌
   cell-taken start p s c F n i e k m =
       let a : length (F.index ++ (s ∷ [])) ≡ length F.index + 1 = length-append F.index (s ∷ []) in
       rw (le-ltb N (s + c) n, set-over F.index index₀ (length F.index) s refl i, set-over F.count count₀ (length F.index) c (sym e) (omega arith), up_small (length F.index) m, up-capped p, a)
@@ -207,23 +207,23 @@ module _ (M N : ℕ) (index₀ count₀ area₀ con₀ : List ℕ) (w h : ℕ) (
   with_con b F = record { w = F.w; h = F.h; index = F.index; count = F.count; area = F.area; con = F.con ++ (b ∷ []) }
 
   area_taken : (start p s due b : ℕ) (F : Field) → s ≡ length F.area → s < length area₀ → byte_in (stage 3 0 start p s due F) b ≡ stage 3 1 start (p + 1) s due (with_area b F)
-  unfolding byte_in taken going stage span_byte span_on onward with_area if◌then◌else◌ ◌and◌
+  unfolding byte_in taken going stage span_byte span_on onward with_area when◌then◌else◌ ◌and◌
   area_taken start p s due b F e i = rw (set-over F.area area₀ s b e i, up-capped p) refl
 
   con_taken : (start p s due b j : ℕ) (F : Field) → (j ≡ 0 → ⊥) → j < 4 → 4 * s + (j - 1) ≡ length F.con → 4 * s + (j - 1) < length con₀
       → byte_in (stage 3 j start p s due F) b ≡ stage 3 (j + 1) start (p + 1) s due (with_con b F)
-  unfolding byte_in taken going stage span_byte span_on onward with_con if◌then◌else◌ ◌and◌
+  unfolding byte_in taken going stage span_byte span_on onward with_con when◌then◌else◌ ◌and◌
   con_taken start p s due b j F n l e i = rw (ne_eqb j 0 n, lt-ltb j 4 l, set-over F.con con₀ (4 * s + (j - 1)) b e i, up-capped p) refl
 
   last_taken : (start p s due b : ℕ) (F : Field) → 4 * s + 3 ≡ length F.con → 4 * s + 3 < length con₀ → s < 4294967295
       → byte_in (stage 3 4 start p s (suc due) F) b ≡ stage 0 0 start (p + 1) (s + 1) due (with_con b F)
-  unfolding byte_in taken going stage span_byte span_on onward counted with_con if◌then◌else◌ ◌and◌
+  unfolding byte_in taken going stage span_byte span_on onward counted with_con when◌then◌else◌ ◌and◌
   last_taken start p s due b F e i m = let d : suc due - 1 ≡ due = omega arith in rw (d, set-over F.con con₀ (4 * s + 3) b e i, up-capped p, up_small s m) refl
 
   -- ---------------------------------------------------------------- the end
 
   end-told : (start p : ℕ) (F : Field) → F.w ≡ w → F.h ≡ h → tell [] (stage 4 0 start p (length F.area) 0 F) ≡ tells (describes (record { field = F; sizes = z }))
-  unfolding tell feed stage load_end going closed with told told_by if◌then◌else◌ ◌and◌
+  unfolding tell feed stage load_end going closed with told told_by when◌then◌else◌ ◌and◌
   end-told start p F e f = rw (e, f) refl
 
   end_more : (start p s b : ℕ) (F : Field) (bytes : List ℕ) → tell (b ∷ bytes) (stage 4 0 start p s 0 F) ≡ tells (refused_at 20 p F)
@@ -374,8 +374,8 @@ module _ (M N : ℕ) (index₀ count₀ area₀ con₀ : List ℕ) (w h : ℕ) (
           → ((rest' : List ℕ) (G : Field) → length rest' ≤ k → Sound G cells due promised
           → tell rest' (stage 0 0 start (p + 6) (length G.area) due G) ≡ tells (read_on_at N k (p + 6) cells due promised rest' G z))
           → tell rest (stage 3 0 start (p + 1) s (suc due) F)
-          ≡ tells (if leb 5 (length rest) then read_on_at N k (p + 6) cells due promised (drop 5 rest) (with_span (take 5 rest) F) z else refused_at 20 (p + suc (length rest)) (with_span rest F))
-      unfolding if◌then◌else◌
+          ≡ tells (when leb 5 (length rest) then read_on_at N k (p + 6) cells due promised (drop 5 rest) (with_span (take 5 rest) F) z else refused_at 20 (p + suc (length rest)) (with_span rest F))
+      unfolding when◌then◌else◌
       body k [] l on = tell_cut 3 0 start (p + 1) s (suc due) F (λ q. omega arith) ∙ rw (span_0 F) refl
       body k (b0 ∷ []) l on =
           tell_step b0 [] _ _ _ (first b0) (tell_cut 3 1 start (p + 2) s (suc due) (with_area b0 F) (λ q. omega arith)) ∙ rw (span_1 b0 0 0 0 0 F) refl
@@ -413,10 +413,10 @@ module _ (M N : ℕ) (index₀ count₀ area₀ con₀ : List ℕ) (w h : ℕ) (
         ≡ tells (read_on_at N k (p + 2) cells c (promised + c) rest' (with_cell promised c F) z))
         → length rest ≤ k
         → tell rest (stage 2 0 (capped p) (p + 1) (length F.area) 0 F)
-        ≡ tells (if leb 1 (length rest) then (if ltb N (promised + get_or rest 0 0) then refused_at 21 p F
+        ≡ tells (when leb 1 (length rest) then (when ltb N (promised + get_or rest 0 0) then refused_at 21 p F
         else read_on_at N k (p + 2) cells (get_or rest 0 0) (promised + get_or rest 0 0) (drop 1 rest) (with_cell promised (get_or rest 0 0) F) z)
         else refused_at 20 (p + suc (length rest)) F)
-    unfolding if◌then◌else◌
+    unfolding when◌then◌else◌
     count k p cells promised F o [] on l = tell_cut 2 0 (capped p) (p + 1) (length F.area) 0 F (λ q. omega arith)
     count k p cells promised F o (c ∷ rest) on l =
         let a : length F.area ≡ promised = (let f = o.areas in omega arith) in
@@ -435,15 +435,15 @@ module _ (M N : ℕ) (index₀ count₀ area₀ con₀ : List ℕ) (w h : ℕ) (
 
     -- the end record is read
     last : (p : ℕ) (F : Field) → F.w ≡ w → F.h ≡ h → (rest : List ℕ) → tell rest (stage 4 0 (capped p) (p + 1) (length F.area) 0 F)
-        ≡ tells (if eqb (length rest) 0 then describes (record { field = F; sizes = z }) else refused_at 20 (p + 1) F)
-    unfolding if◌then◌else◌
+        ≡ tells (when eqb (length rest) 0 then describes (record { field = F; sizes = z }) else refused_at 20 (p + 1) F)
+    unfolding when◌then◌else◌
     last p F e f [] = end-told (capped p) (p + 1) F e f
     last p F e f (b ∷ rest) = rw (ne_eqb (length (b ∷ rest)) 0 (λ q. omega arith)) (end_more (capped p) (p + 1) (length F.area) b F rest)
 
     -- from a stage between two records, the rest of the file
     loads_on : (k p start cells due promised : ℕ) (bytes : List ℕ) (F : Field) → length bytes ≤ k → 1 ≤ p → Sound F cells due promised
         → tell bytes (stage 0 0 start p (length F.area) due F) ≡ tells (read_on_at N k p cells due promised bytes F z)
-    unfolding read_on_at if◌then◌else◌
+    unfolding read_on_at when◌then◌else◌
     loads_on zero p start cells due promised [] F l g o = tell_cut 0 0 start p (length F.area) due F (λ q. omega arith)
     loads_on zero p start cells due promised (kind ∷ rest) F l g o = absurd (omega arith)
     loads_on (suc k) p start cells due promised [] F l g o = tell_cut 0 0 start p (length F.area) due F (λ q. omega arith)
@@ -518,30 +518,30 @@ module _ (M N : ℕ) (index₀ count₀ area₀ con₀ : List ℕ) where
   nothing n p = refused_told n p index₀ count₀ area₀ con₀
 
   head_cut : (got p w h b l m : ℕ) → tell [] (head got p w h b l m) ≡ nothing 20 p
-  unfolding tell feed head load_end going refusing with told if◌then◌else◌ ◌and◌
+  unfolding tell feed head load_end going refusing with told when◌then◌else◌ ◌and◌
   head_cut got p w h b l m = refl
 
   head_step : (got p w h b l m x : ℕ) → got < 9 → p < 4294967295
       → byte_in (head got p w h b l m) x
       ≡ head (got + 1) (p + 1) (number_with 0 got w x) (number_with 2 got h x) (number_with 4 got b x) (number_with 6 got l x) (number_with 8 got m x)
-  unfolding byte_in taken going head header_byte sized onward with if◌then◌else◌ ◌and◌
+  unfolding byte_in taken going head header_byte sized onward with when◌then◌else◌ ◌and◌
   head_step got p w h b l m x g n = rw (lt-ltb got 9 g, up_small p n) refl
 
   head-over : (w h b l m x : ℕ) → M < w * h → byte_in (head 9 10 w h b l m) x ≡ with (head 9 10 w h b l (number_with 8 9 m x)) (refusing 21 0 (head 9 10 w h b l (number_with 8 9 m x)).loader)
-  unfolding byte_in taken going head header_byte sized headed number_with with if◌then◌else◌ ◌and◌
+  unfolding byte_in taken going head header_byte sized headed number_with with when◌then◌else◌ ◌and◌
   head-over w h b l m x n = rw (lt-ltb M (w * h) n) refl
 
   head_read : (w h b l m x : ℕ) → w * h ≤ M
       → byte_in (head 9 10 w h b l m) x ≡ stage M N index₀ count₀ area₀ con₀ w h (record { border = b; least = l; merge = number_with 8 9 m x }) 0 0 0 11 0 0 (empty_field w h)
-  unfolding byte_in taken going head header_byte sized headed number_with onward up stage empty_field over capped with if◌then◌else◌ ◌and◌
+  unfolding byte_in taken going head header_byte sized headed number_with onward up stage empty_field over capped with when◌then◌else◌ ◌and◌
   head_read w h b l m x n = rw (le-ltb M (w * h) n) refl
 
   first_kind : byte_in begun 1 ≡ head 0 1 0 0 0 0 0
-  unfolding byte_in taken going load_begin head kind_byte wanted onward up with if◌then◌else◌ ◌and◌
+  unfolding byte_in taken going load_begin head kind_byte wanted onward up with when◌then◌else◌ ◌and◌
   first_kind = refl
 
   first_wants : wanted (load_begin M N) ≡ 1
-  unfolding wanted load_begin if◌then◌else◌
+  unfolding wanted load_begin when◌then◌else◌
   first_wants = refl
 
   first_goes : going (load_begin M N) ≡ true
@@ -562,7 +562,7 @@ module _ (M N : ℕ) (index₀ count₀ area₀ con₀ : List ℕ) where
   -- nine bytes of the header's body
   nine : (b0 b1 b2 b3 b4 b5 b6 b7 b8 : ℕ) (rest : List ℕ) → b0 < 256 → b2 < 256 → b4 < 256 → b6 < 256
       → tell (b0 ∷ b1 ∷ b2 ∷ b3 ∷ b4 ∷ b5 ∷ b6 ∷ b7 ∷ b8 ∷ rest) (head 0 1 0 0 0 0 0) ≡ tell rest (head 9 10 (b0 + 256 * b1) (b2 + 256 * b3) (b4 + 256 * b5) (b6 + 256 * b7) b8)
-  unfolding number_with if◌then◌else◌
+  unfolding number_with when◌then◌else◌
   nine b0 b1 b2 b3 b4 b5 b6 b7 b8 rest g0 g2 g4 g6 =
       tell_next b0 _ _ ∙ ap (tell _) (head_step 0 1 0 0 0 0 0 b0 (omega arith) (omega arith))
       ∙ tell_next b1 _ _ ∙ ap (tell _) (head_step 1 2 b0 0 0 0 0 b1 (omega arith) (omega arith) ∙ rw (mod-eq_of_lt g0) refl)
@@ -591,37 +591,37 @@ module _ (M N : ℕ) (index₀ count₀ area₀ con₀ : List ℕ) where
     -- what the rule makes of a header's body and the rest
     abbrev rule : List ℕ → Placed
     rule rest =
-        if leb 10 (length rest) then
-        (if ltb M (word rest 0 * word rest 2) then refused_at 21 0 (empty_field 0 0)
+        when leb 10 (length rest) then
+        (when ltb M (word rest 0 * word rest 2) then refused_at 21 0 (empty_field 0 0)
         else read_on_at N (length rest) 11 (word rest 0 * word rest 2) 0 0 (drop 10 rest) (empty_field (word rest 0) (word rest 2)) (record { border = word rest 4; least = word rest 6; merge = word rest 8 }))
         else refused_at 20 (suc (length rest)) (empty_field 0 0)
 
     short : (rest : List ℕ) → length rest < 10 → tell rest (head 0 1 0 0 0 0 0) ≡ tells₀ (rule rest)
-    unfolding told_by over empty_field capped if◌then◌else◌
+    unfolding told_by over empty_field capped when◌then◌else◌
     short rest g =
         let e : 1 + length rest ≡ suc (length rest) = omega arith in
         rw (lt-leb 10 (length rest) g, lt-ltb (suc (length rest)) 4294967295 (omega arith)) (rw e at (head_short rest 0 1 0 0 0 0 0 (omega arith) (omega arith)))
 
     nothing-first : nothing 20 0 ≡ tells₀ (refused_at 20 0 (empty_field 0 0))
-    unfolding told_by over empty_field capped if◌then◌else◌
+    unfolding told_by over empty_field capped when◌then◌else◌
     nothing-first = refl
 
     empty_file : tell [] begun ≡ tells₀ (refused_at 20 0 (empty_field 0 0))
-    unfolding tell feed load_begin load_end going refusing with told told_by over empty_field capped if◌then◌else◌ ◌and◌
+    unfolding tell feed load_begin load_end going refusing with told told_by over empty_field capped when◌then◌else◌ ◌and◌
     empty_file = refl
 
     merged : (w h b l x y : ℕ) → x < 256
         → stage M N index₀ count₀ area₀ con₀ w h (record { border = b; least = l; merge = number_with 8 9 x y }) 0 0 0 11 0 0 (empty_field w h)
         ≡ stage M N index₀ count₀ area₀ con₀ w h (record { border = b; least = l; merge = x + 256 * y }) 0 0 0 11 0 0 (empty_field w h)
-    unfolding number_with if◌then◌else◌
+    unfolding number_with when◌then◌else◌
     merged w h b l x y g = rw (mod-eq_of_lt g) refl
 
     nothing-over : tells₀ (refused_at 21 0 (empty_field 0 0)) ≡ nothing 21 0
-    unfolding told_by over empty_field capped if◌then◌else◌
+    unfolding told_by over empty_field capped when◌then◌else◌
     nothing-over = refl
 
     header : (rest : List ℕ) → ((i : ℕ) → get_or rest i 0 < 256) → tell rest (head 0 1 0 0 0 0 0) ≡ tells₀ (rule rest)
-    unfolding word empty_field if◌then◌else◌
+    unfolding word empty_field when◌then◌else◌
     header [] g = short [] (omega arith)
     header (b0 ∷ []) g = short (b0 ∷ []) (omega arith)
     header (b0 ∷ b1 ∷ []) g = short (b0 ∷ b1 ∷ []) (omega arith)
@@ -649,7 +649,7 @@ module _ (M N : ℕ) (index₀ count₀ area₀ con₀ : List ℕ) where
 
     -- the loader, given a whole file and its end, tells what `read_file_at` says
     pub loader_tells : (file : List ℕ) → ((i : ℕ) → get_or file i 0 < 256) → tell file begun ≡ tells₀ (read_file_at M N file)
-    unfolding read_file_at if◌then◌else◌
+    unfolding read_file_at when◌then◌else◌
     loader_tells [] g = empty_file
     loader_tells (kind ∷ rest) g =
         elim (ℕ_discrete kind 1) [
@@ -660,7 +660,7 @@ module _ (M N : ℕ) (index₀ count₀ area₀ con₀ : List ℕ) where
     -- ---------------------------------------------------------------- in pieces
 
     first_room : piece_refusal begun ≡ 0
-    unfolding piece_refusal going roomy load_begin if◌then◌else◌ ◌and◌
+    unfolding piece_refusal going roomy load_begin when◌then◌else◌ ◌and◌
     first_room = rw (le-leb M (length index₀) li, le-leb M (length count₀) lc, le-leb N (length area₀) la, le-leb (4 * N) (length con₀) ln) refl
 
     -- "However it is cut, the field, the refusal and the byte position of the refusal are those of the whole file."

@@ -7,7 +7,7 @@ use mathlib.Core.Path.{◌≡◌, refl, sym, ap, ◌∙◌}
 use mathlib.Core.List.{List, ◌++◌}
 use lib.ListN.{length}
 use borrow.Author.Tests.{eq-eqb, ne_eqb}
-use Rattle.rules.specs.Base.{if◌then◌else◌}
+use Rattle.rules.specs.Base.{when◌then◌else◌}
 use Rattle.rules.specs.Load as rule
 use mathlib.Core.Bool.{false}
 use Rattle.rules.specs.Load.{Loading, load_piece, piece_refusal, going}
@@ -111,15 +111,15 @@ module _ (ns index count area con : List ℕ) where
   as_was = record { said = refused3 ns; index = index; count = count; area = area; con = con }
 
   pub call_odd : (piece : List ℕ) → (length ns ≡ 17 → ⊥) → piece_outcome piece ns index count area con ≡ as_was
-  unfolding piece_outcome if◌then◌else◌
+  unfolding piece_outcome when◌then◌else◌
   call_odd piece n = rw (ne_eqb (length ns) 17 n)
 
   pub call_short : (piece : List ℕ) → length ns ≡ 17 → (piece_refusal x ≡ 0 → ⊥) → piece_outcome piece ns index count area con ≡ as_was
-  unfolding piece_outcome if◌then◌else◌
+  unfolding piece_outcome when◌then◌else◌
   call_short piece e n = rw (eq-eqb (length ns) 17 e, ne_eqb (piece_refusal x) 0 n)
 
   pub call_taken : (piece : List ℕ) → length ns ≡ 17 → piece_refusal x ≡ 0 → piece_outcome piece ns index count area con ≡ left_by_lem (load_piece piece x)
-  unfolding piece_outcome left_by_lem if◌then◌else◌
+  unfolding piece_outcome left_by_lem when◌then◌else◌
   call_taken piece e f = rw (eq-eqb (length ns) 17 e, f) refl
 
 -- the next call, on what a call left
@@ -173,5 +173,5 @@ module _ (ns : List ℕ) (right : length ns ≡ 17) (over : going (loader_in ns)
       call_taken ns index count area con piece right t.0 ∙ ap left_by_lem t.1 ∙ rw left-same refl
 
   pub end_call_changes_nothing : end_outcome ns ≡ same_answer
-  unfolding end_outcome if◌then◌else◌
+  unfolding end_outcome when◌then◌else◌
   end_call_changes_nothing = rw (eq-eqb (length ns) 17 right, end_changes_nothing (loader_in ns) over) left-same

@@ -9,7 +9,7 @@ use lib.ListN.{length, length-set}
 use lib.Dec.{ltb, eqb}
 use borrow.Author.Tests.{ne_eqb}
 use native.Mathlib.Decide.{ℕ_discrete}
-use Rattle.rules.specs.Base.{◌and◌, if◌then◌else◌}
+use Rattle.rules.specs.Base.{◌and◌, when◌then◌else◌}
 use Rattle.rules.specs.Load.{Loader, Loading, going, refusing, onward, counted, wanted, kind_byte, sized, headed, header_byte, cell_on, cell_byte, span_on, span_byte, with}
 use Rattle.rules.specs.Load.{taken, byte_in, feed, closed, load_end, roomy, piece_refusal, load_piece}
 use Rattle.laws.proofs.Basics.{if-ind, both}
@@ -24,7 +24,7 @@ feed-append (b ∷ xs) ys x = feed-append xs ys (byte_in x b)
 
 -- nothing changes
 pub byte_nothing : (x : Loading) (b : ℕ) → going x.loader ≡ false → byte_in x b ≡ x
-unfolding byte_in if◌then◌else◌
+unfolding byte_in when◌then◌else◌
 byte_nothing x b e = rw e
 
 pub feed-nothing : (piece : List ℕ) (x : Loading) → going x.loader ≡ false → feed piece x ≡ x
@@ -137,26 +137,26 @@ refused_ends l = refl
 
 -- a call that is not refused itself
 pub loads : (piece : List ℕ) (x : Loading) → piece_refusal x ≡ 0 → load_piece piece x ≡ feed piece x
-unfolding load_piece if◌then◌else◌
+unfolding load_piece when◌then◌else◌
 loads piece x e = rw e
 
 -- one that is
 leaves : (piece : List ℕ) (x : Loading) → (piece_refusal x ≡ 0 → ⊥) → load_piece piece x ≡ x
-unfolding load_piece if◌then◌else◌
+unfolding load_piece when◌then◌else◌
 leaves piece x n = rw (ne_eqb (piece_refusal x) 0 n)
 
 over_room : (x : Loading) → going x.loader ≡ false → piece_refusal x ≡ 0
-unfolding piece_refusal if◌then◌else◌
+unfolding piece_refusal when◌then◌else◌
 over_room x e = rw e
 
 -- room stays
-pub roomy_is : (b : Bool) → ◌≡◌ {A = ℕ} (if b then 0 else 3) 0 → b ≡ true
-unfolding if◌then◌else◌
+pub roomy_is : (b : Bool) → ◌≡◌ {A = ℕ} (when b then 0 else 3) 0 → b ≡ true
+unfolding when◌then◌else◌
 roomy_is true q = refl
 roomy_is false q = absurd (omega arith)
 
 room_by : (x y : Loading) (g : Bool) → going x.loader ≡ g → roomy y ≡ roomy x → (g ≡ false → going y.loader ≡ false) → piece_refusal x ≡ 0 → piece_refusal y ≡ 0
-unfolding piece_refusal if◌then◌else◌
+unfolding piece_refusal when◌then◌else◌
 room_by x y true e r s h =
     let k : roomy x ≡ true = roomy_is (roomy x) (rw e at h) in
     if-ind (λ (n : ℕ). n ≡ 0) (going y.loader) (λ _. rw (r, k)) (λ _. refl)
@@ -203,7 +203,7 @@ pub piece_changes_nothing : (piece : List ℕ) (x : Loading) → going x.loader 
 piece_changes_nothing piece x e = (over_room x e, loads piece x (over_room x e) ∙ feed-nothing piece x e)
 
 pub end_changes_nothing : (l : Loader) → going l ≡ false → load_end l ≡ l
-unfolding load_end if◌then◌else◌
+unfolding load_end when◌then◌else◌
 end_changes_nothing l e = rw e
 
 -- a declared end is the end: the loader is refused or closed

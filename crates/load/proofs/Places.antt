@@ -4,7 +4,7 @@ use Prim.Native.Nat.{ℕ}
 use mathlib.Core.Path.{◌≡◌, refl}
 use mathlib.Core.List.{List, [], ◌∷◌, ◌++◌}
 use lib.ListN.{take, set}
-use Rattle.rules.specs.Base.{if◌then◌else◌}
+use Rattle.rules.specs.Base.{when◌then◌else◌}
 use Rattle.rules.specs.File.{word}
 use Rattle.rules.specs.Load.{Placed, refused_at, describes, read_on_at, read_file_at}
 
@@ -50,7 +50,7 @@ pub record Places : Type 0 where
   pub spans_cut : Gives (take 12 (set file 12 201)) 20 12
 
 pub places : Places
-unfolding file refusal position read_file_at read_on_at word if◌then◌else◌
+unfolding file refusal position read_file_at read_on_at word when◌then◌else◌
 places = record {
   whole = record { number = refl; place = refl };
   header = record { number = refl; place = refl };

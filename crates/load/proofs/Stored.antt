@@ -6,7 +6,7 @@ use mathlib.Core.Path.{◌≡◌, refl, ap, ◌∙◌}
 use mathlib.Core.List.{List, [], ◌∷◌}
 use lib.ListN.{length, get_or, set}
 use borrow.Author.Tests.{eq-eqb, ne_eqb}
-use Rattle.rules.specs.Base.{if◌then◌else◌, tab}
+use Rattle.rules.specs.Base.{when◌then◌else◌, tab}
 use Rattle.rules.specs.Load.{Loader, Loading, load_begin, load_end, load_piece, piece_refusal}
 use Rattle.load.specs.declared.Loader.{Loader as Code}
 use Rattle.load.specs.declared.PieceAnswer.{PieceAnswer}
@@ -66,11 +66,11 @@ stored l m n o p r k e a b c d f =
 -- ---------------------------------------------------------------- what a call gives
 
 pub none_said : (l : Loader) → l.refusal ≡ 0 → 0 ≡ position_of l
-unfolding position_of if◌then◌else◌
+unfolding position_of when◌then◌else◌
 none_said l e = rw (eq-eqb l.refusal 0 e)
 
 pub some_said : (l : Loader) → (l.refusal ≡ 0 → ⊥) → l.position ≡ position_of l
-unfolding position_of if◌then◌else◌
+unfolding position_of when◌then◌else◌
 some_said l n = rw (ne_eqb l.refusal 0 n)
 
 no_three : ◌≡◌ {A = ℕ} 3 0 → ⊥
@@ -87,25 +87,25 @@ module _ (r : LoadAnswer) (ns ns' : List ℕ) where
 
   module _ (odd : length ns ≡ 17 → ⊥) (e : r.refusal ≡ 3) (f : r.position ≡ 0) where
     pub begin_3 : (cells spans : ℕ) → Given (begin_outcome cells spans ns) r ns
-    unfolding begin_outcome if◌then◌else◌
+    unfolding begin_outcome when◌then◌else◌
     begin_3 cells spans = rw (ne_eqb (length ns) 17 odd) (given_3 e f)
 
     pub end_3 : Given (end_outcome ns) r ns
-    unfolding end_outcome if◌then◌else◌
+    unfolding end_outcome when◌then◌else◌
     end_3 = rw (ne_eqb (length ns) 17 odd) (given_3 e f)
 
     pub piece_3 : (piece index count area con : List ℕ) → GivenPiece (piece_outcome piece ns index count area con) r ns index count area con
-    unfolding piece_outcome if◌then◌else◌
+    unfolding piece_outcome when◌then◌else◌
     piece_3 piece index count area con = rw (ne_eqb (length ns) 17 odd) (record { said = given_3 e f; indices = refl; counts = refl; areas = refl; cons = refl })
 
   module _ (right : length ns ≡ 17) where
     module _ (l : Loader) (e : r.refusal ≡ l.refusal) (f : r.position ≡ position_of l) (g : ns' ≡ numbers_of l) where
       pub begin_given : (cells spans : ℕ) → l ≡ load_begin cells spans → Given (begin_outcome cells spans ns) r ns'
-      unfolding begin_outcome if◌then◌else◌
+      unfolding begin_outcome when◌then◌else◌
       begin_given cells spans q = rw (eq-eqb (length ns) 17 right, ← q) (given_left l e f g)
 
       pub end_given : (k : Loader) → k ≡ loader_in ns → l ≡ load_end k → Given (end_outcome ns) r ns'
-      unfolding end_outcome if◌then◌else◌
+      unfolding end_outcome when◌then◌else◌
       end_given k p q = rw (eq-eqb (length ns) 17 right, ← p, ← q) (given_left l e f g)
 
   -- the answer written
@@ -125,7 +125,7 @@ module _ (r : LoadAnswer) (ns ns' : List ℕ) where
 
     pub piece_given : (a : PieceAnswer) → (piece_refused_by a ≡ piece_refusal x) × (loading (loader_after k a) index' count' area' con' ≡ load_piece piece x) → Given (left_by a ns) r ns'
         → GivenPiece (piece_outcome piece ns index count area con) r ns' index' count' area' con'
-    unfolding piece_outcome if◌then◌else◌
+    unfolding piece_outcome when◌then◌else◌
     piece_given (Taken l) q g =
         rw (eq-eqb (length ns) 17 right, ← same-loading, ← q.0, ← q.1) (record { said = g; indices = refl; counts = refl; areas = refl; cons = refl })
     piece_given TooShort q g =

@@ -6,7 +6,7 @@ use mathlib.Core.Bool.{Bool, true, false}
 use mathlib.Core.List.{List, [], ◌∷◌}
 use lib.ListN.{length, get_or, take, drop}
 use lib.Dec.{leb, ltb, eqb}
-use Rattle.rules.specs.Base.{◌and◌, if◌then◌else◌}
+use Rattle.rules.specs.Base.{◌and◌, when◌then◌else◌}
 use Rattle.rules.specs.Field.{Field}
 use Rattle.rules.specs.Outcomes.{Sizes}
 use Rattle.rules.specs.File.{Reading, refused, word, with_cell, with_span, read_on, read_file, empty_field}
@@ -14,14 +14,14 @@ use Rattle.rules.specs.Load.{Placed, read_on_at, read_file_at, reading_by}
 
 -- two tests one after the other, where both failures read the same
 two_tests : (a b : Bool) (x y z : Placed) (u : Reading) (n : ℕ) → reading_by x ≡ u → reading_by y ≡ refused n → reading_by z ≡ refused n
-    → reading_by (if a then (if b then x else y) else z) ≡ (if a and b then u else refused n)
-unfolding if◌then◌else◌ ◌and◌
+    → reading_by (when a then (when b then x else y) else z) ≡ (when a and b then u else refused n)
+unfolding when◌then◌else◌ ◌and◌
 two_tests true true x y z u n e f g = e
 two_tests true false x y z u n e f g = f
 two_tests false b x y z u n e f g = g
 
-one_test : (a : Bool) (x y : Placed) (u v : Reading) → reading_by x ≡ u → reading_by y ≡ v → reading_by (if a then x else y) ≡ (if a then u else v)
-unfolding if◌then◌else◌
+one_test : (a : Bool) (x y : Placed) (u v : Reading) → reading_by x ≡ u → reading_by y ≡ v → reading_by (when a then x else y) ≡ (when a then u else v)
+unfolding when◌then◌else◌
 one_test true x y u v e f = e
 one_test false x y u v e f = f
 

@@ -1,7 +1,7 @@
 -- A loading as its caller sees it: calls one after the other, each lent what the one before it left. They are related by the promises of the calls alone, so what
 -- is proved of them holds of whatever the calls return and leave.
 use Rattle.std.specs.Prelude.{ℕ, ◌*◌, ◌≤◌, ◌<◌, ◌≡◌, List, [], ◌∷◌, length, get_or, eqb}
-use Rattle.rules.specs.Base.{if◌then◌else◌}
+use Rattle.rules.specs.Base.{when◌then◌else◌}
 use Rattle.rules.specs.Outcomes.{Sizes}
 use Rattle.rules.specs.Load.{Told, refused_told, loaded_told}
 use Rattle.load.specs.declared.into.LoadAnswer.{LoadAnswer}
@@ -69,5 +69,5 @@ unfoldable pub told_in : LoadAnswer → Held → Told
 told_in r x =
     let ns = x.numbers in
     let z : Sizes = record { border = get_or ns 8 0; least = get_or ns 9 0; merge = get_or ns 10 0 } in
-    if eqb r.refusal 0 then loaded_told (get_or ns 6 0) (get_or ns 7 0) z (get_or ns 12 0) x.index x.count x.area x.con
+    when eqb r.refusal 0 then loaded_told (get_or ns 6 0) (get_or ns 7 0) z (get_or ns 12 0) x.index x.count x.area x.con
     else refused_told r.refusal r.position x.index x.count x.area x.con

@@ -1,6 +1,6 @@
 -- The calls with the loader's numbers in a lent list of 17; another length is refused 3, and nothing changes.
 use Rattle.std.specs.Prelude.{ℕ, ◌≡◌, List, [], ◌∷◌, length, get_or, eqb}
-use Rattle.rules.specs.Base.{if◌then◌else◌}
+use Rattle.rules.specs.Base.{when◌then◌else◌}
 use Rattle.rules.specs.Load.{Loader, Loading, load_begin, load_end, load_piece, piece_refusal}
 use Rattle.load.specs.Numbers.{loader_of}
 use Rattle.load.specs.declared.PieceAnswer.{PieceAnswer}
@@ -37,7 +37,7 @@ loader_in ns = record {
 
 -- the position that is told: 0 where nothing is refused
 unfoldable pub position_of : Loader → ℕ
-position_of l = if eqb l.refusal 0 then 0 else l.position
+position_of l = when eqb l.refusal 0 then 0 else l.position
 
 -- what a call gives and leaves: the refusal, its position and the loader's numbers
 pub record Outcome : Type 0 where
@@ -59,10 +59,10 @@ left_by (Taken l) ns = left (loader_of l)
 left_by TooShort ns = refused3 ns
 
 unfoldable pub begin_outcome : ℕ → ℕ → List ℕ → Outcome
-begin_outcome cells spans ns = if eqb (length ns) 17 then left (load_begin cells spans) else refused3 ns
+begin_outcome cells spans ns = when eqb (length ns) 17 then left (load_begin cells spans) else refused3 ns
 
 unfoldable pub end_outcome : List ℕ → Outcome
-end_outcome ns = if eqb (length ns) 17 then left (load_end (loader_in ns)) else refused3 ns
+end_outcome ns = when eqb (length ns) 17 then left (load_end (loader_in ns)) else refused3 ns
 
 -- a call with a piece: the loading that it is lent
 unfoldable pub loading_in : List ℕ → List ℕ → List ℕ → List ℕ → List ℕ → Loading
@@ -81,8 +81,8 @@ unfoldable pub piece_outcome : List ℕ → List ℕ → List ℕ → List ℕ �
 piece_outcome piece ns index count area con =
     let x = loading_in ns index count area con in
     let y = load_piece piece x in
-    if eqb (length ns) 17 then
-    (if eqb (piece_refusal x) 0 then record { said = left y.loader; index = y.index; count = y.count; area = y.area; con = y.con }
+    when eqb (length ns) 17 then
+    (when eqb (piece_refusal x) 0 then record { said = left y.loader; index = y.index; count = y.count; area = y.area; con = y.con }
     else record { said = refused3 ns; index = index; count = count; area = area; con = con })
     else record { said = refused3 ns; index = index; count = count; area = area; con = con }
 

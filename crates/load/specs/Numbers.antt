@@ -1,6 +1,6 @@
 -- The code's loader in the rule's words, and document 02's numbers of its answers.
 use Rattle.std.specs.Prelude.{ℕ, List, eqb}
-use Rattle.rules.specs.Base.{if◌then◌else◌}
+use Rattle.rules.specs.Base.{when◌then◌else◌}
 use Rattle.rules.specs.Load as rule
 use Rattle.load.specs.declared.Loader.{Loader}
 use Rattle.load.specs.declared.PieceAnswer.{PieceAnswer}
@@ -44,4 +44,4 @@ loader_after l TooShort = l
 
 -- the end, of a loader that is going
 unfoldable pub ended_by : rule.Loader → rule.Loader
-ended_by l = if eqb l.kind 4 then rule.closed l else rule.refusing 20 l.received l
+ended_by l = when eqb l.kind 4 then rule.closed l else rule.refusing 20 l.received l

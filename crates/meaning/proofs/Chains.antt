@@ -7,7 +7,7 @@ use mathlib.Core.Path.{◌≡◌, refl, ◌∙◌}
 use mathlib.Core.Bool.{Bool, true, false}
 use mathlib.Core.List.{List}
 use lib.ListN.{length, get_or, get_or-eq_default}
-use Rattle.rules.specs.Base.{if◌then◌else◌}
+use Rattle.rules.specs.Base.{when◌then◌else◌}
 use Rattle.rules.specs.Field.{Field, spans, near, Bytes}
 use Rattle.rules.specs.Refusals.{refusal}
 use Rattle.rules.specs.Distance.{start_at, start, far, least_of, lower, pass1, pass2, raw}
@@ -43,8 +43,8 @@ record Costed (F : Field) (l : List ℕ) : Type 0 where
   size : length l ≡ spans F
   cost : (s : ℕ) → Costs F s (far l s)
 
-started : (b : Bool) (v : ℕ) → v ≡ (if b then 0 else 65535) → v < 65535 → v ≡ 0
-unfolding if◌then◌else◌
+started : (b : Bool) (v : ℕ) → v ≡ (when b then 0 else 65535) → v < 65535 → v ≡ 0
+unfolding when◌then◌else◌
 started true v e h = e
 started false v e h = absurd (omega arith)
 

@@ -10,7 +10,7 @@ use lib.ListN.{get_or, replicate, get_or-replicate, get_or-eq_default}
 use lib.Arith.{digits_lt, digits_div, digits_mod}
 use lib.Dec.{eqb}
 use borrow.Author.Tests.{eq-eqb, ne_eqb, le-leb, lt-leb}
-use Rattle.rules.specs.Base.{if◌then◌else◌, upto}
+use Rattle.rules.specs.Base.{when◌then◌else◌, upto}
 use Rattle.rules.specs.Field.{spans, area_of, near, cell_of, cell_to, leaves, con_of}
 use Rattle.rules.specs.Open.{open_con, flat, open_field}
 use Rattle.rules.specs.Distance.{same}
@@ -40,7 +40,7 @@ module _ (w h : ℕ) (few : w * h ≤ 65535) where
 
   -- ---------------------------------------------------------------- connections
 
-  pub con_at : (s d : ℕ) → s < w * h → d < 4 → con_of (open_field w h) s d ≡ (if leaves w h s d then 255 else 0)
+  pub con_at : (s d : ℕ) → s < w * h → d < 4 → con_of (open_field w h) s d ≡ (when leaves w h s d then 255 else 0)
   unfolding con_of flat open_field open_con
   con_at s d g k =
       let a : (0 + (4 * s + d)) / 4 ≡ s = omega arith in
@@ -53,11 +53,11 @@ module _ (w h : ℕ) (few : w * h ≤ 65535) where
   open_none d = near_none (open_field w h) 65535 d (get_or-eq_default (open_field w h).con 255 (omega (arith, length-tab (4 * (w * h)) 0 (open_con w h))))
 
   missing : (s d : ℕ) → s < w * h → d < 4 → leaves w h s d ≡ true → near (open_field w h) s d ≡ 65535
-  unfolding if◌then◌else◌
+  unfolding when◌then◌else◌
   missing s d g k e = near_none (open_field w h) s d (con_at s d g k ∙ rw e refl)
 
   pub leading : (s d : ℕ) → s < w * h → d < 4 → leaves w h s d ≡ false → cell_to w s d < w * h → near (open_field w h) s d ≡ cell_to w s d
-  unfolding if◌then◌else◌ flat open_field
+  unfolding when◌then◌else◌ flat open_field
   leading s d g k e i =
       let c : con_of (open_field w h) s d ≡ 0 = con_at s d g k ∙ rw e refl in
       near_is (open_field w h) s d (λ z. omega arith) ∙ rw (c, cell_of_ones (w * h) s g, tab-at (w * h) 0 (λ (c : ℕ). c) (cell_to w s d) 0 i) (omega arith)
@@ -132,14 +132,14 @@ module _ (w h : ℕ) (few : w * h ≤ 65535) where
 
   -- 1 where t has the area of s
   abbrev alike : ℕ → ℕ → ℕ
-  alike s t = if eqb (area_of (open_field w h) t) (area_of (open_field w h) s) then 1 else 0
+  alike s t = when eqb (area_of (open_field w h) t) (area_of (open_field w h) s) then 1 else 0
 
   alike_at : (s t : ℕ) → s < w * h → t < w * h → alike s t ≡ 1
-  unfolding if◌then◌else◌
+  unfolding when◌then◌else◌
   alike_at s t g k = rw (area_at s g, area_at t k) refl
 
   alike_none : (s : ℕ) → s < w * h → alike s 65535 ≡ 0
-  unfolding if◌then◌else◌
+  unfolding when◌then◌else◌
   alike_none s g = rw (area_at s g, area_none) refl
 
   module _ (x z : ℕ) (p : x < w) (q : z < h) where

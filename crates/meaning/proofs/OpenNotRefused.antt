@@ -9,7 +9,7 @@ use mathlib.Core.List.{List, []}
 use lib.ListN.{get_or, replicate, length-replicate}
 use lib.Dec.{ltb}
 use borrow.Author.Tests.{eq-eqb, le-ltb, lt-ltb}
-use Rattle.rules.specs.Base.{◌and◌, ◌or◌, if◌then◌else◌, tab, every}
+use Rattle.rules.specs.Base.{◌and◌, ◌or◌, when◌then◌else◌, tab, every}
 use Rattle.rules.specs.Field.{Field, spans, near, cell_to, leaves, con_of}
 use Rattle.rules.specs.Open.{open_con, flat, open_field}
 use Rattle.rules.specs.Refusals.{good_cells, good_con, good_back, too_wide, too_many, wrong_length, wrong_cells, wrong_reach, wrong_back, refusal, most_spans}
@@ -34,7 +34,7 @@ module _ (w h : ℕ) (few : w * h ≤ 65535) where
       (sym (div-add-mod' s w), mod-lt s p, (div-lt_iff_lt-mul p).1 (omega (arith, mul_comm w h)))
 
   reach-good : (s d : ℕ) → s < w * h → d < 4 → good_con (open_field w h) s d ≡ true
-  unfolding good_con flat open_field if◌then◌else◌
+  unfolding good_con flat open_field when◌then◌else◌
   reach-good s d g k = by (leaves w h s d) refl
     where
       by : (b : Bool) → leaves w h s d ≡ b → good_con (open_field w h) s d ≡ true
@@ -47,7 +47,7 @@ module _ (w h : ℕ) (few : w * h ≤ 65535) where
 
   -- a connection that there is leads to a span
   there : (s d : ℕ) → s < w * h → d < 4 → (con_of (open_field w h) s d ≡ 255 → ⊥) → near (open_field w h) s d ≡ 65535 → ⊥
-  unfolding if◌then◌else◌
+  unfolding when◌then◌else◌
   there s d g k e f = by (leaves w h s d) refl
     where
       by : (b : Bool) → leaves w h s d ≡ b → ⊥
@@ -79,7 +79,7 @@ module _ (w h : ℕ) (few : w * h ≤ 65535) where
       ]
 
 not_refused : (F : Field) (lens : List ℕ) → too_wide F ≡ false → too_many F ≡ false → wrong_length F lens ≡ false → wrong_cells F ≡ false → wrong_reach F ≡ false → wrong_back F ≡ false → refusal F lens ≡ 0
-unfolding refusal if◌then◌else◌
+unfolding refusal when◌then◌else◌
 not_refused F lens a b c d e f = rw (a, b, c, d, e, f) refl
 
 module _ (w h : ℕ) (few : w * h ≤ 65535) where

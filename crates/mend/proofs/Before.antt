@@ -7,7 +7,7 @@ use mathlib.Core.Bool.{Bool, true, false, true≢false}
 use mathlib.Core.List.{[]}
 use lib.Dec.{leb}
 use borrow.Author.Tests.{ltb-false, leb-true, le-leb, not-false}
-use Rattle.rules.specs.Base.{◌and◌, if◌then◌else◌}
+use Rattle.rules.specs.Base.{◌and◌, when◌then◌else◌}
 use Rattle.rules.specs.Field.{Field}
 use Rattle.rules.specs.Refusals.{too_wide, too_many, wrong_length, wrong_cells, refusal}
 use Rattle.laws.proofs.Basics.{both, neither}
@@ -16,13 +16,13 @@ use Rattle.field.proofs.Passed.{celled_of}
 use Rattle.mend.specs.Answer.{before_links}
 
 -- a choice that did not come to k
-past : (b : Bool) (x k r : ℕ) → x ≡ (if b then k else r) → (x ≡ k → ⊥) → (b ≡ false) × (x ≡ r)
-unfolding if◌then◌else◌
+past : (b : Bool) (x k r : ℕ) → x ≡ (when b then k else r) → (x ≡ k → ⊥) → (b ≡ false) × (x ≡ r)
+unfolding when◌then◌else◌
 past true x k r e n = absurd (n e)
 past false x k r e n = (refl, e)
 
 only : (b : Bool) (u : ℕ) → (leb 1 u and leb u 4) ≡ b → before_links u ≡ 0 → b ≡ false
-unfolding before_links if◌then◌else◌
+unfolding before_links when◌then◌else◌
 only true u f e = let z : u ≡ 0 = rw f at e in absurd (omega (arith, leb-true 1 u (both _ _ f).0))
 only false u f e = refl
 

@@ -9,7 +9,7 @@ use mathlib.Core.List.{List, [], ◌∷◌}
 use lib.ListN.{length}
 use lib.Dec.{leb}
 use borrow.Author.Tests.{eq-eqb, ne_eqb, lt-ltb, le-ltb, lt-leb, le-leb, leb-true, leb-false}
-use Rattle.rules.specs.Base.{◌and◌, if◌then◌else◌, every}
+use Rattle.rules.specs.Base.{◌and◌, when◌then◌else◌, every}
 use Rattle.rules.specs.Field.{Field, spans}
 use Rattle.rules.specs.Refusals.{wrong_length, refusal}
 use Rattle.rules.specs.Mend.{MendOutcome, changed, mend_refusal, mend_outcome}
@@ -57,7 +57,7 @@ unfolding ◌and◌
 low_before u p e = rw (le-leb 1 u p) (le-leb u 4 (omega (arith, leb-false 5 u e)))
 
 high_before : (u : ℕ) → leb 5 u ≡ true → before_links u ≡ 0
-unfolding before_links ◌and◌ if◌then◌else◌
+unfolding before_links ◌and◌ when◌then◌else◌
 high_before u e = let l = leb-true 5 u e in rw (le-leb 1 u (omega arith), lt-leb u 4 (omega arith))
 
 module _ (w h : ℕ) (is ks ar cs : List ℕ) where
@@ -78,7 +78,7 @@ module _ (w h : ℕ) (is ks ar cs : List ℕ) where
 
       pub ends_refused : (ch : List ℕ) → b ≡ false
           → ◌≡◌ {A = MendOutcome} (record { refused = number_of r; count = 0; con = cs; changes = ch }) (mend_outcome (lent w h is ks ar cs) ch)
-      unfolding mend_outcome mend_refusal if◌then◌else◌
+      unfolding mend_outcome mend_refusal when◌then◌else◌
       ends_refused ch y =
           rw (given, low_before (number_of r) (number_pos r) (sym (f ∙ past_is r) ∙ y), ne_eqb (number_of r) 0 (λ k. omega (arith, number_pos r)))
 
@@ -110,7 +110,7 @@ module _ (w h : ℕ) (is ks ar cs : List ℕ) where
 
         pub ends_full : room < found
             → ◌≡◌ {A = MendOutcome} (record { refused = 27; count = 0; con = cs₁; changes = ch₁ }) (mend_outcome (lent w h is ks ar cs) ch)
-        unfolding mend_outcome mend_refusal if◌then◌else◌
+        unfolding mend_outcome mend_refusal when◌then◌else◌
         ends_full l =
             let g : length ch / 3 < changed (lent w h is ks ar cs) = omega (arith, found_is) in
             rw (con_was, changes_was, links_only (refusal (lent w h is ks ar cs) []) ok, lt-ltb _ _ g)
@@ -128,7 +128,7 @@ module _ (w h : ℕ) (is ks ar cs : List ℕ) where
 
           pub ends_made : found ≤ room
               → ◌≡◌ {A = MendOutcome} (record { refused = 0; count = made; con = cs₂; changes = ch₂ }) (mend_outcome (lent w h is ks ar cs) ch)
-          unfolding mend_outcome mend_refusal if◌then◌else◌
+          unfolding mend_outcome mend_refusal when◌then◌else◌
           ends_made l =
               let a : changed (lent w h is ks ar cs) ≤ room = omega (arith, found_is) in
               let b : changed (lent w h is ks ar cs) ≤ length ch / 3 = omega arith in

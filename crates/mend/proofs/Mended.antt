@@ -9,7 +9,7 @@ use mathlib.Core.List.{List, []}
 use lib.ListN.{length}
 use lib.Dec.{eqb, leb}
 use borrow.Author.Tests.{eq-eqb, le-ltb, ltb-false, leb-true, not-false, eqb-true, eqb-false}
-use Rattle.rules.specs.Base.{◌or◌, ◌and◌, if◌then◌else◌, every}
+use Rattle.rules.specs.Base.{◌or◌, ◌and◌, when◌then◌else◌, every}
 use Rattle.rules.specs.Field.{Field, spans, con_of}
 use Rattle.rules.specs.Refusals.{good_con, good_back, too_wide, too_many, wrong_length, wrong_cells, wrong_reach, wrong_back, refusal, most_spans}
 use Rattle.rules.specs.Mend.{stays, stays_at, mended_at, mended_con, mended, relinked, changes_to, changed_to, changed, MendOutcome, mend_refusal, mend_outcome}
@@ -49,7 +49,7 @@ module _ (F : Field) (ok : Celled F) where
     back_all = ap not (every_all (spans F) (λ s. every 4 (good_back F s)) (λ s h. every_all 4 (good_back F s) (λ d l. (both _ _ (all s d h l)).1)))
 
     sound_all : refusal F [] ≡ 0
-    unfolding refusal if◌then◌else◌ wrong_length ◌and◌ every
+    unfolding refusal when◌then◌else◌ wrong_length ◌and◌ every
     sound_all =
         rw (
           narrow,
@@ -84,11 +84,11 @@ module _ (F : Field) (ok : Celled F) where
 
   -- a connection that stays is the same, and one that does not is none
   mended_kept : (s d : ℕ) → s < spans F → d < 4 → stays F s d ≡ true → con_of (relinked F (mended_con F)) s d ≡ con_of F s d
-  unfolding mended_at stays_at con_of if◌then◌else◌
+  unfolding mended_at stays_at con_of when◌then◌else◌
   mended_kept s d h l e = mended_con_lem s d h l ∙ rw (span_of s d l, way_of s d l, e)
 
   mended_cut : (s d : ℕ) → s < spans F → d < 4 → stays F s d ≡ false → con_of (relinked F (mended_con F)) s d ≡ 255
-  unfolding mended_at stays_at if◌then◌else◌
+  unfolding mended_at stays_at when◌then◌else◌
   mended_cut s d h l e = mended_con_lem s d h l ∙ rw (span_of s d l, way_of s d l, e)
 
   mended-stays : (s d : ℕ) → s < spans F → d < 4 → stays (relinked F (mended_con F)) s d ≡ true
@@ -108,12 +108,12 @@ module _ (F : Field) (ok : Celled F) where
 -- where all stay, nothing changes
 module _ (F : Field) (n : ℕ) (all : (i : ℕ) → i < n → stays_at F i ≡ true) where
   nothing-changed : (i : ℕ) → i ≤ n → changed_to F i ≡ 0
-  unfolding changed_to if◌then◌else◌
+  unfolding changed_to when◌then◌else◌
   nothing-changed zero h = refl
   nothing-changed (suc i) h = rw (all i (omega arith)) (nothing-changed i (omega arith))
 
   nothing-listed : (i : ℕ) → i ≤ n → changes_to F i ≡ []
-  unfolding changes_to if◌then◌else◌
+  unfolding changes_to when◌then◌else◌
   nothing-listed zero h = refl
   nothing-listed (suc i) h = rw (all i (omega arith)) (nothing-listed i (omega arith))
 
@@ -131,12 +131,12 @@ module _ (F : Field) (ok : refusal F [] ≡ 0) where
   sound_stays-at i h = sound_stays (i / 4) (i % 4) (span_in_lem i (spans F) h) (way_in i)
 
   sound_con : mended_con F ≡ F.con
-  unfolding mended_at if◌then◌else◌
+  unfolding mended_at when◌then◌else◌
   sound_con = sym (mended_is F F.con (reached_of F [] ok).celled.linked (λ p h. rw (sound_stays-at p h)))
 
   -- "a sound field comes back unchanged with an empty list"
   pub sound_same : (changes : List ℕ) → mend_outcome F changes ≡ record { refused = 0; count = 0; con = F.con; changes = changes }
-  unfolding mend_outcome mend_refusal if◌then◌else◌ ◌and◌
+  unfolding mend_outcome mend_refusal when◌then◌else◌ ◌and◌
   sound_same changes =
       let z : 0 ≤ length changes / 3 = omega arith in
       rw (
@@ -151,36 +151,36 @@ module _ (F : Field) (ok : refusal F [] ≡ 0) where
 
 -- an outcome that is no refusal
 chosen : (r : ℕ) (done left : MendOutcome) → left.refused ≡ r
-    → (if eqb r 0 then done else left).refused ≡ 0 → (r ≡ 0) × ((if eqb r 0 then done else left).con ≡ done.con)
-unfolding if◌then◌else◌
+    → (when eqb r 0 then done else left).refused ≡ 0 → (r ≡ 0) × ((when eqb r 0 then done else left).con ≡ done.con)
+unfolding when◌then◌else◌
 chosen r done left e = by (eqb r 0) refl
   where
-    by : (b : Bool) → eqb r 0 ≡ b → (if b then done else left).refused ≡ 0 → (r ≡ 0) × ((if b then done else left).con ≡ done.con)
+    by : (b : Bool) → eqb r 0 ≡ b → (when b then done else left).refused ≡ 0 → (r ≡ 0) × ((when b then done else left).con ≡ done.con)
     by true f g = (eqb-true r 0 f, refl)
     by false f g = absurd (eqb-false r 0 f (sym e ∙ g))
 
-none_before : (u x : ℕ) → (if leb 1 u and leb u 4 then u else x) ≡ 0 → before_links u ≡ 0
-unfolding before_links if◌then◌else◌
+none_before : (u x : ℕ) → (when leb 1 u and leb u 4 then u else x) ≡ 0 → before_links u ≡ 0
+unfolding before_links when◌then◌else◌
 none_before u x = by (leb 1 u and leb u 4) refl
   where
-    by : (b : Bool) → (leb 1 u and leb u 4) ≡ b → (if b then u else x) ≡ 0 → (if b then u else 0) ≡ 0
+    by : (b : Bool) → (leb 1 u and leb u 4) ≡ b → (when b then u else x) ≡ 0 → (when b then u else 0) ≡ 0
     by true f g = g
     by false f g = refl
 
 chosen_count : (r : ℕ) (done left : MendOutcome) → left.refused ≡ r
-    → (if eqb r 0 then done else left).refused ≡ 0 → (if eqb r 0 then done else left).count ≡ done.count
-unfolding if◌then◌else◌
+    → (when eqb r 0 then done else left).refused ≡ 0 → (when eqb r 0 then done else left).count ≡ done.count
+unfolding when◌then◌else◌
 chosen_count r done left e = by (eqb r 0) refl
   where
-    by : (b : Bool) → eqb r 0 ≡ b → (if b then done else left).refused ≡ 0 → (if b then done else left).count ≡ done.count
+    by : (b : Bool) → eqb r 0 ≡ b → (when b then done else left).refused ≡ 0 → (when b then done else left).count ≡ done.count
     by true f g = refl
     by false f g = absurd (eqb-false r 0 f (sym e ∙ g))
 
-none_full : (u : ℕ) (c : Bool) → (if leb 1 u and leb u 4 then u else if c then 27 else 0) ≡ 0 → c ≡ false
-unfolding if◌then◌else◌
+none_full : (u : ℕ) (c : Bool) → (when leb 1 u and leb u 4 then u else when c then 27 else 0) ≡ 0 → c ≡ false
+unfolding when◌then◌else◌
 none_full u c = by (leb 1 u and leb u 4) refl c
   where
-    by : (b : Bool) → (leb 1 u and leb u 4) ≡ b → (c : Bool) → (if b then u else if c then 27 else 0) ≡ 0 → c ≡ false
+    by : (b : Bool) → (leb 1 u and leb u 4) ≡ b → (c : Bool) → (when b then u else when c then 27 else 0) ≡ 0 → c ≡ false
     by true f c g = absurd (omega (arith, leb-true 1 u (both _ _ f).0))
     by false f true g = absurd (omega arith)
     by false f false g = refl

@@ -11,7 +11,7 @@ use lib.ListN.{length, get_or, set}
 use borrow.Author.Tests.{lt-ltb, le-ltb}
 use mir.Val.{Fits}
 use mir.Syntax.{w64}
-use Rattle.rules.specs.Base.{if◌then◌else◌}
+use Rattle.rules.specs.Base.{when◌then◌else◌}
 use Rattle.rules.specs.Field.{con_of}
 use Rattle.rules.specs.Mend.{stays, stays_at}
 use Rattle.laws.proofs.Basics.{in_list, get_d_any}
@@ -76,12 +76,12 @@ module _ (w h : ℕ) (is ks ar cs ch : List ℕ) (room k m : ℕ) (ok : Ready (l
     decides = rw (span_of s d l, way_of s d l, e) (sym f)
 
     pub step_stays : r ≡ true → state cs ch k ≡ step (ground w h is ks ar) room (4 * s + d) (state cs ch k)
-    unfolding step if◌then◌else◌
+    unfolding step when◌then◌else◌
     step_stays z = rw (decides, z)
 
     module _ (z : r ≡ false) where
       pub step_full : room ≤ k → state cs ch (k + 1) ≡ step (ground w h is ks ar) room (4 * s + d) (state cs ch k)
-      unfolding step if◌then◌else◌
+      unfolding step when◌then◌else◌
       step_full q = rw (decides, z, le-ltb k room q)
 
       module _ (q : k < room) where
@@ -90,7 +90,7 @@ module _ (w h : ℕ) (is ks ar cs ch : List ℕ) (room k m : ℕ) (ok : Ready (l
 
         pub step_made : (old : ℕ) (ch' : List ℕ) → old ≡ get_or cs (4 * s + d) 0 → ch' ≡ noted ch k s d old
             → state (set cs (4 * s + d) 255) ch' (k + 1) ≡ step (ground w h is ks ar) room (4 * s + d) (state cs ch k)
-        unfolding step if◌then◌else◌
+        unfolding step when◌then◌else◌
         step_made old ch' f p =
             let v : old ≡ get_or cs (4 * s + d) 255 = f ∙ get_d_any cs (4 * s + d) 0 255 link_room in
             rw (decides, z, lt-ltb k room q, span_of s d l, way_of s d l, ← v, p)

@@ -12,7 +12,7 @@ use lib.ListN.{length, get_or, set, drop, length-set, length-append}
 use lib.Seq.{get_or-set_same, get_or-set_other}
 use lib.Dec.{ltb}
 use borrow.Author.Tests.{le-ltb, ltb-false}
-use Rattle.rules.specs.Base.{if◌then◌else◌, tab}
+use Rattle.rules.specs.Base.{when◌then◌else◌, tab}
 use Rattle.rules.specs.Field.{Field, spans, con_of}
 use Rattle.rules.specs.Mend.{stays, stays_at, mended_at, mended_con, relinked, changes_to, changed_to, changes_of, changed}
 use Rattle.laws.proofs.Basics.{if-ind, upto-ind, tab-at, length-tab}
@@ -45,8 +45,8 @@ changed_rise F i (suc n) h =
     ]
 
 counts : (b : Bool) (cs ch : List ℕ) (n : ℕ) (x : State)
-    → (if b then state cs ch n else if ltb n 0 then x else state cs ch (n + 1)) ≡ state cs ch (if b then n else suc n)
-unfolding if◌then◌else◌
+    → (when b then state cs ch n else when ltb n 0 then x else state cs ch (n + 1)) ≡ state cs ch (when b then n else suc n)
+unfolding when◌then◌else◌
 counts true cs ch n x = refl
 counts false cs ch n x = rw (le-ltb n 0 (omega arith), add-one n)
 
@@ -60,8 +60,8 @@ module _ (w h : ℕ) (is ks ar cs ch : List ℕ) where
 -- ---------------------------------------------------------------- listing
 
 more : (b : Bool) (l : List ℕ) (n : ℕ) (x : ℕ × ℕ × ℕ) → length l ≡ 3 * n
-    → length (if b then l else l ++ (x.0 ∷ x.1 ∷ x.2 ∷ [])) ≡ 3 * (if b then n else suc n)
-unfolding if◌then◌else◌
+    → length (when b then l else l ++ (x.0 ∷ x.1 ∷ x.2 ∷ [])) ≡ 3 * (when b then n else suc n)
+unfolding when◌then◌else◌
 more true l n x e = e
 more false l n x e = length-append l (x.0 ∷ x.1 ∷ x.2 ∷ []) ∙ omega arith
 
@@ -128,7 +128,7 @@ module _ (F : Field) (ok : Celled F) (ch : List ℕ) (k : ℕ) (v : State) (g : 
 
   -- it stays
   written_same : stays_at F k ≡ true → Written F ch (suc k) v
-  unfolding changes_to changed_to mended_at if◌then◌else◌
+  unfolding changes_to changed_to mended_at when◌then◌else◌
   written_same e =
       record {
         long = g.long;
@@ -147,14 +147,14 @@ module _ (F : Field) (ok : Celled F) (ch : List ℕ) (k : ℕ) (v : State) (g : 
     here = omega (arith, g.long, ok.linked)
 
     written_notes : noted v.changes v.found (k / 4) (k % 4) (get_or v.con k 255) ≡ changes_to F (suc k) ++ drop (3 * changed_to F (suc k)) ch
-    unfolding changes_to changed_to noted if◌then◌else◌
+    unfolding changes_to changed_to noted when◌then◌else◌
     written_notes =
         let z : 3 * suc (changed_to F k) ≡ 3 * changed_to F k + 3 = omega arith in
         rw (e, z, g.notes, g.found, g.rest k (le_refl k))
         (noted_past (changes_to F k) ch (3 * changed_to F k) (k / 4) (k % 4) (get_or F.con k 255) (changes_length F k) room)
 
     written_made : Written F ch (suc k) made
-    unfolding changed_to mended_at if◌then◌else◌ made
+    unfolding changed_to mended_at when◌then◌else◌ made
     written_made =
         record {
           long = rw length-set g.long;
@@ -188,7 +188,7 @@ mended_is F l e f =
     f p g ∙ sym (tab-at (4 * spans F) 0 (mended_at F) p 255 g ∙ ap (mended_at F) (let z : 0 + p ≡ p = omega arith in z)))
 
 changed_more : (F : Field) (k : ℕ) → stays_at F k ≡ false → changed_to F (suc k) ≡ suc (changed_to F k)
-unfolding changed_to if◌then◌else◌
+unfolding changed_to when◌then◌else◌
 changed_more F k e = rw e
 
 written-state : (F : Field) (ch : List ℕ) (k : ℕ) (v : State) → Written F ch k v → k ≡ 4 * spans F → length F.con ≡ 4 * spans F

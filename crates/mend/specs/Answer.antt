@@ -1,6 +1,6 @@
 -- The numbers of the entry's answer, and the answer as the rule has it.
 use Rattle.std.specs.Prelude.{Bool, true, false, List, ℕ, leb}
-use Rattle.rules.specs.Base.{◌and◌, if◌then◌else◌}
+use Rattle.rules.specs.Base.{◌and◌, when◌then◌else◌}
 use Rattle.rules.specs.Mend.{MendOutcome}
 use Rattle.checker.specs.Answer.{number_of}
 use Rattle.checker.specs.declared.Refusal.{Refusal}
@@ -39,4 +39,4 @@ past_cells NoSum = true
 
 -- refusals 1 to 4 as they are, 0 for the others and for none
 unfoldable pub before_links : ℕ → ℕ
-before_links r = if leb 1 r and leb r 4 then r else 0
+before_links r = when leb 1 r and leb r 4 then r else 0

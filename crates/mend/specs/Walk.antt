@@ -1,6 +1,6 @@
 -- The mending as the code goes: connection by connection, each decided by the connections as they then are.
 use Rattle.std.specs.Prelude.{ℕ, ◌+◌, ◌*◌, ◌/◌, ◌%◌, ◌≤◌, List, [], length, get_or, set, ltb}
-use Rattle.rules.specs.Base.{if◌then◌else◌, upto}
+use Rattle.rules.specs.Base.{when◌then◌else◌, upto}
 use Rattle.rules.specs.Field.{Field}
 use Rattle.rules.specs.Mend.{relinked, stays_at}
 use Rattle.rules.specs.Refusals.{most_spans}
@@ -26,8 +26,8 @@ noted l k s d old = set (set (set l (3 * k) s) (3 * k + 1) d) (3 * k + 2) old
 -- connection number i: where it does not stay it is one more change, which is made and noted if it is among the first `room`
 unfoldable pub step : Field → ℕ → ℕ → State → State
 step G room i v =
-    if stays_at (relinked G v.con) i then v else
-    if ltb v.found room
+    when stays_at (relinked G v.con) i then v else
+    when ltb v.found room
     then state (set v.con i 255) (noted v.changes v.found (i / 4) (i % 4) (get_or v.con i 255)) (v.found + 1)
     else state v.con v.changes (v.found + 1)
 

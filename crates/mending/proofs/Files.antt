@@ -6,7 +6,7 @@ use mathlib.Core.Path.{◌≡◌, sym, ap, subst, ◌∙◌}
 use mathlib.Core.List.{List}
 use lib.ListN.{length}
 use borrow.Author.Tests.{ne_eqb}
-use Rattle.rules.specs.Base.{if◌then◌else◌}
+use Rattle.rules.specs.Base.{when◌then◌else◌}
 use Rattle.rules.specs.Field.{Field}
 use Rattle.rules.specs.File.{read_file}
 use Rattle.rules.specs.Mend.{mend_outcome}
@@ -31,16 +31,16 @@ module _ (F : Field) (changes bytes con l : List ℕ) (a : MendAnswer) (e : outc
 
   pub field_refused : (r : Refusal) → a ≡ mend.Refused r → (k : ℕ) → k ≡ number_of r
       → ◌≡◌ {A = MendedFile} (record { number = k; bytes = bytes }) (field_mended F changes bytes)
-  unfolding field_mended if◌then◌else◌
+  unfolding field_mended when◌then◌else◌
   field_refused r z k f = rw (as_case (mend.Refused r) z, ne_eqb (number_of r) 0 (λ x. omega (arith, number_pos r)), f)
 
   pub field_full : a ≡ mend.NoRoom → ◌≡◌ {A = MendedFile} (record { number = 27; bytes = bytes }) (field_mended F changes bytes)
-  unfolding field_mended if◌then◌else◌
+  unfolding field_mended when◌then◌else◌
   field_full z = rw (as_case mend.NoRoom z)
 
   pub field_made : (k : ℕ) → a ≡ mend.Done k → (bytes' : List ℕ) → bytes' ≡ bytes_mended F.count l k bytes
       → ◌≡◌ {A = MendedFile} (record { number = 0; bytes = bytes' }) (field_mended F changes bytes)
-  unfolding field_mended if◌then◌else◌
+  unfolding field_mended when◌then◌else◌
   field_made k z bytes' f = rw (as_case (mend.Done k) z, f)
 
 module _ (bytes changes is ks ar cs is' ks' ar' cs' : List ℕ) (x : FileReading) (b : Reads bytes is ks ar cs x is' ks' ar' cs') where

@@ -6,7 +6,7 @@ use mathlib.Core.Path.{◌≡◌, refl, sym, ap, ◌∙◌}
 use mathlib.Core.List.{List, [], ◌∷◌}
 use lib.ListN.{length, get_or, drop, drop_of_length-le}
 use borrow.Author.Tests.{lt-ltb, le-ltb}
-use Rattle.rules.specs.Base.{if◌then◌else◌}
+use Rattle.rules.specs.Base.{when◌then◌else◌}
 use Rattle.rules.specs.Field.{cell_of}
 use Rattle.mending.specs.Patch.{layer_of}
 
@@ -17,19 +17,19 @@ drop_here (x ∷ l) (suc c) h = let p : suc c + 1 ≡ suc (c + 1) = omega arith 
 
 -- the first cell of those that are left has it, or not
 cell_here : (k left : ℕ) (ks : List ℕ) → left < k → cell_of (k ∷ ks) left ≡ 0
-unfolding cell_of if◌then◌else◌
+unfolding cell_of when◌then◌else◌
 cell_here k left ks h = rw (lt-ltb left k h)
 
 cell-not : (k left : ℕ) (ks : List ℕ) → k ≤ left → cell_of (k ∷ ks) left ≡ suc (cell_of ks (left - k))
-unfolding cell_of if◌then◌else◌
+unfolding cell_of when◌then◌else◌
 cell-not k left ks h = rw (le-ltb left k h)
 
 layer_here : (k left : ℕ) (ks : List ℕ) → left < k → layer_of (k ∷ ks) left ≡ left
-unfolding layer_of if◌then◌else◌
+unfolding layer_of when◌then◌else◌
 layer_here k left ks h = rw (lt-ltb left k h)
 
 layer_not : (k left : ℕ) (ks : List ℕ) → k ≤ left → layer_of (k ∷ ks) left ≡ layer_of ks (left - k)
-unfolding layer_of if◌then◌else◌
+unfolding layer_of when◌then◌else◌
 layer_not k left ks h = rw (le-ltb left k h)
 
 cell-none : (left : ℕ) → cell_of [] left ≡ 0

@@ -1,6 +1,6 @@
 -- The mended file: the same bytes, with the connections that were changed set to none; and what is made of any bytes.
 use Rattle.std.specs.Prelude.{ℕ, ◌+◌, ◌-◌, ◌*◌, ◌≤◌, List, [], ◌∷◌, length, get_or, set, eqb, ltb}
-use Rattle.rules.specs.Base.{if◌then◌else◌, upto}
+use Rattle.rules.specs.Base.{when◌then◌else◌, upto}
 use Rattle.rules.specs.Field.{Field, cell_of}
 use Rattle.rules.specs.File.{Reading, refused, described, read_file}
 use Rattle.rules.specs.Mend.{mend_outcome}
@@ -10,7 +10,7 @@ use Rattle.mending.specs.declared.whole.Filed.TheVariants.{Refused, Made}
 -- the layer of span s in its cell, the spans being laid out cell by cell
 unfoldable pub layer_of : List ℕ → ℕ → ℕ
 layer_of [] s = s
-layer_of (k ∷ ks) s = let rest = layer_of ks (s - k) in if ltb s k then s else rest
+layer_of (k ∷ ks) s = let rest = layer_of ks (s - k) in when ltb s k then s else rest
 
 -- "1 header (.. 10 bytes), 2 cell (.. 1 byte), 3 span (area, four connections: 5 bytes) .. header, each cell followed by its spans": where connection d
 -- of span s stands, after the header, its cell and those before it, the spans before it, its kind and its area
@@ -36,7 +36,7 @@ pub record MendedFile : Type 0 where
 unfoldable pub field_mended : Field → List ℕ → List ℕ → MendedFile
 field_mended F changes bytes =
     let o = mend_outcome F changes in
-    if eqb o.refused 0
+    when eqb o.refused 0
     then record { number = 0; bytes = bytes_mended F.count o.changes o.count bytes }
     else record { number = o.refused; bytes = bytes }
 

@@ -9,7 +9,7 @@ use mathlib.Core.List.{List, []}
 use lib.ListN.{drop_of_length-le, length, get_or, drop}
 use lib.Seq.{drop-cons}
 use borrow.Author.Tests.{eq-eqb, ne_eqb, lt-ltb, le-ltb, le-leb, lt-leb}
-use Rattle.rules.specs.Base.{if◌then◌else◌, ◌and◌}
+use Rattle.rules.specs.Base.{when◌then◌else◌, ◌and◌}
 use Rattle.rules.specs.Records.{Rec, at}
 use Rattle.rules.specs.Merge.{Pick}
 use Rattle.table.specs.View.{list_at, rec_at, view, Under, Held}
@@ -46,16 +46,16 @@ module _ (ws : List ℕ) (m s t i j size : ℕ) where
 
 module _ (ws : List ℕ) (m s t i r : ℕ) (p : Pick) where
   pub pick-flagged : 32768 ≤ r → p ≡ pick_one (view ws m s t) (rec_at ws m s t i) r (rec_at ws m s t r) p
-  unfolding pick_one if◌then◌else◌
+  unfolding pick_one when◌then◌else◌
   pick-flagged h = rw (le-leb 32768 r h)
 
   module _ (h : r < 32768) (b : Bool) (q : b ≡ better (view ws m s t) (rec_at ws m s t i) (rec_at ws m s t r) p.size) where
     pub pick-stays : b ≡ false → p ≡ pick_one (view ws m s t) (rec_at ws m s t i) r (rec_at ws m s t r) p
-    unfolding pick_one if◌then◌else◌
+    unfolding pick_one when◌then◌else◌
     pick-stays z = rw (lt-leb 32768 r h, ← q, z)
 
     pub pick_moves : b ≡ true → (n : ℕ) → n ≡ get_or ws (m + r) 0 → ◌≡◌ {A = Pick} (record { size = n; id = get_or ws r 0 }) (pick_one (view ws m s t) (rec_at ws m s t i) r (rec_at ws m s t r) p)
-    unfolding pick_one if◌then◌else◌
+    unfolding pick_one when◌then◌else◌
     pick_moves z n e = rw (lt-leb 32768 r h, ← q, z) (rec_pick ws m s t r n e)
 
 module _ (ws : List ℕ) (m s t r : ℕ) (held : Held m s t ws) (f : r < 32768 → r < m) (h : r < 32768) where
@@ -74,7 +74,7 @@ module _ (ws : List ℕ) (m s t r : ℕ) (held : Held m s t ws) (f : r < 32768 �
 -- ---- all of the list
 
 skip : (rs : List Rec) (a : Rec) (r : ℕ) (b : Rec) (p : Pick) → 32768 ≤ r → p ≡ pick_one rs a r b p
-unfolding pick_one if◌then◌else◌
+unfolding pick_one when◌then◌else◌
 skip rs a r b p h = rw (le-leb 32768 r h)
 
 module _ (ws : List ℕ) (m s t i k : ℕ) (l : List ℕ) (held : Held m s t ws) (g : i < m) (e : l ≡ list_at ws m s i) (h : k < length l) where

@@ -10,7 +10,7 @@ use lib.ListN.{length, get_or, set, take, drop, length-set}
 use lib.Seq.{length-take-le, take_at, drop_at, take-set-le, get_or-take, get_or-drop, get_or-set_same, get_or-set_other}
 use lib.Dec.{eqb}
 use borrow.Author.Tests.{eq-eqb, ne_eqb}
-use Rattle.rules.specs.Base.{if◌then◌else◌, upto}
+use Rattle.rules.specs.Base.{when◌then◌else◌, upto}
 use Rattle.rules.specs.Records.{Rec, at}
 use Rattle.rules.specs.Merge.{Merge, merge_one}
 use Rattle.rules.specs.Reasons.{Merging, gone_with, merge_tells, round_merges, mergings}
@@ -71,12 +71,12 @@ merging_eq : {a b c d : ℕ} → a ≡ c → b ≡ d → ◌≡◌ {A = Merging}
 merging_eq p q = rw (p, q)
 
 tells_none : (area i : ℕ) (g : Merge) (l : List Merging) → (merge_one_f area i g).merges ≡ g.merges → tells_f area i g l ≡ l
-unfolding tells_f if◌then◌else◌
+unfolding tells_f when◌then◌else◌
 tells_none area i g l e = rw (eq-eqb _ _ e)
 
 tells_some : (area i : ℕ) (g : Merge) (l : List Merging) → ((merge_one_f area i g).merges ≡ g.merges → ⊥)
     → tells_f area i g l ≡ l ++ (record { old = (at g.recs i).id; new = (at (merge_one_f area i g).recs i).id } ∷ [])
-unfolding tells_f if◌then◌else◌
+unfolding tells_f when◌then◌else◌
 tells_some area i g l e = rw (ne_eqb _ _ e)
 
 -- ---------------------------------------------------------------- one record
@@ -213,11 +213,11 @@ still_tells area (suc k) g l e =
 module _ (area k : ℕ) (rs : List Rec) (l : List Merging) where
   tells_more : ((upto (length rs) (merge_one_f area) (record { recs = rs; merges = 0 })).merges ≡ 0 → ⊥)
       → mergings_f area (suc k) rs l ≡ mergings_f area k (upto (length rs) (merge_one_f area) (record { recs = rs; merges = 0 })).recs (round_merges_f area (length rs) (record { recs = rs; merges = 0 }) l)
-  unfolding mergings_f if◌then◌else◌
+  unfolding mergings_f when◌then◌else◌
   tells_more n = rw (ne_eqb _ 0 n)
 
   tells_last : (upto (length rs) (merge_one_f area) (record { recs = rs; merges = 0 })).merges ≡ 0 → mergings_f area (suc k) rs l ≡ l
-  unfolding mergings_f if◌then◌else◌
+  unfolding mergings_f when◌then◌else◌
   tells_last n = rw (eq-eqb _ 0 n)
 
 -- before each round
@@ -295,7 +295,7 @@ module _ (area m end : ℕ) (ws₀ ws : List ℕ) (half : Half) (count : ℕ) (v
 
 -- ---------------------------------------------------------------- the rule's records
 
-if-same : (b c : Bool) (x y z w : List Merging) → b ≡ c → x ≡ z → y ≡ w → (if b then x else y) ≡ (if c then z else w)
+if-same : (b c : Bool) (x y z w : List Merging) → b ≡ c → x ≡ z → y ≡ w → (when b then x else y) ≡ (when c then z else w)
 if-same b c x y z w p q r = rw (p, q, r)
 
 tells_alike : (area i : ℕ) (g h : Merge) → Both g h → (l : List Merging) → merge_tells area i g l ≡ tells_f area i h l

@@ -9,7 +9,7 @@ use mathlib.Core.List.{List}
 use lib.ListN.{length, get_or}
 use lib.Dec.{eqb}
 use borrow.Author.Tests.{eq-eqb, ne_eqb, eqb-false, lt-ltb, le-ltb, not-true}
-use Rattle.rules.specs.Base.{◌and◌, ◌or◌, if◌then◌else◌, any, upto}
+use Rattle.rules.specs.Base.{◌and◌, ◌or◌, when◌then◌else◌, any, upto}
 use Rattle.rules.specs.Records.{Rec, at, has}
 use Rattle.rules.specs.Merge.{Pick, place, Merge, merge_one}
 use Rattle.laws.proofs.Basics.{neither, if-ind, upto_next, and_both}
@@ -88,14 +88,14 @@ module _ (ws : List ℕ) (m area i : ℕ) where
 pub place_is : (ws l : List ℕ) (m i r k : ℕ) → l ≡ list_at ws m (7 * m) i → k ≡ place l r → k ≡ place (list_at ws m (7 * m) i) r
 place_is ws l m i r k q e = e ∙ ap (λ (x : List ℕ). place x r) q
 
-not_both : (a b : Bool) (g x : Merge) → (a ≡ false) ⊎ (b ≡ false) → g ≡ (if not (a and b) then g else x)
-unfolding ◌and◌ if◌then◌else◌
+not_both : (a b : Bool) (g x : Merge) → (a ≡ false) ⊎ (b ≡ false) → g ≡ (when not (a and b) then g else x)
+unfolding ◌and◌ when◌then◌else◌
 not_both false b g x e = refl
 not_both true false g x e = refl
 not_both true true g x e = ⊎_elim (λ (p : true ≡ false). absurd (true≢false p)) (λ (p : true ≡ false). absurd (true≢false p)) e
 
-is_both : (a b : Bool) (g x : Merge) → a ≡ true → b ≡ true → x ≡ (if not (a and b) then g else x)
-unfolding ◌and◌ if◌then◌else◌
+is_both : (a b : Bool) (g x : Merge) → a ≡ true → b ≡ true → x ≡ (when not (a and b) then g else x)
+unfolding ◌and◌ when◌then◌else◌
 is_both a b g x p q = rw (p, q)
 
 merge_eq : (a a' : List Rec) (b b' : ℕ) → a ≡ a' → b ≡ b' → ◌≡◌ {A = Merge} (record { recs = a; merges = b }) (record { recs = a'; merges = b' })
@@ -157,24 +157,24 @@ module _ (m p h o i n : ℕ) (ws : List ℕ) (P : Pool m p h o ws) (hi : i < m) 
 
 -- ---- a record's turn
 
-turn_by : (a b c d e : Bool) (t u : Bool) (g x : Merge) → not (a or b or c or d) ≡ false → g ≡ (if a or b or c or d or e or not (t and u) then g else x)
-unfolding ◌or◌ if◌then◌else◌
+turn_by : (a b c d e : Bool) (t u : Bool) (g x : Merge) → not (a or b or c or d) ≡ false → g ≡ (when a or b or c or d or e or not (t and u) then g else x)
+unfolding ◌or◌ when◌then◌else◌
 turn_by true b c d e t u g x h = refl
 turn_by false true c d e t u g x h = refl
 turn_by false false true d e t u g x h = refl
 turn_by false false false true e t u g x h = refl
 turn_by false false false false e t u g x h = absurd (true≢false h)
 
-turn-same : (a b c d e : Bool) (t u : Bool) (g x : Merge) → e ≡ true → g ≡ (if a or b or c or d or e or not (t and u) then g else x)
-unfolding ◌or◌ if◌then◌else◌
+turn-same : (a b c d e : Bool) (t u : Bool) (g x : Merge) → e ≡ true → g ≡ (when a or b or c or d or e or not (t and u) then g else x)
+unfolding ◌or◌ when◌then◌else◌
 turn-same true b c d e t u g x h = refl
 turn-same false true c d e t u g x h = refl
 turn-same false false true d e t u g x h = refl
 turn-same false false false true e t u g x h = refl
 turn-same false false false false e t u g x h = rw h
 
-turn_go : (a b c d e : Bool) (t u : Bool) (g x y : Merge) → not (a or b or c or d) ≡ true → e ≡ false → y ≡ (if not (t and u) then g else x) → y ≡ (if a or b or c or d or e or not (t and u) then g else x)
-unfolding ◌or◌ if◌then◌else◌
+turn_go : (a b c d e : Bool) (t u : Bool) (g x y : Merge) → not (a or b or c or d) ≡ true → e ≡ false → y ≡ (when not (t and u) then g else x) → y ≡ (when a or b or c or d or e or not (t and u) then g else x)
+unfolding ◌or◌ when◌then◌else◌
 turn_go true b c d e t u g x y h z q = absurd (false≢true h)
 turn_go false true c d e t u g x y h z q = absurd (false≢true h)
 turn_go false false true d e t u g x y h z q = absurd (false≢true h)
@@ -295,11 +295,11 @@ round_still area (suc k) g e =
 
 merged_more : (area k : ℕ) (rs : List Rec) → ((upto (length rs) (merge_one_f area) (record { recs = rs; merges = 0 })).merges ≡ 0 → ⊥)
     → merged_f area (suc k) rs ≡ merged_f area k (upto (length rs) (merge_one_f area) (record { recs = rs; merges = 0 })).recs
-unfolding merged_f if◌then◌else◌
+unfolding merged_f when◌then◌else◌
 merged_more area k rs n = rw (ne_eqb _ 0 n)
 
 merged-last : (area k : ℕ) (rs : List Rec) → (upto (length rs) (merge_one_f area) (record { recs = rs; merges = 0 })).merges ≡ 0 → merged_f area (suc k) rs ≡ rs
-unfolding merged_f if◌then◌else◌
+unfolding merged_f when◌then◌else◌
 merged-last area k rs n = rw (eq-eqb _ 0 n)
 
 -- before each round

@@ -1,6 +1,6 @@
 -- Merges noted in their order, from a place on past the records. The rule's tellings, over records with floors that stay: those bear the same ids.
 use Rattle.std.specs.Prelude.{ℕ, zero, suc, ◌+◌, ◌*◌, ◌≤◌, ◌≡◌, List, [], ◌∷◌, ◌++◌, length, get_or, take, drop, eqb}
-use Rattle.rules.specs.Base.{if◌then◌else◌, upto}
+use Rattle.rules.specs.Base.{when◌then◌else◌, upto}
 use Rattle.rules.specs.Records.{Rec, at}
 use Rattle.rules.specs.Filter.{filtered}
 use Rattle.rules.specs.Merge.{Merge, merged}
@@ -26,7 +26,7 @@ mergings_at ws b (suc k) = mergings_at ws b k ++ (record { old = get_or ws (b + 
 unfoldable pub tells_f : ℕ → ℕ → Merge → List Merging → List Merging
 tells_f area i g l =
     let g' = merge_one_f area i g in
-    if eqb g'.merges g.merges then l else l ++ (record { old = (at g.recs i).id; new = (at g'.recs i).id } ∷ [])
+    when eqb g'.merges g.merges then l else l ++ (record { old = (at g.recs i).id; new = (at g'.recs i).id } ∷ [])
 
 unfoldable pub round_merges_f : ℕ → ℕ → Merge → List Merging → List Merging
 round_merges_f area zero g l = l
@@ -38,7 +38,7 @@ mergings_f area (suc k) rs l =
     let start : Merge = record { recs = rs; merges = 0 } in
     let g = upto (length rs) (merge_one_f area) start in
     let rest = mergings_f area k g.recs (round_merges_f area (length rs) start l) in
-    if eqb g.merges 0 then l else rest
+    when eqb g.merges 0 then l else rest
 
 -- the records before `end`, with so many merges in the round
 abbrev pub merge_at : ℕ → ℕ → List ℕ → ℕ → Merge

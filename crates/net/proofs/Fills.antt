@@ -15,7 +15,7 @@ use lib.Seq.{get_or-set_same, get_or-set_other, ext_get_or}
 use Rattle.rules.specs.Field.{Field, near, con_of}
 use Rattle.rules.specs.Net.{neighbours_of, net_of}
 use Rattle.rules.specs.Net as net
-use Rattle.rules.specs.Base.{if◌then◌else◌, upto}
+use Rattle.rules.specs.Base.{when◌then◌else◌, upto}
 use Rattle.laws.proofs.Basics.{tab-at, upto-ind}
 use Rattle.laws.proofs.Nets.{neighbours_length, near_net}
 use Rattle.laws.proofs.Cells.{near_none, passed}
@@ -189,7 +189,7 @@ lead_is F w is cons c s d v h =
 
 module _ (w : ℕ) (is cons : List ℕ) (c d : ℕ) (x : SomeLeaf w is cons c) (h : d < 4) where
   pub lead_none : get_or cons d 0 ≡ 255 → 65535 ≡ lead_at w is cons c d
-  unfolding lead_at if◌then◌else◌
+  unfolding lead_at when◌then◌else◌
   lead_none z = rw (eq-eqb _ _ z)
 
   module _ (r : ℕ) (e : (F : Field) (s : ℕ) → Leaf F w is cons c s → r ≡ near F s d) where

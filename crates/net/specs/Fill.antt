@@ -1,11 +1,11 @@
 -- The table as it is filled, span by span.
 use Rattle.std.specs.Prelude.{ℕ, zero, suc, ◌+◌, ◌*◌, List, get_or, set, eqb}
-use Rattle.rules.specs.Base.{if◌then◌else◌, upto}
+use Rattle.rules.specs.Base.{when◌then◌else◌, upto}
 use Rattle.rules.specs.Field.{Field, none, cell_to, near}
 
 -- where the connection in direction d leads, of a span in cell c that has the connections cons
 unfoldable pub lead_at : ℕ → List ℕ → List ℕ → ℕ → ℕ → ℕ
-lead_at w index cons c d = if eqb (get_or cons d 0) 255 then none else get_or index (cell_to w c d) 0 + get_or cons d 0
+lead_at w index cons c d = when eqb (get_or cons d 0) 255 then none else get_or index (cell_to w c d) 0 + get_or cons d 0
 
 -- the four neighbours of span s in their places
 unfoldable pub filled_at : Field → ℕ → ℕ → List ℕ → List ℕ

@@ -11,7 +11,7 @@ use lib.ListN.{length, get_or, set, take, length-append}
 use lib.Seq.{take-suc, get_or-set_same, get_or-set_other, get_or-take}
 use lib.Dec.{eqb}
 use borrow.Author.Tests.{eq-eqb, ne_eqb, le-leb, lt-leb}
-use Rattle.rules.specs.Base.{◌or◌, if◌then◌else◌, any, many}
+use Rattle.rules.specs.Base.{◌or◌, when◌then◌else◌, any, many}
 use Rattle.rules.specs.Records.{has, once}
 use Rattle.rules.specs.Merge.{place}
 use Rattle.rules.specs.Numbering.{number_of}
@@ -44,11 +44,11 @@ place_in (x ∷ l) r v h =
     ]
 
 num_in_yes : (l : List ℕ) (v : ℕ) → has l v ≡ true → num_in l v ≡ suc (place l v)
-unfolding num_in if◌then◌else◌
+unfolding num_in when◌then◌else◌
 num_in_yes l v h = rw h
 
 num_in_no : (l : List ℕ) (v : ℕ) → has l v ≡ false → num_in l v ≡ 0
-unfolding num_in if◌then◌else◌
+unfolding num_in when◌then◌else◌
 num_in_no l v h = rw h
 
 num_in-same : (l : List ℕ) (r : ℕ) → has l r ≡ false → num_in (l ++ (r ∷ [])) r ≡ suc (length l)
@@ -64,19 +64,19 @@ num_in-other l r v n =
 -- ---- a record more
 
 step_zero : (l : List ℕ) (r : ℕ) → r ≡ 0 → step_live l r ≡ l
-unfolding step_live if◌then◌else◌
+unfolding step_live when◌then◌else◌
 step_zero l r e = rw (eq-eqb r 0 e)
 
 step_old : (l : List ℕ) (r : ℕ) → has l r ≡ true → step_live l r ≡ l
-unfolding step_live once if◌then◌else◌
+unfolding step_live once when◌then◌else◌
 step_old l r h = go (eqb r 0) h
   where
-    go : (b : Bool) → has l r ≡ true → (if b then l else if has l r then l else l ++ (r ∷ [])) ≡ l
+    go : (b : Bool) → has l r ≡ true → (when b then l else when has l r then l else l ++ (r ∷ [])) ≡ l
     go true h = refl
     go false h = rw h
 
 step_new : (l : List ℕ) (r : ℕ) → (r ≡ 0 → ⊥) → has l r ≡ false → step_live l r ≡ l ++ (r ∷ [])
-unfolding step_live once if◌then◌else◌
+unfolding step_live once when◌then◌else◌
 step_new l r n h = rw (ne_eqb r 0 n, h)
 
 pub column_in : (m b : ℕ) (ws : List ℕ) (i r : ℕ) → Column m b ws → i < m → r ≡ get_or ws i 0 → b + r < length ws
@@ -118,7 +118,7 @@ live_end [] x l = refl
 live_end (y ∷ xs) x l = live_end xs x (step_live l y)
 
 num_in_empty : (v : ℕ) → 0 ≡ num_in [] v
-unfolding num_in any if◌then◌else◌
+unfolding num_in any when◌then◌else◌
 num_in_empty v = refl
 
 pub numbers_start : (m b : ℕ) (ws : List ℕ) → Blank m b ws → Numbers m b ws (live_ids (take 0 ws) []) 0
@@ -192,7 +192,7 @@ none_empty = refl
 
 -- the table gives what the rule gives
 num_in_is : (rids : List ℕ) (r : ℕ) → num_in (live_ids rids []) (get_or rids r 0) ≡ number_of (live_ids rids []) (get_or rids r 0)
-unfolding number_of if◌then◌else◌
+unfolding number_of when◌then◌else◌
 num_in_is rids r =
     elim (ℕ_discrete (get_or rids r 0) 0) [
       | yes e ↦ rw (e) (num_in_no (live_ids rids []) 0 (live-none rids [] none_empty))
@@ -200,12 +200,12 @@ num_in_is rids r =
     ]
 
 pub flagged-stays : (rids : List ℕ) (r : ℕ) → 32768 ≤ r → r ≡ renumber rids r
-unfolding renumber if◌then◌else◌
+unfolding renumber when◌then◌else◌
 flagged-stays rids r h = rw (le-leb 32768 r h)
 
 pub new_id : (m b : ℕ) (ws : List ℕ) (r i : ℕ) → Column m b ws → Stand m b ws (live_ids (take m ws) []) → (r < 32768 → r < m) → r < 32768 → i ≡ get_or ws r 0
     → get_or ws (b + i) 0 ≡ renumber (take m ws) r
-unfolding renumber if◌then◌else◌
+unfolding renumber when◌then◌else◌
 new_id m b ws r i c k f h e =
     let q : i ≡ get_or (take m ws) r 0 = e ∙ sym (get_or-take m ws r 0 (f h)) in
     rw (lt-leb 32768 r h) (k.marks i (rw e (c.ids r (f h))) ∙ ap (num_in (live_ids (take m ws) [])) q ∙ num_in_is (take m ws) r ∙ refl)
@@ -213,7 +213,7 @@ new_id m b ws r i c k f h e =
 -- ---- how many are not 0
 
 pub nonzero_is : (l : List ℕ) → many (eqb 0) l + nonzero l ≡ length l
-unfolding many nonzero if◌then◌else◌
+unfolding many nonzero when◌then◌else◌
 nonzero_is [] = refl
 nonzero_is (x ∷ l) = elim (ℕ_discrete x 0) [
   | yes h ↦ rw (eq-eqb 0 x (sym h), eq-eqb x 0 h) (omega (arith, nonzero_is l))

@@ -7,7 +7,7 @@ use mathlib.Core.List.{List, [], ◌∷◌, map}
 use lib.ListN.{length, get_or, take, drop, get_or-map}
 use lib.Seq.{drop-cons, take-take}
 use lib.Dec.{eqb}
-use Rattle.rules.specs.Base.{if◌then◌else◌, tab}
+use Rattle.rules.specs.Base.{when◌then◌else◌, tab}
 use Rattle.rules.specs.Growth.{flagged}
 use Rattle.rules.specs.Records.{Rec, at, fresh, once}
 use Rattle.rules.specs.Numbering.{live, overlaps, cuts, number_of, numbered, Regions}
@@ -21,7 +21,7 @@ use Rattle.pool.proofs.HasLaws.{regions_eq, map_same}
 live_is : (rs : List Rec) (l : List ℕ) → live rs l ≡ live_ids (map (λ (r : Rec). r.id) rs) l
 unfolding live live_ids step_live
 live_is [] l = refl
-live_is (r ∷ rs) l = live_is rs (if eqb r.id 0 then l else once l r.id)
+live_is (r ∷ rs) l = live_is rs (when eqb r.id 0 then l else once l r.id)
 
 -- a column is a part
 column_is : (n k a : ℕ) (ws : List ℕ) → a + k + n ≤ length ws → tab n k (λ r. get_or ws (a + r) 0) ≡ take n (drop (a + k) ws)
@@ -32,11 +32,11 @@ column_is (suc n) k a ws h =
     let e : a + suc k ≡ suc (a + k) = omega arith in
     rw (drop-cons ws (a + k) 0 w) (ap (λ (l : List ℕ). get_or ws (a + k) 0 ∷ l) (rw e at (column_is n (suc k) a ws (omega arith))))
 
-over_by : (x n y z : ℕ) → y ≡ z → (if not (eqb x 0) then suc y else y) ≡ (if eqb x 0 then z else suc z)
-unfolding if◌then◌else◌
+over_by : (x n y z : ℕ) → y ≡ z → (when not (eqb x 0) then suc y else y) ≡ (when eqb x 0 then z else suc z)
+unfolding when◌then◌else◌
 over_by x n y z e = go (eqb x 0) e
   where
-    go : (b : Bool) → y ≡ z → (if not b then suc y else y) ≡ (if b then z else suc z)
+    go : (b : Bool) → y ≡ z → (when not b then suc y else y) ≡ (when b then z else suc z)
     go true e = e
     go false e = ap suc e
 
@@ -81,7 +81,7 @@ module _ (ws : List ℕ) (m s t : ℕ) (h : 16 * m ≤ length ws) where
   lives_are : live (view ws m s t) [] ≡ live_ids (take m ws) []
   lives_are = live_is (view ws m s t) [] ∙ ap (λ (q : List ℕ). live_ids q []) ids_are
 
-  span_is_lem : (r : ℕ) → (if flagged r then r else number_of (live (view ws m s t) []) (at (view ws m s t) r).id) ≡ renumber (take m ws) r
+  span_is_lem : (r : ℕ) → (when flagged r then r else number_of (live (view ws m s t) []) (at (view ws m s t) r).id) ≡ renumber (take m ws) r
   unfolding renumber
   span_is_lem r = rw (lives_are, id_at_lem (view ws m s t) r, ids_are) refl
 

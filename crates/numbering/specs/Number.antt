@@ -1,6 +1,6 @@
 -- Numbering, on columns: the records' present ids are the m numbers from 0 on, the numbers given stand at b.
 use Rattle.std.specs.Prelude.{ℕ, suc, ◌+◌, ◌≤◌, ◌<◌, ◌≡◌, List, [], ◌∷◌, map, length, get_or, take, eqb}
-use Rattle.rules.specs.Base.{if◌then◌else◌}
+use Rattle.rules.specs.Base.{when◌then◌else◌}
 use Rattle.rules.specs.Growth.{flagged}
 use Rattle.rules.specs.Records.{once, has}
 use Rattle.rules.specs.Merge.{place}
@@ -9,7 +9,7 @@ use Rattle.table.specs.Map.{Names}
 
 -- live ids so far, and one record more
 unfoldable pub step_live : List ℕ → ℕ → List ℕ
-step_live l r = if eqb r 0 then l else once l r
+step_live l r = when eqb r 0 then l else once l r
 
 unfoldable pub live_ids : List ℕ → List ℕ → List ℕ
 live_ids [] l = l
@@ -17,16 +17,16 @@ live_ids (r ∷ rs) l = live_ids rs (step_live l r)
 
 -- the number of an id, 0 where it has none yet
 unfoldable pub num_in : List ℕ → ℕ → ℕ
-num_in l v = if has l v then suc (place l v) else 0
+num_in l v = when has l v then suc (place l v) else 0
 
 -- a span's id after numbering
 unfoldable pub renumber : List ℕ → ℕ → ℕ
-renumber ids r = if flagged r then r else number_of (live_ids ids []) (get_or ids r 0)
+renumber ids r = when flagged r then r else number_of (live_ids ids []) (get_or ids r 0)
 
 -- how many are not 0
 unfoldable pub nonzero : List ℕ → ℕ
 nonzero [] = 0
-nonzero (x ∷ l) = if eqb x 0 then nonzero l else suc (nonzero l)
+nonzero (x ∷ l) = when eqb x 0 then nonzero l else suc (nonzero l)
 
 unfoldable pub numbered_by : List ℕ → List ℕ → List ℕ → List ℕ → Regions
 numbered_by rids overs marks ids =

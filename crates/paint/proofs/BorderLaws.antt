@@ -10,7 +10,7 @@ use lib.ListN.{length, get_or, replicate, length-replicate, get_or-replicate}
 use lib.Seq.{ext_get_or}
 use lib.Dec.{eqb, leb, ltb}
 use borrow.Author.Tests.{ne_eqb, eq-eqb, le-leb, lt-ltb, leb-true, ltb-true}
-use Rattle.rules.specs.Base.{◌and◌, if◌then◌else◌, tab}
+use Rattle.rules.specs.Base.{◌and◌, when◌then◌else◌, tab}
 use Rattle.rules.specs.Field.{Field, spans, cell_of}
 use Rattle.rules.specs.Net.{area_of}
 use Rattle.rules.specs.Growth.{walkable, paint_of, painted, first_id}
@@ -47,14 +47,14 @@ module _ (w h b : ℕ) (count : List ℕ) (s : ℕ) (hx : cell_of count s % w < 
 
 -- the last strip that holds a span is the first that the rule asks for
 last-first : (k p₁ p₂ p₃ p₄ : Bool)
-    → ◌≡◌ {A = ℕ} (if k and p₄ then 0x8004 else (if k and p₃ then 0x8003 else (if k and p₂ then 0x8002 else (if k and p₁ then 0x8001 else 0))))
-    (if not k then 0 else (if p₄ then 0x8004 else (if p₃ then 0x8003 else (if p₂ then 0x8002 else (if p₁ then 0x8001 else 0)))))
-unfolding if◌then◌else◌ ◌and◌
+    → ◌≡◌ {A = ℕ} (when k and p₄ then 0x8004 else (when k and p₃ then 0x8003 else (when k and p₂ then 0x8002 else (when k and p₁ then 0x8001 else 0))))
+    (when not k then 0 else (when p₄ then 0x8004 else (when p₃ then 0x8003 else (when p₂ then 0x8002 else (when p₁ then 0x8001 else 0)))))
+unfolding when◌then◌else◌ ◌and◌
 last-first true p₁ p₂ p₃ p₄ = refl
 last-first false p₁ p₂ p₃ p₄ = refl
 
 put_on : (area : List ℕ) (p : ℕ → Bool) (v : ℕ) (l m : List ℕ) (s x : ℕ) (b : Bool) → m ≡ put_if (walk_in area p) v l → s < length l → get_or l s 0 ≡ x → p s ≡ b
-    → get_or m s 0 ≡ (if not (eqb (get_or area s 256) 0) and b then v else x)
+    → get_or m s 0 ≡ (when not (eqb (get_or area s 256) 0) and b then v else x)
 unfolding walk_in
 put_on area p v l m s x b e h g q = rw (e, put_if-at (walk_in area p) v l s h, g, q)
 
@@ -110,7 +110,7 @@ module _ (w h b : ℕ) (index count area : List ℕ) (p : Plot index count (leng
       rw (fw, fh, fc, fa) (q₄ ∙ last-first (not (eqb (get_or area s 256) 0)) (ltb (c % w) b) (leb (w - b) (c % w)) (ltb (c / w) b) (leb (h - b) (c / w)))
 
   pub border_done : (b ≡ 0 → ⊥) → (F : Field) → F.w ≡ w → F.h ≡ h → F.count ≡ count → F.area ≡ area → l₄ ≡ (painted F b).ids
-  unfolding painted if◌then◌else◌
+  unfolding painted when◌then◌else◌
   border_done nz F fw fh fc fa =
       rw (ne_eqb b 0 nz)
       (ext_get_or 0 l₄ (tab (spans F) 0 (paint_of F b)) (n₄ ∙ sym (length-tab (spans F) 0 (paint_of F b) ∙ ap length fa))
@@ -123,15 +123,15 @@ module _ (w h b : ℕ) (index count area : List ℕ) (p : Plot index count (leng
 
 pub border-none : (b : ℕ) (area l : List ℕ) → b ≡ 0 → l ≡ replicate (length area) 0 → (w h : ℕ) (count : List ℕ) → (F : Field) → F.w ≡ w → F.h ≡ h → F.count ≡ count → F.area ≡ area
     → l ≡ (painted F b).ids
-unfolding painted if◌then◌else◌
+unfolding painted when◌then◌else◌
 border-none b area l e z w h count F fw fh fc fa = rw (eq-eqb b 0 e, fa) z
 
 pub first-none : (b : ℕ) → b ≡ 0 → 1 ≡ first_id b
-unfolding first_id if◌then◌else◌
+unfolding first_id when◌then◌else◌
 first-none b e = rw (eq-eqb b 0 e)
 
 pub first_some : (b : ℕ) → (b ≡ 0 → ⊥) → 5 ≡ first_id b
-unfolding first_id if◌then◌else◌
+unfolding first_id when◌then◌else◌
 first_some b e = rw (ne_eqb b 0 e)
 
 -- ---------------------------------------------------------------- the rows are those of the field

@@ -11,7 +11,7 @@ use lib.ListN.{length, get_or, set, length-set}
 use lib.Seq.{ext_get_or}
 use lib.Dec.{eqb}
 use borrow.Author.Tests.{eq-eqb, ne_eqb, le-leb, lt-ltb, leb-true, ltb-true}
-use Rattle.rules.specs.Base.{◌and◌, ◌or◌, if◌then◌else◌}
+use Rattle.rules.specs.Base.{◌and◌, ◌or◌, when◌then◌else◌}
 use Rattle.laws.proofs.Basics.{both, tab-at, length-tab, get_d_set_at, and_no, get_d_any, and_both}
 use Rattle.paint.specs.Paint.{put_if, walk_in, span_is, between}
 
@@ -39,22 +39,22 @@ pub put_if-length : (p : ℕ → Bool) (v : ℕ) (l : List ℕ) → length (put_
 unfolding put_if
 put_if-length p v l = length-tab (length l) 0 _
 
-pub put_if-at : (p : ℕ → Bool) (v : ℕ) (l : List ℕ) (s : ℕ) → s < length l → get_or (put_if p v l) s 0 ≡ (if p s then v else get_or l s 0)
+pub put_if-at : (p : ℕ → Bool) (v : ℕ) (l : List ℕ) (s : ℕ) → s < length l → get_or (put_if p v l) s 0 ≡ (when p s then v else get_or l s 0)
 unfolding put_if
-put_if-at p v l s h = tab-at (length l) 0 (λ s. if p s then v else get_or l s 0) s 0 h ∙ ap (λ (t : ℕ). if p t then v else get_or l t 0) (zero-add s)
+put_if-at p v l s h = tab-at (length l) 0 (λ s. when p s then v else get_or l s 0) s 0 h ∙ ap (λ (t : ℕ). when p t then v else get_or l t 0) (zero-add s)
 
 -- a list that has its elements
-pub put_if_ext : (p : ℕ → Bool) (v : ℕ) (l m : List ℕ) → length m ≡ length l → ((s : ℕ) → s < length l → get_or m s 0 ≡ (if p s then v else get_or l s 0)) → m ≡ put_if p v l
+pub put_if_ext : (p : ℕ → Bool) (v : ℕ) (l m : List ℕ) → length m ≡ length l → ((s : ℕ) → s < length l → get_or m s 0 ≡ (when p s then v else get_or l s 0)) → m ≡ put_if p v l
 put_if_ext p v l m e h =
     ext_get_or 0 m (put_if p v l) (e ∙ sym (put_if-length p v l))
     (λ s g. let k : s < length l = omega arith in h s k ∙ sym (put_if-at p v l s k))
 
-pub if_none : (v : ℕ) (b : Bool) (a : ℕ) → b ≡ false → (if b then v else a) ≡ a
-unfolding if◌then◌else◌
+pub if_none : (v : ℕ) (b : Bool) (a : ℕ) → b ≡ false → (when b then v else a) ≡ a
+unfolding when◌then◌else◌
 if_none v b a e = rw e
 
-pub if_some : (v : ℕ) (b : Bool) (a : ℕ) → b ≡ true → (if b then v else a) ≡ v
-unfolding if◌then◌else◌
+pub if_some : (v : ℕ) (b : Bool) (a : ℕ) → b ≡ true → (when b then v else a) ≡ v
+unfolding when◌then◌else◌
 if_some v b a e = rw e
 
 -- nowhere
@@ -64,10 +64,10 @@ put_if-none p v l h = put_if_ext p v l l refl (λ s g. sym (if_none v (p s) (get
 -- the same places
 pub put_if-same : (p q : ℕ → Bool) (v : ℕ) (l : List ℕ) → ((s : ℕ) → s < length l → p s ≡ q s) → put_if p v l ≡ put_if q v l
 put_if-same p q v l h =
-    put_if_ext q v l (put_if p v l) (put_if-length p v l) (λ s g. put_if-at p v l s g ∙ ap (λ (b : Bool). if b then v else get_or l s 0) (h s g))
+    put_if_ext q v l (put_if p v l) (put_if-length p v l) (λ s g. put_if-at p v l s g ∙ ap (λ (b : Bool). when b then v else get_or l s 0) (h s g))
 
-if-or : (v : ℕ) (a b : Bool) (x : ℕ) → (if b then v else (if a then v else x)) ≡ (if a or b then v else x)
-unfolding if◌then◌else◌ ◌or◌
+if-or : (v : ℕ) (a b : Bool) (x : ℕ) → (when b then v else (when a then v else x)) ≡ (when a or b then v else x)
+unfolding when◌then◌else◌ ◌or◌
 if-or v true true x = refl
 if-or v true false x = refl
 if-or v false true x = refl
@@ -79,7 +79,7 @@ put_if_then p q u v l h =
     put_if_ext u v l (put_if q v (put_if p v l)) (put_if-length q v (put_if p v l) ∙ put_if-length p v l)
     (λ s g.
     let k : s < length (put_if p v l) = rw (put_if-length p v l) g in
-    put_if-at q v (put_if p v l) s k ∙ ap (λ (x : ℕ). if q s then v else x) (put_if-at p v l s g) ∙ if-or v (p s) (q s) (get_or l s 0) ∙ ap (λ (b : Bool). if b then v else get_or l s 0) (sym (h s g)))
+    put_if-at q v (put_if p v l) s k ∙ ap (λ (x : ℕ). when q s then v else x) (put_if-at p v l s g) ∙ if-or v (p s) (q s) (get_or l s 0) ∙ ap (λ (b : Bool). when b then v else get_or l s 0) (sym (h s g)))
 
 -- ---------------------------------------------------------------- walkable spans
 
@@ -117,6 +117,6 @@ pub span_set : (area : List ℕ) (i v : ℕ) (l : List ℕ) → i < length area 
 unfolding walk_in span_is
 span_set area i v l h k e =
     put_if_ext (walk_in area (span_is i)) v l (set l i v) (length-set l i v)
-    (λ s g. get_d_set_at l i v 0 s (λ x. x ≡ (if walk_in area (span_is i) s then v else get_or l s 0)) (omega arith)
+    (λ s g. get_d_set_at l i v 0 s (λ x. x ≡ (when walk_in area (span_is i) s then v else get_or l s 0)) (omega arith)
     (λ q. sym (if_some v (walk_in area (span_is i) s) (get_or l s 0) (rw (q, get_d_any area i 256 0 h, ne_eqb _ 0 e, eq-eqb i i refl) (and_both (not false) true refl refl))))
     (λ q. sym (if_none v (walk_in area (span_is i) s) (get_or l s 0) (rw (ne_eqb s i q) (and_no _)))))

@@ -1,6 +1,6 @@
 -- Painting over the spans of some cells, and what the code needs of the field for it.
 use Rattle.std.specs.Prelude.{◌≡◌, Bool, not, List, ℕ, ◌/◌, ◌%◌, length, get_or, eqb, leb, ltb}
-use Rattle.rules.specs.Base.{◌and◌, if◌then◌else◌, tab}
+use Rattle.rules.specs.Base.{◌and◌, when◌then◌else◌, tab}
 use Rattle.rules.specs.Field.{Field, spans, cell_of}
 use Rattle.rules.specs.Refusals.{refusal}
 
@@ -15,7 +15,7 @@ pub record Plot (index count : List ℕ) (n : ℕ) : Type 0 where
 
 -- v wherever p holds, and the rest as it was
 unfoldable pub put_if : (ℕ → Bool) → ℕ → List ℕ → List ℕ
-put_if p v l = tab (length l) 0 (λ s. if p s then v else get_or l s 0)
+put_if p v l = tab (length l) 0 (λ s. when p s then v else get_or l s 0)
 
 -- walkable, and p holds
 unfoldable pub walk_in : List ℕ → (ℕ → Bool) → ℕ → Bool

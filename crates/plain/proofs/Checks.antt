@@ -8,7 +8,7 @@ use mathlib.Core.List.{List, [], ◌∷◌}
 use lib.ListN.{length}
 use lib.Dec.{eqb}
 use borrow.Author.Tests.{eqb-true, eq-eqb, ne_eqb, lt-ltb, le-ltb, not-false}
-use Rattle.rules.specs.Base.{◌and◌, if◌then◌else◌, every}
+use Rattle.rules.specs.Base.{◌and◌, when◌then◌else◌, every}
 use Rattle.rules.specs.Field.{Field, spans}
 use Rattle.rules.specs.Refusals.{wrong_length, refusal, too_short, most_spans}
 use Rattle.rules.specs.Plain.{rooms_refusal}
@@ -39,7 +39,7 @@ check_few F a v e z = (reached_of F (a ∷ a ∷ []) (sym e ∙ ap verdict_numbe
 
 module _ (F : Field) (a work : ℕ) (v : Verdict) (e : verdict_number v ≡ refusal F (a ∷ a ∷ [])) where
   pub check_refused : (r : Refusal) → v ≡ verdict.Refused r → number_of r ≡ rooms_refusal F (a ∷ []) work
-  unfolding rooms_refusal if◌then◌else◌
+  unfolding rooms_refusal when◌then◌else◌
   check_refused r z =
       let n : number_of r ≡ refusal F (a ∷ []) = ap verdict_number (sym z) ∙ e ∙ told-once F a in
       rw (ne_eqb (refusal F (a ∷ [])) 0 (λ k. omega (arith, number_pos r))) n
@@ -49,24 +49,24 @@ module _ (F : Field) (a work : ℕ) (v : Verdict) (e : verdict_number v ≡ refu
     none = eq-eqb (refusal F (a ∷ [])) 0 (sym (told-once F a) ∙ sym e ∙ ap verdict_number z)
 
     pub check_short : work < 128 * spans F + 4096 → 7 ≡ rooms_refusal F (a ∷ []) work
-    unfolding rooms_refusal if◌then◌else◌ too_short
+    unfolding rooms_refusal when◌then◌else◌ too_short
     check_short h = rw (none, lt-ltb work (128 * spans F + 4096) h)
 
     pub check_sound : 128 * spans F + 4096 ≤ work → 0 ≡ rooms_refusal F (a ∷ []) work
-    unfolding rooms_refusal if◌then◌else◌ too_short
+    unfolding rooms_refusal when◌then◌else◌ too_short
     check_sound h = rw (none, le-ltb work (128 * spans F + 4096) h)
 
 -- what none of them leaves
 module _ (F : Field) (a work : ℕ) (e : rooms_refusal F (a ∷ []) work ≡ 0) where
   pub rooms_accepted : refusal F (a ∷ []) ≡ 0
   unfolding rooms_refusal
-  rooms_accepted = accepted (refusal F (a ∷ [])) (if too_short F work then 7 else 0) e
+  rooms_accepted = accepted (refusal F (a ∷ [])) (when too_short F work then 7 else 0) e
     where
-      accepted : (r s : ℕ) → (if not (eqb r 0) then r else s) ≡ 0 → r ≡ 0
+      accepted : (r s : ℕ) → (when not (eqb r 0) then r else s) ≡ 0 → r ≡ 0
       accepted r s = if-ind (λ (x : ℕ). x ≡ 0 → r ≡ 0) (not (eqb r 0)) (λ _ h. h) (λ f _. eqb-true r 0 (not-false _ f))
 
   pub rooms_roomy : 128 * spans F + 4096 ≤ work
-  unfolding rooms_refusal if◌then◌else◌ too_short
+  unfolding rooms_refusal when◌then◌else◌ too_short
   rooms_roomy = elim (dec_lt work (128 * spans F + 4096)) [
     | yes h ↦
         let n : eqb (refusal F (a ∷ [])) 0 ≡ true = eq-eqb (refusal F (a ∷ [])) 0 rooms_accepted in

@@ -10,7 +10,7 @@ use lib.ListN.{length, get_or, set, take, drop}
 use lib.Seq.{drop-set-lt}
 use lib.Dec.{eqb}
 use borrow.Author.Tests.{eq-eqb, ne_eqb}
-use Rattle.rules.specs.Base.{◌and◌, if◌then◌else◌, upto}
+use Rattle.rules.specs.Base.{◌and◌, when◌then◌else◌, upto}
 use Rattle.rules.specs.Field.{none}
 use Rattle.rules.specs.Net.{near, area_of}
 use Rattle.rules.specs.Refusals.{most_spans}
@@ -52,7 +52,7 @@ module _ (table : ℕ) (ar ids ws : List ℕ) (area id s d top t : ℕ) (v : Hel
   inside z = net_inside table ar ws s d t v.closed v.room hs hd e z
 
   pub skip_none : area < 256 → t ≡ none → fill_at ids ws top ≡ joins (net_at table ar ws) area id s d (fill_at ids ws top)
-  unfolding joins ◌and◌ if◌then◌else◌
+  unfolding joins ◌and◌ when◌then◌else◌
   skip_none b z =
       let q = ap (area_of (net_at table ar ws)) (is ∙ z) ∙ area_none (net_at table ar ws) v.closed in
       let y : eqb (area_of (net_at table ar ws) (near (net_at table ar ws) s d)) area ≡ false = ne_eqb _ _ (λ (y : area_of (net_at table ar ws) (near (net_at table ar ws) s d) ≡ area). omega arith) in
@@ -63,12 +63,12 @@ module _ (table : ℕ) (ar ids ws : List ℕ) (area id s d top t : ℕ) (v : Hel
     area_there = ap (area_of (net_at table ar ws)) is ∙ area_at table ar ws t ht
 
     pub skip_area : (get_or ar t 0 ≡ area → ⊥) → fill_at ids ws top ≡ joins (net_at table ar ws) area id s d (fill_at ids ws top)
-    unfolding joins ◌and◌ if◌then◌else◌
+    unfolding joins ◌and◌ when◌then◌else◌
     skip_area a = rw (area_there, ne_eqb _ _ a)
 
     module _ (a : get_or ar t 0 ≡ area) where
       pub skip_id : (get_or ids t 0 ≡ 0 → ⊥) → fill_at ids ws top ≡ joins (net_at table ar ws) area id s d (fill_at ids ws top)
-      unfolding joins ◌and◌ if◌then◌else◌ fill_at
+      unfolding joins ◌and◌ when◌then◌else◌ fill_at
       skip_id z = rw (area_there, eq-eqb _ _ a, is, ne_eqb _ _ z)
 
       module _ (z : get_or ids t 0 ≡ 0) (f : Filling (length ar) (fill_at ids ws top)) (pos : 0 < id) where
@@ -78,7 +78,7 @@ module _ (table : ℕ) (ar ids ws : List ℕ) (area id s d top t : ℕ) (v : Hel
             omega (arith, q, fewer ids t id (omega (arith, q)) z pos)
 
         pub join_room : fill_at (set ids t id) (set ws top t) (top + 1) ≡ joins (net_at table ar ws) area id s d (fill_at ids ws top)
-        unfolding joins ◌and◌ if◌then◌else◌ fill_at
+        unfolding joins ◌and◌ when◌then◌else◌ fill_at
         join_room =
             let b : 0 + top < length ws = omega (arith, top_in, v.past, v.room) in
             let p : stack_at (set ws top t) 0 (top + 1) ≡ t ∷ stack_at ws 0 top = rw (zero-add top) at (stack_at_push ws 0 top t b) in

@@ -9,7 +9,7 @@ use mathlib.Core.List.{List}
 use lib.ListN.{length, get_or, drop}
 use lib.Dec.{eqb}
 use borrow.Author.Tests.{eq-eqb, ne_eqb}
-use Rattle.rules.specs.Base.{◌and◌, if◌then◌else◌, upto}
+use Rattle.rules.specs.Base.{◌and◌, when◌then◌else◌, upto}
 use Rattle.rules.specs.Net.{Net}
 use Rattle.rules.specs.Growth.{walkable}
 use Rattle.rules.specs.Plain.{Rooms, room_from, begins}
@@ -33,16 +33,16 @@ module _ (table : ℕ) (ar ids ws : List ℕ) (s most : ℕ) (hs : s < length ar
   areas = rw (get_d_any ar s 256 0 hs)
 
   pub begin_bare : get_or ar s 0 ≡ 0 → rooms_at ids most ≡ begins (net_at table ar ws) s (rooms_at ids most)
-  unfolding begins ◌and◌ if◌then◌else◌
+  unfolding begins ◌and◌ when◌then◌else◌
   begin_bare e = rw (areas, eq-eqb _ _ e)
 
   pub begin_none : (get_or ids s 0 ≡ 0 → ⊥) → (get_or ar s 0 ≡ 0 → ⊥) → rooms_at ids most ≡ begins (net_at table ar ws) s (rooms_at ids most)
-  unfolding begins ◌and◌ if◌then◌else◌
+  unfolding begins ◌and◌ when◌then◌else◌
   begin_none z e = rw (areas, ne_eqb _ _ e, ne_eqb _ _ z)
 
   pub begin_new : (get_or ar s 0 ≡ 0 → ⊥) → get_or ids s 0 ≡ 0 → (ids' : List ℕ) → ids' ≡ (room_from (net_at table ar ws) (most + 1) ids s).ids
       → rooms_at ids' (most + 1) ≡ begins (net_at table ar ws) s (rooms_at ids most)
-  unfolding begins ◌and◌ if◌then◌else◌
+  unfolding begins ◌and◌ when◌then◌else◌
   begin_new e z ids' f = let g = rw (add-one most) at f in rw (areas, ne_eqb _ _ e, eq-eqb _ _ z, add-one most, g)
 
 -- s spans are gone through

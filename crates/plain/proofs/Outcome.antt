@@ -8,7 +8,7 @@ use mathlib.Core.List.{List, [], ◌∷◌}
 use lib.ListN.{length, replicate}
 use lib.Dec.{eqb, ltb}
 use borrow.Author.Tests.{eq-eqb, ne_eqb, lt-ltb, le-ltb}
-use Rattle.rules.specs.Base.{if◌then◌else◌}
+use Rattle.rules.specs.Base.{when◌then◌else◌}
 use Rattle.rules.specs.Field.{Field}
 use Rattle.rules.specs.Plain.{most_rooms, plain_rooms, rooms_refusal, RoomsOutcome, rooms_outcome}
 use Rattle.checker.specs.Answer.{number_of, verdict_number}
@@ -24,7 +24,7 @@ use Rattle.plain.specs.Stages.{Finds}
 
 module _ (F : Field) (border : ℕ) (ws ids : List ℕ) (v : Verdict) (e : verdict_number v ≡ rooms_refusal F (length ids ∷ []) (length ws)) where
   pub rooms_refused : (r : Refusal) → v ≡ verdict.Refused r → outcome (Refused r) ws ids ≡ rooms_outcome F border ws ids
-  unfolding rooms_outcome if◌then◌else◌
+  unfolding rooms_outcome when◌then◌else◌
   rooms_refused r y =
       let n : number_of r ≡ rooms_refusal F (length ids ∷ []) (length ws) = ap verdict_number (sym y) ∙ e in
       rw (ne_eqb (rooms_refusal F (length ids ∷ []) (length ws)) 0 (λ k. omega (arith, number_pos r)), n)
@@ -34,13 +34,13 @@ module _ (F : Field) (border : ℕ) (ws ids : List ℕ) (v : Verdict) (e : verdi
     none = eq-eqb (rooms_refusal F (length ids ∷ []) (length ws)) 0 (sym e ∙ ap verdict_number y)
 
     pub rooms_run_out : most_rooms < most → outcome (Refused NoIds) ws' ids' ≡ rooms_outcome F border ws ids
-    unfolding rooms_outcome if◌then◌else◌
+    unfolding rooms_outcome when◌then◌else◌
     rooms_run_out h =
         let t : ltb most_rooms (plain_rooms F border).most ≡ true = lt-ltb most_rooms (plain_rooms F border).most (rw g.rooms at h) in
         rw (none, t, q, g.back h)
 
     pub rooms_done : most ≤ most_rooms → outcome (Done most) ws' ids' ≡ rooms_outcome F border ws ids
-    unfolding rooms_outcome if◌then◌else◌
+    unfolding rooms_outcome when◌then◌else◌
     rooms_done h =
         let t : ltb most_rooms (plain_rooms F border).most ≡ false = le-ltb most_rooms (plain_rooms F border).most (rw g.rooms at h) in
         rw (none, t, q, g.done h, g.rooms)

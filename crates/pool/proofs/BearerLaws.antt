@@ -10,7 +10,7 @@ use lib.ListN.{length, get_or, set, length-set}
 use lib.Seq.{get_or-set_same, get_or-set_other}
 use lib.Dec.{eqb}
 use borrow.Author.Tests.{eq-eqb, ne_eqb}
-use Rattle.rules.specs.Base.{if◌then◌else◌}
+use Rattle.rules.specs.Base.{when◌then◌else◌}
 use Rattle.laws.proofs.Basics.{All, Distinct, All_map, pigeonhole}
 use Rattle.space.specs.Space.{Frame}
 use Rattle.space.proofs.Laws.{get_or_before, get_d_after, frame_none, frame_then, frame_set, frame_wider}
@@ -219,22 +219,22 @@ module _ (m n i t : ℕ) (ws ws' : List ℕ) (B : Bearers m ws) (hn : n < m) (hi
     (ids : (x : ℕ) → x < m → get_or ws' x 0 ≡ swap_one i n (get_or ws x 0)) (at_t : next_of ws' m t ≡ next_of ws m n) (at_n : next_of ws' m n ≡ i)
     (at_else : (x : ℕ) → x < m → (x ≡ t → ⊥) → (x ≡ n → ⊥) → next_of ws' m x ≡ next_of ws m x) where
   rank_now : ℕ → ℕ
-  rank_now x = if eqb (get_or ws x 0) i then suc (B.rank x) else if eqb x n then 0 else if eqb (get_or ws x 0) n then B.rank x + suc (B.rank t) else B.rank x
+  rank_now x = when eqb (get_or ws x 0) i then suc (B.rank x) else when eqb x n then 0 else when eqb (get_or ws x 0) n then B.rank x + suc (B.rank t) else B.rank x
 
   rank_i : (x : ℕ) → get_or ws x 0 ≡ i → rank_now x ≡ suc (B.rank x)
-  unfolding rank_now if◌then◌else◌
+  unfolding rank_now when◌then◌else◌
   rank_i x e = rw (eq-eqb (get_or ws x 0) i e)
 
   rank_n : rank_now n ≡ 0
-  unfolding rank_now if◌then◌else◌
+  unfolding rank_now when◌then◌else◌
   rank_n = rw (en, ne_eqb n i (λ w. ne (sym w)), eq-eqb n n refl)
 
   rank_row : (x : ℕ) → get_or ws x 0 ≡ n → (x ≡ n → ⊥) → rank_now x ≡ B.rank x + suc (B.rank t)
-  unfolding rank_now if◌then◌else◌
+  unfolding rank_now when◌then◌else◌
   rank_row x e d = rw (e, ne_eqb n i (λ w. ne (sym w)), ne_eqb x n d, eq-eqb n n refl)
 
   rank_else : (x : ℕ) → (get_or ws x 0 ≡ i → ⊥) → (get_or ws x 0 ≡ n → ⊥) → rank_now x ≡ B.rank x
-  unfolding rank_now if◌then◌else◌
+  unfolding rank_now when◌then◌else◌
   rank_else x a b = rw (ne_eqb (get_or ws x 0) i a, ne_eqb x n (λ w. b (ap (λ (k : ℕ). get_or ws k 0) w ∙ en)), ne_eqb (get_or ws x 0) n b)
 
   id_i : (x : ℕ) → x < m → get_or ws x 0 ≡ i → get_or ws' x 0 ≡ n

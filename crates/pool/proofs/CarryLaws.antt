@@ -8,7 +8,7 @@ use mathlib.Core.Logic.{⊎_elim, ◌⊎◌, inl, inr}
 use mathlib.Core.List.{List}
 use lib.ListN.{length, get_or}
 use borrow.Author.Tests.{eq-eqb, ne_eqb}
-use Rattle.rules.specs.Base.{if◌then◌else◌}
+use Rattle.rules.specs.Base.{when◌then◌else◌}
 use Rattle.space.specs.Space.{Frame}
 use Rattle.space.proofs.Laws.{get_or_before, get_d_after, frame_then}
 use Rattle.laws.specs.Sums.{sum_to}
@@ -18,11 +18,11 @@ use Rattle.pool.specs.Part.{CopyRoom, renamed_list}
 use Rattle.pool.specs.Pool.{without, len_at, rest_to, new_list, Source, Moved, Next, Sources, There, Carried}
 
 pub new_dead : (old new id : ℕ) (l : List ℕ) → id ≡ 0 → l ≡ new_list old new id l
-unfolding new_list if◌then◌else◌
+unfolding new_list when◌then◌else◌
 new_dead old new id l e = rw (eq-eqb id 0 e)
 
 pub new_live : (old new id : ℕ) (l k : List ℕ) → (id ≡ 0 → ⊥) → k ≡ renamed_list old new l → k ≡ new_list old new id l
-unfolding new_list if◌then◌else◌
+unfolding new_list when◌then◌else◌
 new_live old new id l k n e = rw (ne_eqb id 0 n) e
 
 -- ---- one record
@@ -78,11 +78,11 @@ module _ (m x i n old new to z : ℕ) (ws : List ℕ) where
 -- ---- all of them
 
 pub without-same : (f : ℕ → ℕ) (i : ℕ) → without f i i ≡ 0
-unfolding without if◌then◌else◌
+unfolding without when◌then◌else◌
 without-same f i = rw (eq-eqb i i refl)
 
 pub without_other : (f : ℕ → ℕ) (i x : ℕ) → (x ≡ i → ⊥) → without f i x ≡ f x
-unfolding without if◌then◌else◌
+unfolding without when◌then◌else◌
 without_other f i x h = rw (ne_eqb x i h)
 
 rest_more : (ws : List ℕ) (m i n c : ℕ) → (c ≡ i → ⊥) → (c ≡ n → ⊥) → rest_to ws m i n (suc c) ≡ len_at ws m c + rest_to ws m i n c

@@ -9,7 +9,7 @@ use mathlib.Core.List.{List, [], ◌∷◌, ◌++◌}
 use lib.ListN.{length, get_or, get_or-map}
 use lib.Dec.{eqb}
 use borrow.Author.Tests.{eq-eqb, ne_eqb, eqb-true}
-use Rattle.rules.specs.Base.{◌and◌, if◌then◌else◌, any}
+use Rattle.rules.specs.Base.{◌and◌, when◌then◌else◌, any}
 use Rattle.rules.specs.Records.{Rec, at, fresh, has, once, once_all}
 use Rattle.rules.specs.Merge.{swapped}
 use Rattle.laws.proofs.Basics.{both, either, and_both, or_left, or_right, same_test}
@@ -21,11 +21,11 @@ use Rattle.pool.proofs.HasLaws.{has_end}
 -- ---- membership
 
 pub swap_old : (o n : ℕ) → swap_one o n o ≡ n
-unfolding swap_one if◌then◌else◌
+unfolding swap_one when◌then◌else◌
 swap_old o n = rw (eq-eqb o o refl)
 
 pub swap_other : (o n x : ℕ) → (x ≡ o → ⊥) → swap_one o n x ≡ x
-unfolding swap_one if◌then◌else◌
+unfolding swap_one when◌then◌else◌
 swap_other o n x h = rw (ne_eqb x o h)
 
 pub has_first : (x : ℕ) (l : List ℕ) (v : ℕ) → v ≡ x → has (x ∷ l) v ≡ true
@@ -59,26 +59,26 @@ swap_has o n (x ∷ l) v h =
     (λ e. let r = swap_has o n l v e in (r.0, has_later x l r.0 r.1, r.2))
 
 once_old : (l : List ℕ) (r v : ℕ) → has l v ≡ true → has (once l r) v ≡ true
-unfolding once if◌then◌else◌
+unfolding once when◌then◌else◌
 once_old l r v h = go (has l r)
   where
-    go : (b : Bool) → has (if b then l else l ++ (r ∷ [])) v ≡ true
+    go : (b : Bool) → has (when b then l else l ++ (r ∷ [])) v ≡ true
     go true = h
     go false = has_end l r v ∙ or_left (has l v) (eqb v r) h
 
 once_new : (l : List ℕ) (r : ℕ) → has (once l r) r ≡ true
-unfolding once if◌then◌else◌
+unfolding once when◌then◌else◌
 once_new l r = go (has l r) refl
   where
-    go : (b : Bool) → has l r ≡ b → has (if b then l else l ++ (r ∷ [])) r ≡ true
+    go : (b : Bool) → has l r ≡ b → has (when b then l else l ++ (r ∷ [])) r ≡ true
     go true e = e
     go false e = has_end l r r ∙ or_right (has l r) (eqb r r) (eq-eqb r r refl)
 
 once-has : (l : List ℕ) (r v : ℕ) → has (once l r) v ≡ true → (has l v ≡ true) ⊎ (v ≡ r)
-unfolding once if◌then◌else◌
+unfolding once when◌then◌else◌
 once-has l r v = go (has l r)
   where
-    go : (b : Bool) → has (if b then l else l ++ (r ∷ [])) v ≡ true → (has l v ≡ true) ⊎ (v ≡ r)
+    go : (b : Bool) → has (when b then l else l ++ (r ∷ [])) v ≡ true → (has l v ≡ true) ⊎ (v ≡ r)
     go true h = inl h
     go false h = either _ (has l v) (eqb v r) (sym (has_end l r v) ∙ h) (λ e. inl e) (λ e. inr (eqb-true v r e))
 

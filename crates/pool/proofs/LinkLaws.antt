@@ -7,7 +7,7 @@ use mathlib.Core.Path.{◌≡◌, refl, sym, ap, ◌∙◌}
 use mathlib.Core.List.{List}
 use lib.ListN.{length, get_or}
 use borrow.Author.Tests.{eq-eqb, ne_eqb}
-use Rattle.rules.specs.Base.{if◌then◌else◌}
+use Rattle.rules.specs.Base.{when◌then◌else◌}
 use Rattle.space.specs.Space.{Frame, Clear}
 use Rattle.space.proofs.Laws.{get_or_before, frame_none, frame_then, frame_wider}
 use Rattle.table.specs.View.{wide}
@@ -19,11 +19,11 @@ use Rattle.pool.specs.Links.{last_named, held_from, Linked, LinkRoom, LinkedOne}
 
 module _ (named : ℕ → ℕ) (r : ℕ) where
   last_here : (q : ℕ) → named q ≡ r → last_named named r (suc q) ≡ suc q
-  unfolding last_named if◌then◌else◌
+  unfolding last_named when◌then◌else◌
   last_here q e = rw (eq-eqb (named q) r e) refl
 
   last_past : (q : ℕ) → (named q ≡ r → ⊥) → last_named named r (suc q) ≡ last_named named r q
-  unfolding last_named if◌then◌else◌
+  unfolding last_named when◌then◌else◌
   last_past q e = rw (ne_eqb (named q) r e) refl
 
   last_zero : last_named named r 0 ≡ 0

@@ -9,7 +9,7 @@ use lib.ListN.{drop_of_length-le, length, get_or, set, take, drop}
 use lib.Seq.{get_or-take, take-take, drop-cons, take-suc-set, drop-set-lt, length-take-le}
 use lib.Dec.{eqb}
 use borrow.Author.Tests.{le-ltb}
-use Rattle.rules.specs.Base.{◌and◌, if◌then◌else◌, many}
+use Rattle.rules.specs.Base.{◌and◌, when◌then◌else◌, many}
 use Rattle.rules.specs.Contour.{trim}
 use Rattle.rules.specs.Merge.{tidy}
 use Rattle.laws.specs.Squeeze.{squeeze}
@@ -19,7 +19,7 @@ use Rattle.pool.specs.Lists.{map_to, again}
 -- ---- adjacent duplicates
 
 pub trim_short : (l : List ℕ) → length l ≤ 1 → trim l ≡ l
-unfolding trim if◌then◌else◌ ◌and◌
+unfolding trim when◌then◌else◌ ◌and◌
 trim_short l h = rw (le-ltb 1 (length l) h)
 
 -- ---- the code's turns
@@ -35,11 +35,11 @@ module _ (l : List ℕ) (i : ℕ) where
 
   module _ (h : i < length l) (w : ℕ) (r : Bool) (e : r ≡ again l i) where
     pub keep-stays : r ≡ true → take w l ++ squeeze (drop (i + 1) l) ≡ take w l ++ squeeze (drop i l)
-    unfolding squeeze again if◌then◌else◌
+    unfolding squeeze again when◌then◌else◌
     keep-stays t = rw (drop-cons l i 0 h, add-one i, ← e, t)
 
     pub keep_moves : r ≡ false → w ≤ i → take (w + 1) (set l w (get_or l i 0)) ++ squeeze (drop (i + 1) (set l w (get_or l i 0))) ≡ take w l ++ squeeze (drop i l)
-    unfolding squeeze again if◌then◌else◌
+    unfolding squeeze again when◌then◌else◌
     keep_moves t g =
         let hw : w < length l = omega arith in
         let hi : w < suc i = omega arith in
@@ -111,16 +111,16 @@ map_to-end f l₀ l i e n h = e ∙ map_to_all f i l₀ (omega arith)
 
 -- ---- how often
 
-many_by : (b : Bool) (k n x y : ℕ) → n ≡ (if b then suc k else k) → x ≡ (if b then suc y else y) → n + y ≡ k + x
-unfolding if◌then◌else◌
+many_by : (b : Bool) (k n x y : ℕ) → n ≡ (when b then suc k else k) → x ≡ (when b then suc y else y) → n + y ≡ k + x
+unfolding when◌then◌else◌
 many_by true k n x y e f = omega arith
 many_by false k n x y e f = omega arith
 
-pub many_go : (l : List ℕ) (r i k n : ℕ) → k + many (eqb r) (drop i l) ≡ many (eqb r) l → i < length l → n ≡ (if eqb r (get_or l i 0) then suc k else k)
+pub many_go : (l : List ℕ) (r i k n : ℕ) → k + many (eqb r) (drop i l) ≡ many (eqb r) l → i < length l → n ≡ (when eqb r (get_or l i 0) then suc k else k)
     → n + many (eqb r) (drop (i + 1) l) ≡ many (eqb r) l
 unfolding many
 many_go l r i k n e h q =
-    let z : many (eqb r) (drop i l) ≡ (if eqb r (get_or l i 0) then suc (many (eqb r) (drop (i + 1) l)) else many (eqb r) (drop (i + 1) l)) = rw (drop-cons l i 0 h, add-one i) refl in
+    let z : many (eqb r) (drop i l) ≡ (when eqb r (get_or l i 0) then suc (many (eqb r) (drop (i + 1) l)) else many (eqb r) (drop (i + 1) l)) = rw (drop-cons l i 0 h, add-one i) refl in
     many_by (eqb r (get_or l i 0)) k n (many (eqb r) (drop i l)) (many (eqb r) (drop (i + 1) l)) q z ∙ e
 
 pub many-end : (l : List ℕ) (r i k : ℕ) → k + many (eqb r) (drop i l) ≡ many (eqb r) l → length l ≤ i → k ≡ many (eqb r) l

@@ -10,7 +10,7 @@ use lib.ListN.{length, get_or, set, length-set}
 use lib.Seq.{get_or-set_same, get_or-set_other}
 use lib.Dec.{eqb}
 use borrow.Author.Tests.{eqb-true}
-use Rattle.rules.specs.Base.{◌or◌, if◌then◌else◌}
+use Rattle.rules.specs.Base.{◌or◌, when◌then◌else◌}
 use Rattle.laws.proofs.Basics.{or_no, or_yes}
 use Rattle.laws.proofs.Sums.{sum_same}
 use Rattle.table.specs.View.{start_of, end_of, list_at, Parts}
@@ -50,10 +50,10 @@ module _ (m n i : ℕ) (ws : List ℕ) (hn : n < m) (hi : i < m) (ne : i ≡ n �
   }
 
   pub remarked_is : Remarked m n i ws (remarked m n i ws)
-  unfolding remarked if◌then◌else◌
+  unfolding remarked when◌then◌else◌
   remarked_is = go (eqb (get_or ws (15 * m + i) 0) 0) refl
     where
-      go : (b : Bool) → eqb (get_or ws (15 * m + i) 0) 0 ≡ b → Remarked m n i ws (if b then ws else set ws₁ (15 * m + i) 0)
+      go : (b : Bool) → eqb (get_or ws (15 * m + i) 0) 0 ≡ b → Remarked m n i ws (when b then ws else set ws₁ (15 * m + i) 0)
       go true e = none e
       go false e = carried e
 
@@ -137,11 +137,11 @@ module _ (m n i : ℕ) (ws ws' : List ℕ) (M : Remarked m n i ws ws') where
 
 module _ (ws : List ℕ) (m n i : ℕ) where
   pub mark_none : get_or ws (15 * m + i) 0 ≡ 0 → ws ≡ remarked m n i ws
-  unfolding remarked if◌then◌else◌
+  unfolding remarked when◌then◌else◌
   mark_none e = rw e
 
   pub mark_carried : (get_or ws (15 * m + i) 0 ≡ 0 → ⊥) → set (set ws (15 * m + n) 1) (15 * m + i) 0 ≡ remarked m n i ws
-  unfolding remarked if◌then◌else◌
+  unfolding remarked when◌then◌else◌
   mark_carried e = rw (borrow.Author.Tests.ne_eqb (get_or ws (15 * m + i) 0) 0 e)
 
   pub mark_in : 16 * m ≤ length ws → i < m → 15 * m + i < length (set ws (15 * m + n) 1)

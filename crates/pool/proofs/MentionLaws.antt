@@ -9,7 +9,7 @@ use mathlib.Core.Bool.{true, false, true≢false, false≢true}
 use mathlib.Core.List.{List, [], ◌∷◌, ◌++◌, map}
 use lib.ListN.{length, get_or}
 use lib.Dec.{eqb}
-use Rattle.rules.specs.Base.{if◌then◌else◌, any}
+use Rattle.rules.specs.Base.{when◌then◌else◌, any}
 use Rattle.rules.specs.Records.{has}
 use Rattle.rules.specs.Merge.{around, tidy}
 use Rattle.laws.proofs.Basics.{if-ind}
@@ -41,7 +41,7 @@ none_of [] e = refl
 none_of (x ∷ l) e = absurd (omega arith)
 
 pub none_new : (old new id : ℕ) → new_list old new id [] ≡ []
-unfolding new_list renamed_list any if◌then◌else◌
+unfolding new_list renamed_list any when◌then◌else◌
 none_new old new id = if-ind (λ (l : List ℕ). l ≡ []) (eqb id 0) (λ _. refl) (λ _. refl)
 
 -- it was there and is not old, or it is new and old was there
@@ -49,7 +49,7 @@ abbrev WasIn : ℕ → ℕ → List ℕ → ℕ → Type 0
 WasIn old new l v = ((has l v ≡ true) × (v ≡ old → ⊥)) ⊎ ((v ≡ new) × (has l old ≡ true))
 
 renamed-has : (old new : ℕ) (l : List ℕ) (v : ℕ) → has (renamed_list old new l) v ≡ true → WasIn old new l v
-unfolding renamed_list swap_one if◌then◌else◌
+unfolding renamed_list swap_one when◌then◌else◌
 renamed-has old new l v h = ⊎_elim
     (λ (b : has l old ≡ true).
     let k : has (tidy (map (swap_one old new) l)) v ≡ true = rw b at h in
@@ -66,7 +66,7 @@ renamed-has old new l v h = ⊎_elim
     (cases (has l old))
 
 new_has : (old new id : ℕ) (l : List ℕ) (v : ℕ) → (id ≡ 0 → ⊥) → has (new_list old new id l) v ≡ true → WasIn old new l v
-unfolding new_list if◌then◌else◌
+unfolding new_list when◌then◌else◌
 new_has old new id l v z h = renamed-has old new l v (rw (borrow.Author.Tests.ne_eqb id 0 z) at h)
 
 joined-has : (old new k j : ℕ) (l l' : List ℕ) (v : ℕ) → has (joined_list l l' k j old new) v ≡ true → WasIn old new l v ⊎ WasIn old new l' v

@@ -10,7 +10,7 @@ use lib.ListN.{length, set, take, drop, length-set, length-map}
 use lib.Seq.{get_or-set_same, get_or-set_other}
 use lib.Dec.{eqb, ltb}
 use borrow.Author.Tests.{eq-eqb, ne_eqb, eqb-true, eqb-false, not-true}
-use Rattle.rules.specs.Base.{◌and◌, ◌or◌, if◌then◌else◌, any, upto}
+use Rattle.rules.specs.Base.{◌and◌, ◌or◌, when◌then◌else◌, any, upto}
 use Rattle.rules.specs.Growth.{flagged}
 use Rattle.rules.specs.Contour.{trim}
 use Rattle.rules.specs.Records.{Rec, at, fresh, has, once, once_all}
@@ -35,31 +35,31 @@ use Rattle.pool.proofs.FloorLaws.{floors_start_lem, has_first, has_later, swap_h
 -- one entry, as the rule has it
 abbrev rule_one : Rec → ℕ → Rec → Pick → Pick
 rule_one a r b p =
-    if not (flagged r) and not (eqb b.id 0) and not b.overlap and ltb b.count p.size and suits a b and suits b a
+    when not (flagged r) and not (eqb b.id 0) and not b.overlap and ltb b.count p.size and suits a b and suits b a
     then record { size = b.count; id = b.id } else p
 
-chain : (f z o c x y : Bool) (k p : Pick) → (if not f and not z and not o and c and x and y then k else p) ≡ (if f then p else if not z and not o and c and x and y then k else p)
-unfolding ◌and◌ if◌then◌else◌
+chain : (f z o c x y : Bool) (k p : Pick) → (when not f and not z and not o and c and x and y then k else p) ≡ (when f then p else when not z and not o and c and x and y then k else p)
+unfolding ◌and◌ when◌then◌else◌
 chain true z o c x y k p = refl
 chain false z o c x y k p = refl
 
-dead_one : (o c x y x' y' : Bool) (k p : Pick) → (if not true and not o and c and x and y then k else p) ≡ (if not true and not o and c and x' and y' then k else p)
-unfolding ◌and◌ if◌then◌else◌
+dead_one : (o c x y x' y' : Bool) (k p : Pick) → (when not true and not o and c and x and y then k else p) ≡ (when not true and not o and c and x' and y' then k else p)
+unfolding ◌and◌ when◌then◌else◌
 dead_one o c x y x' y' k p = refl
 
-flagged-one : (a b : Bool) (k k' p : Pick) → (if true then p else if a then k else p) ≡ (if true then p else if b then k' else p)
-unfolding if◌then◌else◌
+flagged-one : (a b : Bool) (k k' p : Pick) → (when true then p else when a then k else p) ≡ (when true then p else when b then k' else p)
+unfolding when◌then◌else◌
 flagged-one a b k k' p = refl
 
 pick_vals : (r i i' c c' : ℕ) (o o' x y x' y' : Bool) (p : Pick) → i ≡ i' → c ≡ c' → o ≡ o' → (flagged r ≡ false → (i' ≡ 0 → ⊥) → (x ≡ x') × (y ≡ y'))
-    → ◌≡◌ {A = Pick} (if not (flagged r) and not (eqb i 0) and not o and ltb c p.size and x and y then record { size = c; id = i } else p)
-    (if flagged r then p else if not (eqb i' 0) and not o' and ltb c' p.size and x' and y' then record { size = c'; id = i' } else p)
+    → ◌≡◌ {A = Pick} (when not (flagged r) and not (eqb i 0) and not o and ltb c p.size and x and y then record { size = c; id = i } else p)
+    (when flagged r then p else when not (eqb i' 0) and not o' and ltb c' p.size and x' and y' then record { size = c'; id = i' } else p)
 pick_vals r i i' c c' o o' x y x' y' p ei ec eo h =
     chain (flagged r) (eqb i 0) o (ltb c p.size) x y (record { size = c; id = i }) p
     ∙ rw (ei, ec, eo) (⊎_elim
     (λ (f : flagged r ≡ true). rw f (flagged-one _ _ _ _ p))
     (λ (f : flagged r ≡ false). elim (ℕ_discrete i' 0) [
-      | yes z ↦ rw (eq-eqb i' 0 z) (ap (λ (q : Pick). if flagged r then p else q) (dead_one o' (ltb c' p.size) x y x' y' (record { size = c'; id = i' }) p))
+      | yes z ↦ rw (eq-eqb i' 0 z) (ap (λ (q : Pick). when flagged r then p else q) (dead_one o' (ltb c' p.size) x y x' y' (record { size = c'; id = i' }) p))
       | no z ↦ let q = h f z in rw (q.0, q.1) refl
     ])
     (cases (flagged r)))
@@ -142,17 +142,17 @@ tidy-has l v h = squeeze-has l v (trim-has (squeeze l) v (rw (tidy_is l) at h))
 Was : ℕ → ℕ → List ℕ → ℕ → Type 0
 Was o n l v = (u : ℕ) × (has l u ≡ true) × (swap_one o n u ≡ v)
 
-swap_not : (o n y : ℕ) → (y ≡ o → ⊥) → (if eqb y o then n else y) ≡ y
-unfolding if◌then◌else◌
+swap_not : (o n y : ℕ) → (y ≡ o → ⊥) → (when eqb y o then n else y) ≡ y
+unfolding when◌then◌else◌
 swap_not o n y h = rw (ne_eqb y o h)
 
 module _ (o n : ℕ) (nz : o ≡ 0 → ⊥) (r : Rec) where
-  swap_zero : (y : ℕ) → y ≡ 0 → (if eqb y o then n else y) ≡ y
+  swap_zero : (y : ℕ) → y ≡ 0 → (when eqb y o then n else y) ≡ y
   swap_zero y e = swap_not o n y (λ q. nz (sym q ∙ e))
 
   ren_id : (renamed o n r).id ≡ swap_one o n r.id
   unfolding renamed swap_one
-  ren_id = if-ind (λ (z : Rec). z.id ≡ (if eqb r.id o then n else r.id)) (eqb r.id 0)
+  ren_id = if-ind (λ (z : Rec). z.id ≡ (when eqb r.id o then n else r.id)) (eqb r.id 0)
       (λ e. sym (swap_zero r.id (eqb-true r.id 0 e))) (λ _. refl)
 
   ren_count : (renamed o n r).count ≡ r.count
@@ -181,7 +181,7 @@ module _ (o n : ℕ) (nz : o ≡ 0 → ⊥) (r : Rec) where
 
   pub ren_f_id : (renamed_f o n r).id ≡ swap_one o n r.id
   unfolding renamed_f swap_one
-  ren_f_id = if-ind (λ (z : Rec). z.id ≡ (if eqb r.id o then n else r.id)) (eqb r.id 0)
+  ren_f_id = if-ind (λ (z : Rec). z.id ≡ (when eqb r.id o then n else r.id)) (eqb r.id 0)
       (λ e. sym (swap_zero r.id (eqb-true r.id 0 e))) (λ _. refl)
 
   pub ren_f_count : (renamed_f o n r).count ≡ r.count
@@ -218,8 +218,8 @@ module _ (o n : ℕ) (nz : o ≡ 0 → ⊥) (r : Rec) where
       (λ _ y. swap_has o n r.list v (tidy-has (swapped o n r.list) v y))
       (λ e y. (v, y, swap_other o n v (λ q. true≢false (sym y ∙ ap (has r.list) q ∙ e)))) w) h
 
-list_if : (b : Bool) (r q : Rec) → (if b then r else q).list ≡ (if b then r.list else q.list)
-unfolding if◌then◌else◌
+list_if : (b : Bool) (r q : Rec) → (when b then r else q).list ≡ (when b then r.list else q.list)
+unfolding when◌then◌else◌
 list_if true r q = refl
 list_if false r q = refl
 
@@ -265,7 +265,7 @@ same-emptied a a' s = record { id = s.id; count = refl; area = s.area; visited =
 -- ---- the records after a merge
 
 pub ren_f_fresh : (o n : ℕ) → renamed_f o n (fresh 0) ≡ fresh 0
-unfolding renamed_f fresh if◌then◌else◌
+unfolding renamed_f fresh when◌then◌else◌
 ren_f_fresh o n = refl
 
 module _ (rs : List Rec) (i n : ℕ) (x y : Rec) (hi : i < length rs) (hn : n < length rs) (ne : i ≡ n → ⊥) where
@@ -485,8 +485,8 @@ pub record Both (g h : Merge) : Type 0 where
   pub recs : Alike g.recs h.recs
   pub merges : g.merges ≡ h.merges
 
-both_if : (c d : Bool) (g h x y : Merge) → c ≡ d → Both g h → (d ≡ false → Both x y) → Both (if c then g else x) (if d then h else y)
-unfolding if◌then◌else◌
+both_if : (c d : Bool) (g h x y : Merge) → c ≡ d → Both g h → (d ≡ false → Both x y) → Both (when c then g else x) (when d then h else y)
+unfolding when◌then◌else◌
 both_if c true g h x y e b f = rw e b
 both_if c false g h x y e b f = rw e (f refl)
 
@@ -510,11 +510,11 @@ cond_r area rs i p =
 done_r : List Rec → ℕ → ℕ → ℕ → List Rec
 done_r rs i o n = map (renamed o n) (set (set rs n (absorbed (at rs n) (at rs i))) i (emptied (at rs i)))
 
-one_r : (area i : ℕ) (g : Merge) → merge_one area i g ≡ (if cond_r area g.recs i (pick_r g.recs i) then g else record { recs = done_r g.recs i (at g.recs i).id (pick_r g.recs i).id; merges = suc g.merges })
+one_r : (area i : ℕ) (g : Merge) → merge_one area i g ≡ (when cond_r area g.recs i (pick_r g.recs i) then g else record { recs = done_r g.recs i (at g.recs i).id (pick_r g.recs i).id; merges = suc g.merges })
 unfolding merge_one cond_r cond_of pick_r done_r first_pick
 one_r area i g = refl
 
-pub one_f : (area i : ℕ) (g : Merge) → merge_one_f area i g ≡ (if cond_r area g.recs i (pick_f g.recs i) then g else record { recs = merged_pair g.recs i (at g.recs i).id (pick_f g.recs i).id; merges = suc g.merges })
+pub one_f : (area i : ℕ) (g : Merge) → merge_one_f area i g ≡ (when cond_r area g.recs i (pick_f g.recs i) then g else record { recs = merged_pair g.recs i (at g.recs i).id (pick_f g.recs i).id; merges = suc g.merges })
 unfolding merge_one_f cond_r cond_of pick_f merged_pair first_pick
 one_f area i g = refl
 
@@ -603,8 +603,8 @@ unfolding upto
 round_alike area zero g h B = B
 round_alike area (suc n) g h B = one_alike area n (upto n (merge_one area) g) (upto n (merge_one_f area) h) (round_alike area n g h B)
 
-alike_if : (c d : Bool) (a b x y : List Rec) → c ≡ d → Alike a b → Alike x y → Alike (if c then a else x) (if d then b else y)
-unfolding if◌then◌else◌
+alike_if : (c d : Bool) (a b x y : List Rec) → c ≡ d → Alike a b → Alike x y → Alike (when c then a else x) (when d then b else y)
+unfolding when◌then◌else◌
 alike_if c true a b x y e p q = rw e p
 alike_if c false a b x y e p q = rw e q
 
@@ -625,7 +625,7 @@ lives_same [] [] n s l = refl
 lives_same [] (f ∷ fs) n s l = absurd (omega arith)
 lives_same (r ∷ rs) [] n s l = absurd (omega arith)
 lives_same (r ∷ rs) (f ∷ fs) n s l =
-    ap (λ (y : ℕ). live rs (if eqb y 0 then l else once l y)) (s 0).id ∙ lives_same rs fs (omega arith) (λ x. s (suc x)) (if eqb f.id 0 then l else once l f.id)
+    ap (λ (y : ℕ). live rs (when eqb y 0 then l else once l y)) (s 0).id ∙ lives_same rs fs (omega arith) (λ x. s (suc x)) (when eqb f.id 0 then l else once l f.id)
 
 overs_same : (rs fs : List Rec) → length rs ≡ length fs → ((x : ℕ) → Same (at rs x) (at fs x)) → overlaps rs ≡ overlaps fs
 unfolding overlaps at
@@ -633,7 +633,7 @@ overs_same [] [] n s = refl
 overs_same [] (f ∷ fs) n s = absurd (omega arith)
 overs_same (r ∷ rs) [] n s = absurd (omega arith)
 overs_same (r ∷ rs) (f ∷ fs) n s =
-    ap (λ (b : Bool). if b then suc (overlaps rs) else overlaps rs) (s 0).overlap ∙ ap (λ (y : ℕ). if f.overlap then suc y else y) (overs_same rs fs (omega arith) (λ x. s (suc x)))
+    ap (λ (b : Bool). when b then suc (overlaps rs) else overlaps rs) (s 0).overlap ∙ ap (λ (y : ℕ). when f.overlap then suc y else y) (overs_same rs fs (omega arith) (λ x. s (suc x)))
 
 cuts-same : (rs fs : List Rec) → length rs ≡ length fs → ((x : ℕ) → Same (at rs x) (at fs x)) → cuts rs ≡ cuts fs
 unfolding cuts at
@@ -641,13 +641,13 @@ cuts-same [] [] n s = refl
 cuts-same [] (f ∷ fs) n s = absurd (omega arith)
 cuts-same (r ∷ rs) [] n s = absurd (omega arith)
 cuts-same (r ∷ rs) (f ∷ fs) n s =
-    ap (λ (b : Bool). if b then suc (cuts rs) else cuts rs) (s 0).cut ∙ ap (λ (y : ℕ). if f.cut then suc y else y) (cuts-same rs fs (omega arith) (λ x. s (suc x)))
+    ap (λ (b : Bool). when b then suc (cuts rs) else cuts rs) (s 0).cut ∙ ap (λ (y : ℕ). when f.cut then suc y else y) (cuts-same rs fs (omega arith) (λ x. s (suc x)))
 
 pub numbered_alike : (rs fs : List Rec) → Alike rs fs → (ids : List ℕ) → numbered rs ids ≡ numbered fs ids
 unfolding numbered
 numbered_alike rs fs A ids =
     let l = lives_same rs fs A.size A.same [] in
-    regions_eq _ _ _ _ _ _ _ _ (map_same _ _ ids (λ r. ap (λ (q : List ℕ). if flagged r then r else number_of q (at rs r).id) l ∙ ap (λ (y : ℕ). if flagged r then r else number_of (live fs []) y) (A.same r).id))
+    regions_eq _ _ _ _ _ _ _ _ (map_same _ _ ids (λ r. ap (λ (q : List ℕ). when flagged r then r else number_of q (at rs r).id) l ∙ ap (λ (y : ℕ). when flagged r then r else number_of (live fs []) y) (A.same r).id))
     (ap length l) (overs_same rs fs A.size A.same) (cuts-same rs fs A.size A.same)
 
 -- ---- at the start: live records bear their own numbers
@@ -669,18 +669,18 @@ merge_is area k rs f ids = numbered_alike _ _ (merged_alike area k rs rs (alike_
 -- ---- the rounds end: at each merge one record fewer bears its own number
 
 own_one : List Rec → ℕ → ℕ
-own_one fs x = if eqb (at fs x).id x and not (eqb x 0) then 1 else 0
+own_one fs x = when eqb (at fs x).id x and not (eqb x 0) then 1 else 0
 
 pub owners : ℕ → List Rec → ℕ
 owners zero fs = 0
 owners (suc k) fs = own_one fs k + owners k fs
 
 own_yes : (fs : List Rec) (x : ℕ) → Rep fs x → own_one fs x ≡ 1
-unfolding own_one if◌then◌else◌ ◌and◌
+unfolding own_one when◌then◌else◌ ◌and◌
 own_yes fs x r = rw (eq-eqb (at fs x).id x r.0, ne_eqb x 0 r.1) refl
 
 own_no : (fs : List Rec) (x : ℕ) → ((at fs x).id ≡ x → ⊥) → own_one fs x ≡ 0
-unfolding own_one if◌then◌else◌ ◌and◌
+unfolding own_one when◌then◌else◌ ◌and◌
 own_no fs x n = rw (ne_eqb (at fs x).id x n) refl
 
 own_le : (fs fs' : List Rec) (x : ℕ) → (Rep fs' x → Rep fs x) → own_one fs' x ≤ own_one fs x
@@ -727,7 +727,7 @@ module _ (rs fs : List Rec) (A : Alike rs fs) (i n : ℕ) (ri : Rep fs i) (rn : 
 
 module _ (area i k : ℕ) (g h : Merge) (B : Both g h) (l : i < k) where
   fall_if : (c : Bool) (x : Merge) → (c ≡ false → owners k x.recs + x.merges ≤ owners k h.recs + h.merges)
-      → owners k (if c then h else x).recs + (if c then h else x).merges ≤ owners k h.recs + h.merges
+      → owners k (when c then h else x).recs + (when c then h else x).merges ≤ owners k h.recs + h.merges
   fall_if c x f = if-ind (λ (y : Merge). owners k y.recs + y.merges ≤ owners k h.recs + h.merges) c (λ _. omega arith) f
 
   fall_some : Rep h.recs i → owners k (merge_one_f area i h).recs + (merge_one_f area i h).merges ≤ owners k h.recs + h.merges

@@ -9,7 +9,7 @@ use mathlib.Core.List.{List, [], ◌∷◌, ◌++◌, map}
 use lib.ListN.{length, get_or, set, take, drop, length-take}
 use lib.Seq.{take-append-le, take_all, get_or-set_same, get_or-set_other, take-take, take-add, drop-drop, ext_get_or}
 use borrow.Rule.Slice.PartMut.{put_mid, mid_of, same_len_mid}
-use Rattle.rules.specs.Base.{if◌then◌else◌, any}
+use Rattle.rules.specs.Base.{when◌then◌else◌, any}
 use Rattle.rules.specs.Records.{has}
 use Rattle.rules.specs.Merge.{around, tidy, place}
 use Rattle.laws.proofs.Basics.{drop-take}
@@ -145,11 +145,11 @@ pub part-put : (a k m : ℕ) (ws ys : List ℕ) → a ≤ length ws → m ≤ le
 part-put a k m ws ys h g = ap (take m) (drop_mid a k ws ys h) ∙ take-append-le m ys (drop k (drop a ws)) g
 
 pub renamed-none : (old new : ℕ) (l : List ℕ) → has l old ≡ false → renamed_list old new l ≡ l
-unfolding renamed_list if◌then◌else◌
+unfolding renamed_list when◌then◌else◌
 renamed-none old new l h = rw h
 
 pub renamed_some : (old new : ℕ) (l : List ℕ) → has l old ≡ true → renamed_list old new l ≡ tidy (map (swap_one old new) l)
-unfolding renamed_list if◌then◌else◌
+unfolding renamed_list when◌then◌else◌
 renamed_some old new l h = rw h
 
 module _ (ws : List ℕ) (a e old new k : ℕ) (h : a ≤ e) (g : e ≤ length ws) (q : k ≡ place (take (e - a) (drop a ws)) old) where

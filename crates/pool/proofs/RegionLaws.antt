@@ -12,7 +12,7 @@ use lib.ListN.{length, get_or, set, length-set, length-map}
 use lib.Seq.{get_or-set_same, get_or-set_other}
 use lib.Dec.{eqb}
 use borrow.Author.Tests.{ne_eqb}
-use Rattle.rules.specs.Base.{◌or◌, if◌then◌else◌, any}
+use Rattle.rules.specs.Base.{◌or◌, when◌then◌else◌, any}
 use Rattle.rules.specs.Records.{Rec, at, has}
 use Rattle.rules.specs.Merge.{place, around, tidy, emptied}
 use Rattle.laws.proofs.Basics.{if-ind}
@@ -327,7 +327,7 @@ module _ (m p h o b c n k i j links : ℕ) (ws ws₁ ws₃ : List ℕ) (P : Pool
 
     joined_is : joined_list (list_at ws m (7 * m) n) (list_at ws m (7 * m) i) k j old n
         ≡ new_list old n (get_or ws n 0) (tidy (around (list_at ws m (7 * m) n) (place (list_at ws m (7 * m) n) old) ++ around (list_at ws m (7 * m) i) (place (list_at ws m (7 * m) i) (get_or ws n 0))))
-    unfolding joined_list new_list if◌then◌else◌
+    unfolding joined_list new_list when◌then◌else◌
     joined_is = rw (ne_eqb (get_or ws n 0) 0 L.live', L.first, L.first') refl
 
     rec_n : rec_at ws₄ m (7 * m) (11 * m) n ≡ renamed_f old n (absorbed_f (rec_at ws m (7 * m) (11 * m) n) (rec_at ws m (7 * m) (11 * m) i))

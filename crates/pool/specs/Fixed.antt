@@ -1,6 +1,6 @@
 -- The merge with floors that stay as they were: "a has b as a floor" is found through the present ids.
 use Rattle.std.specs.Prelude.{ℕ, zero, suc, ◌+◌, Bool, false, not, List, [], ◌∷◌, map, ◌++◌, length, get_or, set, eqb, leb, ltb}
-use Rattle.rules.specs.Base.{◌and◌, ◌or◌, if◌then◌else◌, any, many, upto}
+use Rattle.rules.specs.Base.{◌and◌, ◌or◌, when◌then◌else◌, any, many, upto}
 use Rattle.rules.specs.Growth.{flagged}
 use Rattle.rules.specs.Records.{Rec, at, has}
 use Rattle.rules.specs.Merge.{Pick, place, around, tidy, swapped, emptied, Merge}
@@ -26,7 +26,7 @@ better rs a b size = not (eqb b.id 0) and not b.overlap and ltb b.count size and
 
 -- b stands at r
 unfoldable pub pick_one : List Rec → Rec → ℕ → Rec → Pick → Pick
-pick_one rs a r b p = if flagged r then p else if better rs a b p.size then record { size = b.count; id = b.id } else p
+pick_one rs a r b p = when flagged r then p else when better rs a b p.size then record { size = b.count; id = b.id } else p
 
 unfoldable pub picked_f : List Rec → Rec → List ℕ → Pick → Pick
 picked_f rs a [] p = p
@@ -46,14 +46,14 @@ absorbed_f a b = record {
 
 unfoldable pub renamed_f : ℕ → ℕ → Rec → Rec
 renamed_f old new r =
-    if eqb r.id 0 then r else
+    when eqb r.id 0 then r else
     record {
-      id = if eqb r.id old then new else r.id;
+      id = when eqb r.id old then new else r.id;
       count = r.count;
       area = r.area;
       visited = r.visited;
       overlap = r.overlap;
-      list = if has r.list old then tidy (swapped old new r.list) else r.list;
+      list = when has r.list old then tidy (swapped old new r.list) else r.list;
       floors = r.floors;
       cut = r.cut;
     }
@@ -71,7 +71,7 @@ unfoldable pub try_merge : ℕ → ℕ → Merge → Merge
 try_merge i n g =
     let a = at g.recs i in
     let b = at g.recs n in
-    if not (has b.list a.id and has a.list b.id) then g
+    when not (has b.list a.id and has a.list b.id) then g
     else record { recs = merged_pair g.recs i a.id n; merges = suc g.merges }
 
 unfoldable pub merge_one_f : ℕ → ℕ → Merge → Merge
@@ -80,7 +80,7 @@ merge_one_f area i g =
     let a = at rs i in
     let p = picked_f rs a a.list (record { size = 65536; id = a.id }) in
     let b = at rs p.id in
-    if eqb a.id 0 or a.overlap or eqb a.count 0 or (ltb area a.count and has a.list 0) or eqb p.id a.id
+    when eqb a.id 0 or a.overlap or eqb a.count 0 or (ltb area a.count and has a.list 0) or eqb p.id a.id
     or not (has b.list a.id and has a.list b.id) then g else
     record { recs = map (renamed_f a.id p.id) (set (set rs p.id (absorbed_f b a)) i (emptied a)); merges = suc g.merges }
 
@@ -89,4 +89,4 @@ merged_f area zero rs = rs
 merged_f area (suc k) rs =
     let g = upto (length rs) (merge_one_f area) (record { recs = rs; merges = 0 }) in
     let rest = merged_f area k g.recs in
-    if eqb g.merges 0 then rs else rest
+    when eqb g.merges 0 then rs else rest

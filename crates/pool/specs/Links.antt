@@ -2,7 +2,7 @@
 -- the id itself. A place is counted from 1, so that 0 is none. Links stand in two halves, low and p numbers further on high, from a place `from` on; past them, as
 -- wide as the records are many, the last place of each id.
 use Rattle.std.specs.Prelude.{ℕ, zero, suc, ◌+◌, ◌*◌, ◌≤◌, ◌<◌, ◌≡◌, true, List, length, get_or, eqb}
-use Rattle.rules.specs.Base.{if◌then◌else◌}
+use Rattle.rules.specs.Base.{when◌then◌else◌}
 use Rattle.rules.specs.Records.{has}
 use Rattle.space.specs.Space.{Frame}
 use Rattle.table.specs.Map.{wide_end}
@@ -11,7 +11,7 @@ use Rattle.table.specs.View.{wide, list_in, floors_end}
 -- the last of the places before q that names r
 unfoldable pub last_named : (ℕ → ℕ) → ℕ → ℕ → ℕ
 last_named named r zero = 0
-last_named named r (suc q) = if eqb (named q) r then suc q else last_named named r q
+last_named named r (suc q) = when eqb (named q) r then suc q else last_named named r q
 
 -- the place that place q is linked to
 abbrev pub link_at : List ℕ → ℕ → ℕ → ℕ → ℕ

@@ -1,6 +1,6 @@
 -- Parts of the workspace that the merge writes.
 use Rattle.std.specs.Prelude.{ℕ, ◌+◌, ◌-◌, ◌≤◌, ◌<◌, ◌≡◌, ◌⊎◌, List, map, length, get_or}
-use Rattle.rules.specs.Base.{if◌then◌else◌}
+use Rattle.rules.specs.Base.{when◌then◌else◌}
 use Rattle.rules.specs.Records.{has}
 use Rattle.rules.specs.Merge.{tidy}
 use Rattle.pool.specs.Lists.{swap_one}
@@ -19,4 +19,4 @@ pub record Copied (a to k : ℕ) (ws₀ ws : List ℕ) : Type 0 where
 
 -- a list after old became new
 unfoldable pub renamed_list : ℕ → ℕ → List ℕ → List ℕ
-renamed_list old new l = if has l old then tidy (map (swap_one old new) l) else l
+renamed_list old new l = when has l old then tidy (map (swap_one old new) l) else l

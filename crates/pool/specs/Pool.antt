@@ -4,7 +4,7 @@
 -- was, and the places are linked (Links.antt): a merge renames in the lists that name the absorbed record, and looks at no other.
 -- All lists together fit a half, since a merge never lengthens their sum.
 use Rattle.std.specs.Prelude.{ℕ, ◌+◌, ◌-◌, ◌≤◌, ◌<◌, ◌≡◌, ◌⊎◌, not, List, [], ◌++◌, length, get_or, set, eqb}
-use Rattle.rules.specs.Base.{◌or◌, if◌then◌else◌}
+use Rattle.rules.specs.Base.{◌or◌, when◌then◌else◌}
 use Rattle.rules.specs.Merge.{place, around, tidy}
 use Rattle.laws.specs.Sums.{sum_to}
 use Rattle.space.specs.Space.{Frame}
@@ -16,7 +16,7 @@ use Rattle.pool.specs.Links.{LinksPast, Mentions}
 
 -- f with 0 at i
 unfoldable pub without : (ℕ → ℕ) → ℕ → ℕ → ℕ
-without f i x = if eqb x i then 0 else f x
+without f i x = when eqb x i then 0 else f x
 
 -- how long record r's list is
 unfoldable pub len_at : List ℕ → ℕ → ℕ → ℕ
@@ -31,7 +31,7 @@ count_at ws m r = get_or ws (m + r) 0
 
 -- a record's list after the renaming: a dead record's stays
 unfoldable pub new_list : ℕ → ℕ → ℕ → List ℕ → List ℕ
-new_list old new id l = if eqb id 0 then l else renamed_list old new l
+new_list old new id l = when eqb id 0 then l else renamed_list old new l
 
 -- the two halves lie apart, past the tables
 pub record Halves (m p h o : ℕ) (ws : List ℕ) : Type 0 where
@@ -246,7 +246,7 @@ pub record Listed (m n k i j : ℕ) (ws : List ℕ) : Type 0 where
 
 -- the marks of n and i: n bears what either bore, and i none
 unfoldable pub remarked : ℕ → ℕ → ℕ → List ℕ → List ℕ
-remarked m n i ws = if eqb (get_or ws (cuts_at m + i) 0) 0 then ws else set (set ws (cuts_at m + n) 1) (cuts_at m + i) 0
+remarked m n i ws = when eqb (get_or ws (cuts_at m + i) 0) 0 then ws else set (set ws (cuts_at m + n) 1) (cuts_at m + i) 0
 
 -- what that leaves
 pub record Remarked (m n i : ℕ) (ws ws' : List ℕ) : Type 0 where

@@ -1,6 +1,6 @@
 // Neighbour lists: each is a part of the workspace, lent whole.
 ghost use Rattle.std.specs.Prelude.{◌≡◌, ◌++◌, map, suc, ◌+◌, ◌≤◌, ◌<◌, length, take, drop, eqb};
-ghost use Rattle.rules.specs.Base.{many, if◌then◌else◌};
+ghost use Rattle.rules.specs.Base.{many, when◌then◌else◌};
 ghost use Rattle.rules.specs.Contour.{trim};
 ghost use Rattle.rules.specs.Merge.{tidy};
 ghost use Rattle.laws.specs.Squeeze.{squeeze};
@@ -69,7 +69,7 @@ pub(crate) fn remove_adjacent_neighbours(l: &mut [u16]) -> usize
 // One more if x is r.
 fn count_one(k: usize, r: u16, x: u16) -> usize
     requires { k < 18446744073709551615 }
-    ensures { (result ≡ (if eqb r x then suc k else k)) × (result ≤ k + 1) }
+    ensures { (result ≡ (when eqb r x then suc k else k)) × (result ≤ k + 1) }
 {
     if r == x {
         return k + 1;

@@ -11,7 +11,7 @@ use mathlib.Core.List.{List, [], ◌∷◌, map}
 use lib.ListN.{length, get_or, length-map, get_or-map}
 use lib.Dec.{eqb}
 use borrow.Author.Tests.{eqb-true, eqb-false, eq-eqb, le-leb, lt-leb}
-use Rattle.rules.specs.Base.{if◌then◌else◌, upto, any}
+use Rattle.rules.specs.Base.{when◌then◌else◌, upto, any}
 use Rattle.rules.specs.Field.{Field, Bytes, spans}
 use Rattle.rules.specs.Net.{net_of}
 use Rattle.rules.specs.Growth.{flagged, plain, first_id, grown, stops}
@@ -112,16 +112,16 @@ rank-plain ids s h p =
 
 -- ---------------------------------------------------------------- a choice by the flag
 
-if-flagged : (r a b : ℕ) → 0x8000 ≤ r → (if flagged r then a else b) ≡ a
-unfolding if◌then◌else◌
+if-flagged : (r a b : ℕ) → 0x8000 ≤ r → (when flagged r then a else b) ≡ a
+unfolding when◌then◌else◌
 if-flagged r a b h = rw (le-leb 0x8000 r h)
 
-if-plain : (r a b : ℕ) → r < 0x8000 → (if flagged r then a else b) ≡ b
-unfolding if◌then◌else◌
+if-plain : (r a b : ℕ) → r < 0x8000 → (when flagged r then a else b) ≡ b
+unfolding when◌then◌else◌
 if-plain r a b h = rw (lt-leb 0x8000 r h)
 
 number_none : (l : List ℕ) (c : ℕ) → c ≡ 0 → number_of l c ≡ 0
-unfolding number_of if◌then◌else◌
+unfolding number_of when◌then◌else◌
 number_none l c e = rw (eq-eqb c 0 e)
 
 rank-none : (ids : List ℕ) → rank ids 0 ≡ 0
@@ -192,15 +192,15 @@ module _ (F : Field) (dist : List ℕ) (most : ℕ) (z : Sizes) (bytes : Bytes F
 
   -- the number of a span in the compared form, and in the dense form
   number_is : (s : ℕ) → s < spans F
-      → (let r = grown_id F dist most z s in get_or (built F dist most z).ids s 0 ≡ (if flagged r then r else number_of (live rs []) (at rs r).id))
+      → (let r = grown_id F dist most z s in get_or (built F dist most z).ids s 0 ≡ (when flagged r then r else number_of (live rs []) (at rs r).id))
   unfolding regions numbered
-  number_is s h = map_at (λ r. if flagged r then r else number_of (live rs []) (at rs r).id) ids s (omega (arith, grow.size))
+  number_is s h = map_at (λ r. when flagged r then r else number_of (live rs []) (at rs r).id) ids s (omega (arith, grow.size))
 
   dense_is : (s : ℕ) → s < spans F
-      → (let n = get_or (built F dist most z).ids s 0 in final_id F dist most z s ≡ (if flagged n then n else rank (built F dist most z).ids n))
+      → (let n = get_or (built F dist most z).ids s 0 in final_id F dist most z s ≡ (when flagged n then n else rank (built F dist most z).ids n))
   unfolding formed condensed
   dense_is s h =
-      map_at (λ r. if flagged r then r else rank (built F dist most z).ids r) (built F dist most z).ids s
+      map_at (λ r. when flagged r then r else rank (built F dist most z).ids r) (built F dist most z).ids s
       (omega (arith, grow.size, regions-length F z.least z.merge ids next))
 
   -- a flagged id stays

@@ -12,7 +12,7 @@ use lib.ListN.{length, get_or, set, length-set}
 use lib.Seq.{get_or-set_same, get_or-set_other}
 use lib.Dec.{eqb}
 use borrow.Author.Tests.{eqb-true, eqb-false, eq-eqb, ne_eqb, lt-leb, not-true}
-use Rattle.rules.specs.Base.{◌and◌, if◌then◌else◌, upto, any}
+use Rattle.rules.specs.Base.{◌and◌, when◌then◌else◌, upto, any}
 use Rattle.rules.specs.Field.{Field, Bytes, none}
 use Rattle.rules.specs.Net.{Net, net_of, spans, near, area_of}
 use Rattle.rules.specs.Growth.{Marks, id_of, put, flagged, painted, first_id, takes, finds, Spread, round, rounds, expand, Seed, Flow, other, objects, pushed, visit, flow, flood, Ids, floods, floods_run_out, Turn, loaded, turn, turn_stops, stops}
@@ -34,14 +34,14 @@ use Rattle.reasons.proofs.Written.{has_all, Waits, start_waits, finds-takes, rou
 
 -- three choices by one test
 if_ind₃ {ℓ κ μ ν} : {A : Type ℓ} {B : Type κ} {C : Type μ} (P : A → B → C → Type ν) (b : Bool) {x y : A} {u v : B} {w z : C} → (b ≡ true → P x u w) → (b ≡ false → P y v z)
-    → P (if b then x else y) (if b then u else v) (if b then w else z)
-unfolding if◌then◌else◌
+    → P (when b then x else y) (when b then u else v) (when b then w else z)
+unfolding when◌then◌else◌
 if_ind₃ P true p q = p refl
 if_ind₃ P false p q = q refl
 
 if_ind₄ {ℓ κ μ ν ξ} : {A : Type ℓ} {B : Type κ} {C : Type μ} {D : Type ν} (P : A → B → C → D → Type ξ) (b : Bool) {x y : A} {u v : B} {w z : C} {i j : D}
-    → (b ≡ true → P x u w i) → (b ≡ false → P y v z j) → P (if b then x else y) (if b then u else v) (if b then w else z) (if b then i else j)
-unfolding if◌then◌else◌
+    → (b ≡ true → P x u w i) → (b ≡ false → P y v z j) → P (when b then x else y) (when b then u else v) (when b then w else z) (when b then i else j)
+unfolding when◌then◌else◌
 if_ind₄ P true p q = p refl
 if_ind₄ P false p q = q refl
 
@@ -164,7 +164,7 @@ module _ (N : Net) (dist : List ℕ) (m₀ : Marks) (s : ℕ) where
             flag = λ k f q. h.flag k f (sym stays ∙ q);
           }
 
-      round_asks : (x : ℕ) → x ≡ s → Known (rounded p ∷ l) (round N p).marks (if has p.stack x and finds N p.marks x then took_from (source N p.marks x) y else y)
+      round_asks : (x : ℕ) → x ≡ s → Known (rounded p ∷ l) (round N p).marks (when has p.stack x and finds N p.marks x then took_from (source N p.marks x) y else y)
       round_asks x e = rw e (if-ind (λ (v : Story). Known (rounded p ∷ l) (round N p).marks v) _ round-takes round_rests)
 
       round_known : Known (rounded p ∷ l) (round N p).marks (round_tells N p y)
@@ -253,7 +253,7 @@ module _ (N : Net) (dist : List ℕ) (m₀ : Marks) (s : ℕ) where
         abbrev event : Event
         event = popped q c g
 
-        visit_heard : (x : ℕ) → x ≡ s → (v : Story) → v ≡ (if eqb c x and objects N g.marks q c then gave_back q.id (objecting N g.marks q c) y else y)
+        visit_heard : (x : ℕ) → x ≡ s → (v : Story) → v ≡ (when eqb c x and objects N g.marks q c then gave_back q.id (objecting N g.marks q c) y else y)
             → Heard (event ∷ l) v r × (v.from ≡ y.from)
         unfolding gave_back
         visit_heard x e v i =
@@ -467,7 +467,7 @@ module _ (N : Net) (dist : List ℕ) (m₀ : Marks) (s : ℕ) where
         let in_e = al.0 (eqb-false _ _ (not-true _ t2.0)) in
         let free : id_of m e ≡ 0 = eqb-true _ _ t2.1 in
         let f = flood N dist level id m e in
-        floods_known first level es al.1 f.marks (if eqb f.count 0 then id else suc id) (after_last _ id b o2.0)
+        floods_known first level es al.1 f.marks (when eqb f.count 0 then id else suc id) (after_last _ id b o2.0)
         (flood_grow N first dist level id m e b in_e.0 in_e.1 (bytes e in_e.0) free g) o2.1 _ _ (flood_known first level id m e b in_e.0 free g l y h))
         (λ _ u. floods_known first level es al.1 m id b g u l y h) o
 

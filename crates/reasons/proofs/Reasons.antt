@@ -7,7 +7,7 @@ use mathlib.Core.Logic.{◌↔◌, ◌⊎◌, inl, inr}
 use mathlib.Core.List.{List, []}
 use lib.ListN.{length, get_or}
 use borrow.Author.Tests.{eqb-true, eqb-false, eq-eqb, ne_eqb, leb-true, leb-false, le-leb, lt-leb}
-use Rattle.rules.specs.Base.{if◌then◌else◌}
+use Rattle.rules.specs.Base.{when◌then◌else◌}
 use Rattle.rules.specs.Field.{Field, Bytes, spans, none}
 use Rattle.rules.specs.Net.{area_of}
 use Rattle.rules.specs.Growth.{stops}
@@ -92,7 +92,7 @@ module _ (F : Field) (dist : List ℕ) (most : ℕ) (z : Sizes) (s : ℕ) where
 
   -- and no other is
   first-told : (n : ℕ) → First F dist most z s n → n ≡ reason_number (reason_of F dist most z s)
-  unfolding reason_of if◌then◌else◌
+  unfolding reason_of when◌then◌else◌
   first-told n (bare e a) = rw (eq-eqb area 0 a) e
   first-told n (strip e a b) = rw (ne_eqb area 0 a, le-leb 0x8000 r b) e
   first-told n (missed e a b d) = rw (ne_eqb area 0 a, lt-leb 0x8000 r b, eq-eqb r 0 d) e

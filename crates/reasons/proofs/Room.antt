@@ -8,7 +8,7 @@ use mathlib.Core.Bool.{true, false, false≢true}
 use mathlib.Core.List.{List, [], ◌∷◌}
 use lib.ListN.{length, get_or, set, length-set}
 use borrow.Author.Tests.{eq-eqb}
-use Rattle.rules.specs.Base.{if◌then◌else◌, tab}
+use Rattle.rules.specs.Base.{when◌then◌else◌, tab}
 use Rattle.rules.specs.Field.{Field, Bytes, spans}
 use Rattle.rules.specs.Growth.{plain, grown, stops}
 use Rattle.rules.specs.Records.{Rec, fresh, at, counted, add_span, records}
@@ -46,13 +46,13 @@ tally_store (r ∷ rs) (suc i) v =
     if_ind₂ (λ (n m : ℕ). n ≤ suc m) (spanned r) (λ _. omega arith) (λ _. omega arith)
 
 tally-fresh : (n k : ℕ) → tally spanned (tab n k fresh) ≡ 0
-unfolding tally tab fresh if◌then◌else◌
+unfolding tally tab fresh when◌then◌else◌
 tally-fresh zero k = refl
 tally-fresh (suc n) k = rw (spanned_no (fresh k) refl) (tally-fresh n (suc k))
 
 -- of records that have spans only where the others have
 tally_fewer : (l m : List Rec) → length l ≡ length m → ((x : ℕ) → (at m x).count ≡ 0 → (at l x).count ≡ 0) → tally spanned l ≤ tally spanned m
-unfolding at tally if◌then◌else◌
+unfolding at tally when◌then◌else◌
 tally_fewer [] m e h = omega arith
 tally_fewer (x ∷ l) [] e h = absurd (omega arith)
 tally_fewer (x ∷ l) (y ∷ m) e h =

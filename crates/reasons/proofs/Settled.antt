@@ -9,7 +9,7 @@ use mathlib.Core.List.{List, [], ◌∷◌, map}
 use lib.ListN.{length, get_or, length-map}
 use lib.Dec.{eqb}
 use borrow.Author.Tests.{eqb-true, eqb-false, eq-eqb, ne_eqb, ltb-false, not-true, not-false}
-use Rattle.rules.specs.Base.{◌and◌, if◌then◌else◌, upto, tab, keep, any, many}
+use Rattle.rules.specs.Base.{◌and◌, when◌then◌else◌, upto, tab, keep, any, many}
 use Rattle.rules.specs.Field.{Field, none}
 use Rattle.rules.specs.Net.{Net, net_of, spans, near, area_of}
 use Rattle.rules.specs.Growth.{Marks, id_of, put, walkable, painted, blank, takes, finds, wrote, written, Spread, round, rounds, expand, exceeds, strays, rounds_stray, expand_strays}
@@ -45,16 +45,16 @@ has-keep p (y ∷ l) x h e =
     (λ q. absurd (true≢false (sym e ∙ ap p (eqb-true x y q) ∙ f))) (λ q. has-keep p l x q e))
 
 -- an entry that is not marked stays
-has-marked : (f : ℕ → Bool) (l : List ℕ) (x : ℕ) → has l x ≡ true → f x ≡ false → has (map (λ e. if f e then none else e) l) x ≡ true
+has-marked : (f : ℕ → Bool) (l : List ℕ) (x : ℕ) → has l x ≡ true → f x ≡ false → has (map (λ e. when f e then none else e) l) x ≡ true
 unfolding any
 has-marked f [] x h e = h
 has-marked f (y ∷ l) x h e =
-    either (has (map (λ e. if f e then none else e) (y ∷ l)) x ≡ true) (eqb x y) (any (eqb x) l) h
+    either (has (map (λ e. when f e then none else e) (y ∷ l)) x ≡ true) (eqb x y) (any (eqb x) l) h
     (λ q.
     let k : y ≡ x = sym (eqb-true x y q) in
-    or_left (eqb x (if f y then none else y)) _
+    or_left (eqb x (when f y then none else y)) _
     (if-ind (λ (v : ℕ). eqb x v ≡ true) (f y) (λ t. absurd (true≢false (sym t ∙ ap f k ∙ e))) (λ _. eq-eqb x y (sym k))))
-    (λ q. or_right (eqb x (if f y then none else y)) _ (has-marked f l x q e))
+    (λ q. or_right (eqb x (when f y then none else y)) _ (has-marked f l x q e))
 
 any_none : (p : ℕ → Bool) (l : List ℕ) (x : ℕ) → any p l ≡ false → has l x ≡ true → p x ≡ false
 unfolding any
@@ -143,21 +143,21 @@ finds-vacant N m e f = (both _ _ f).0
 
 -- one more entry, marked or not (b), unused or not (u)
 one_more_lem : (b u : Bool) (A B C : ℕ) → (b ≡ true → u ≡ true) → A + B ≡ C
-    → (if (if b then false else u) then suc A else A) + (if b then suc B else B) ≡ (if u then suc C else C)
-unfolding if◌then◌else◌
+    → (when (when b then false else u) then suc A else A) + (when b then suc B else B) ≡ (when u then suc C else C)
+unfolding when◌then◌else◌
 one_more_lem true true A B C k r = omega arith
 one_more_lem true false A B C k r = absurd (false≢true (k refl))
 one_more_lem false true A B C k r = omega arith
 one_more_lem false false A B C k r = r
 
-vacant-marked : (b : Bool) (e : ℕ) → vacant (if b then none else e) ≡ (if b then false else vacant e)
-unfolding if◌then◌else◌
+vacant-marked : (b : Bool) (e : ℕ) → vacant (when b then none else e) ≡ (when b then false else vacant e)
+unfolding when◌then◌else◌
 vacant-marked true e = refl
 vacant-marked false e = refl
 
 -- an unused entry for each that f marks
 marks_used : (f : ℕ → Bool) → ((e : ℕ) → f e ≡ true → vacant e ≡ true) → (es : List ℕ)
-    → many vacant (map (λ e. if f e then none else e) es) + many f es ≡ many vacant es
+    → many vacant (map (λ e. when f e then none else e) es) + many f es ≡ many vacant es
 unfolding many
 marks_used f h [] = refl
 marks_used f h (e ∷ es) = rw (vacant-marked (f e) e) (one_more_lem (f e) (vacant e) _ _ _ (h e) (marks_used f h es))
@@ -172,16 +172,16 @@ unfolding round
 fewer N p k l t = omega (arith, any-many (finds N p.marks) p.stack t, marks_used (finds N p.marks) (finds-vacant N p.marks) p.stack)
 
 -- an entry of id 0 stays
-has_zero : (m : Marks) (l : List ℕ) (x : ℕ) → has l x ≡ true → id_of m x ≡ 0 → has (map (λ e. if eqb (id_of m e) 0 then e else none) l) x ≡ true
+has_zero : (m : Marks) (l : List ℕ) (x : ℕ) → has l x ≡ true → id_of m x ≡ 0 → has (map (λ e. when eqb (id_of m e) 0 then e else none) l) x ≡ true
 unfolding any
 has_zero m [] x h e = h
 has_zero m (y ∷ l) x h e =
-    either (has (map (λ e. if eqb (id_of m e) 0 then e else none) (y ∷ l)) x ≡ true) (eqb x y) (any (eqb x) l) h
+    either (has (map (λ e. when eqb (id_of m e) 0 then e else none) (y ∷ l)) x ≡ true) (eqb x y) (any (eqb x) l) h
     (λ q.
     let k : x ≡ y = eqb-true x y q in
-    or_left (eqb x (if eqb (id_of m y) 0 then y else none)) _
+    or_left (eqb x (when eqb (id_of m y) 0 then y else none)) _
     (if-ind (λ (v : ℕ). eqb x v ≡ true) (eqb (id_of m y) 0) (λ _. q) (λ f. absurd (eqb-false _ _ f (ap (id_of m) (sym k) ∙ e)))))
-    (λ q. or_right (eqb x (if eqb (id_of m y) 0 then y else none)) _ (has_zero m l x q e))
+    (λ q. or_right (eqb x (when eqb (id_of m y) 0 then y else none)) _ (has_zero m l x q e))
 
 finds-none : (N : Net) (m : Marks) (s : ℕ) → finds N m s ≡ false → (s ≡ none → ⊥) → (takes N m s).id ≡ 0
 unfolding finds ◌and◌
@@ -258,17 +258,17 @@ module _ (N : Net) (s : ℕ) (inside : s < spans N) (few : spans N ≤ 65535) wh
     last = (expand N 0 m es).marks
 
     abbrev begin : Spread
-    begin = record { marks = m; stack = map (λ e. if eqb (id_of m e) 0 then e else none) es }
+    begin = record { marks = m; stack = map (λ e. when eqb (id_of m e) 0 then e else none) es }
 
-    begin_waits : All (Waits m) (map (λ e. if eqb (id_of m e) 0 then e else none) es)
+    begin_waits : All (Waits m) (map (λ e. when eqb (id_of m e) 0 then e else none) es)
     begin_waits = start_waits m es
 
-    few_vacant : many vacant (map (λ e. if eqb (id_of m e) 0 then e else none) es) < suc (length es)
-    few_vacant = let h = many_le vacant (map (λ e. if eqb (id_of m e) 0 then e else none) es) in omega (arith, length-map es (λ e. if eqb (id_of m e) 0 then e else none))
+    few_vacant : many vacant (map (λ e. when eqb (id_of m e) 0 then e else none) es) < suc (length es)
+    few_vacant = let h = many_le vacant (map (λ e. when eqb (id_of m e) 0 then e else none) es) in omega (arith, length-map es (λ e. when eqb (id_of m e) 0 then e else none))
 
     module _ (o : expand_strays N 0 m es ≡ false) (z : id_of last s ≡ 0) where
       at_first : id_of m s ≡ 0
-      unfolding expand if◌then◌else◌
+      unfolding expand when◌then◌else◌
       at_first = elim (ℕ_discrete (id_of m s) 0) [ yes e ↦ e | no e ↦ absurd (rounds-keep (suc (length es)) begin begin_waits e z) ]
 
       -- it waits
@@ -278,11 +278,11 @@ module _ (N : Net) (s : ℕ) (inside : s < spans N) (few : spans N ≤ 65535) wh
           has-keep (λ x. walkable N.areas x and eqb (get_or m.ids x 0) 0) (tab (spans N) 0 (λ x. x)) s (has-tab (spans N) 0 s (omega arith) (omega arith))
           (and_both _ _ (ap not (ne_eqb (get_or N.areas s 256) 0 walks)) (eq-eqb (id_of m s) 0 at_first))
 
-      in_stack : has (map (λ e. if eqb (id_of m e) 0 then e else none) es) s ≡ true
+      in_stack : has (map (λ e. when eqb (id_of m e) 0 then e else none) es) s ≡ true
       in_stack = has_zero m es s in_blank at_first
 
       ends : Ends (expand N 0 m es)
-      unfolding expand expand_strays if◌then◌else◌
+      unfolding expand expand_strays when◌then◌else◌
       ends = rounds-end (suc (length es)) begin begin_waits size few_vacant o in_stack z
 
       -- no neighbour of its area has a room's id

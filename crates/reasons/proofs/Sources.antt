@@ -8,7 +8,7 @@ use mathlib.Core.Bool.{Bool, true, false, not, false≢true}
 use mathlib.Core.Logic.{◌⊎◌, inl, inr}
 use lib.Dec.{eqb}
 use borrow.Author.Tests.{eqb-true, eqb-false, eq-eqb, ltb-true, ltb-false, ne_eqb, not-true, not-false}
-use Rattle.rules.specs.Base.{◌and◌, if◌then◌else◌}
+use Rattle.rules.specs.Base.{◌and◌, when◌then◌else◌}
 use Rattle.rules.specs.Net.{Net, near, corner, area_of}
 use Rattle.rules.specs.Growth.{Marks, id_of, plain, Taken, look, takes, Seed, other, sees, or_else, objects}
 use Rattle.rules.specs.Reasons.{gives, source, objector, objecting}
@@ -93,7 +93,7 @@ module _ (N : Net) (m : Marks) (s : ℕ) where
 
   -- the first direction in which a neighbour has the sum
   source-at : (d : ℕ) → d < 4 → gives N m s (takes N m s).far d ≡ true → ((i : ℕ) → i < d → gives N m s (takes N m s).far i ≡ false) → source N m s ≡ near N s d
-  unfolding source if◌then◌else◌
+  unfolding source when◌then◌else◌
   source-at zero l e f = rw e
   source-at (suc zero) l e f = rw (f 0 (omega arith), e)
   source-at (suc (suc zero)) l e f = rw (f 0 (omega arith), f 1 (omega arith), e)
@@ -180,7 +180,7 @@ module _ (N : Net) (m : Marks) (q : Seed) (c : ℕ) where
   zero_two x e = rw e
 
   objecting-at : (d : ℕ) → d < 4 → sees N m q c d ≡ 2 → ((i : ℕ) → i < d → sees N m q c i ≡ 0) → objecting N m q c ≡ objector N m q c d
-  unfolding objecting if◌then◌else◌
+  unfolding objecting when◌then◌else◌
   objecting-at zero l e f = rw (eq-eqb _ 2 e)
   objecting-at (suc zero) l e f = rw (zero_two _ (f 0 (omega arith)), eq-eqb _ 2 e)
   objecting-at (suc (suc zero)) l e f = rw (zero_two _ (f 0 (omega arith)), zero_two _ (f 1 (omega arith)), eq-eqb _ 2 e)

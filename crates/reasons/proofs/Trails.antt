@@ -9,7 +9,7 @@ use mathlib.Core.List.{List, [], ◌∷◌, ◌++◌}
 use lib.ListN.{length, get_or, length-append}
 use lib.Dec.{eqb}
 use borrow.Author.Tests.{eq-eqb, ne_eqb, eqb-false, not-false}
-use Rattle.rules.specs.Base.{if◌then◌else◌, upto}
+use Rattle.rules.specs.Base.{when◌then◌else◌, upto}
 use Rattle.rules.specs.Records.{Rec, fresh, at, has}
 use Rattle.rules.specs.Merge.{picked, Merge, merge_one, merged}
 use Rattle.rules.specs.Reasons.{Merging, merge_tells, round_merges, mergings, trail}
@@ -26,19 +26,19 @@ became [] r = r
 became (x ∷ xs) r = became xs (ren x.old x.new r)
 
 pub ren_hit : (a b x : ℕ) → x ≡ a → ren a b x ≡ b
-unfolding if◌then◌else◌
+unfolding when◌then◌else◌
 ren_hit a b x e = rw (eq-eqb x a e)
 
 pub ren_miss : (a b x : ℕ) → (x ≡ a → ⊥) → ren a b x ≡ x
-unfolding if◌then◌else◌
+unfolding when◌then◌else◌
 ren_miss a b x n = rw (ne_eqb x a n)
 
 trail_hit : (x : Merging) (xs : List Merging) (r : ℕ) → x.old ≡ r → trail (x ∷ xs) r ≡ r ∷ trail xs x.new
-unfolding trail if◌then◌else◌
+unfolding trail when◌then◌else◌
 trail_hit x xs r e = rw (eq-eqb x.old r e)
 
 trail_miss : (x : Merging) (xs : List Merging) (r : ℕ) → (x.old ≡ r → ⊥) → trail (x ∷ xs) r ≡ trail xs r
-unfolding trail if◌then◌else◌
+unfolding trail when◌then◌else◌
 trail_miss x xs r n = rw (ne_eqb x.old r n)
 
 -- "the trail of merges from the flood's id": it begins there
@@ -77,14 +77,14 @@ became_then (y ∷ ms) x r = became_then ms x (ren y.old y.new r)
 
 -- what is told of a turn that leaves g'
 abbrev told_of : ℕ → Merge → List Merging → Merge → List Merging
-told_of i g l g' = if eqb g'.merges g.merges then l else l ++ (record { old = (at g.recs i).id; new = (at g'.recs i).id } ∷ [])
+told_of i g l g' = when eqb g'.merges g.merges then l else l ++ (record { old = (at g.recs i).id; new = (at g'.recs i).id } ∷ [])
 
 still : (i : ℕ) (g : Merge) (l : List Merging) → told_of i g l g ≡ l
-unfolding if◌then◌else◌
+unfolding when◌then◌else◌
 still i g l = rw (eq-eqb g.merges g.merges refl)
 
 goes : (i : ℕ) (g : Merge) (l : List Merging) (rs : List Rec) → told_of i g l (record { recs = rs; merges = suc g.merges }) ≡ l ++ (record { old = (at g.recs i).id; new = (at rs i).id } ∷ [])
-unfolding if◌then◌else◌
+unfolding when◌then◌else◌
 goes i g l rs = rw (ne_eqb (suc g.merges) g.merges (λ e. omega arith))
 
 -- record x bears what r has become, before the turn and after it
@@ -108,8 +108,8 @@ unfolding round_merges upto
 round_became area zero g l x r h = h
 round_became area (suc k) g l x r h = one_became area k (upto k (merge_one area) g) (round_merges area k g l) x r (round_became area k g l x r h)
 
-either : (b : Bool) (l l' : List Merging) (rs rs' : List Rec) (x r : ℕ) → became l r ≡ (at rs x).id → became l' r ≡ (at rs' x).id → became (if b then l else l') r ≡ (at (if b then rs else rs') x).id
-unfolding if◌then◌else◌
+either : (b : Bool) (l l' : List Merging) (rs rs' : List Rec) (x r : ℕ) → became l r ≡ (at rs x).id → became l' r ≡ (at rs' x).id → became (when b then l else l') r ≡ (at (when b then rs else rs') x).id
+unfolding when◌then◌else◌
 either true l l' rs rs' x r p q = p
 either false l l' rs rs' x r p q = q
 
@@ -152,8 +152,8 @@ round-told area zero g l = omega arith
 round-told area (suc k) g l = omega (arith, one_told area k (upto k (merge_one area) g) (round_merges area k g l), round-told area k g l)
 
 either_few : (b : Bool) (l l' : List Merging) (rs rs' : List Rec) (n : ℕ) → length l + tally spanned rs ≤ n → length l' + tally spanned rs' ≤ n
-    → length (if b then l else l') + tally spanned (if b then rs else rs') ≤ n
-unfolding if◌then◌else◌
+    → length (when b then l else l') + tally spanned (when b then rs else rs') ≤ n
+unfolding when◌then◌else◌
 either_few true l l' rs rs' n p q = p
 either_few false l l' rs rs' n p q = q
 
@@ -174,7 +174,7 @@ pub record Owns (rs : List Rec) : Type 0 where
   pub own : (x : ℕ) → Live rs x → ((at rs x).count ≡ 0 → ⊥) → (at rs x).id ≡ x
 
 pub some_spanned : (rs : List Rec) (x : ℕ) → ((at rs x).count ≡ 0 → ⊥) → 0 < tally spanned rs
-unfolding at fresh tally if◌then◌else◌
+unfolding at fresh tally when◌then◌else◌
 some_spanned [] x h = absurd (h refl)
 some_spanned (r ∷ rs) zero h = rw (spanned_yes r h) (omega arith)
 some_spanned (r ∷ rs) (suc x) h = if-ind (λ (n : ℕ). 0 < n) (spanned r) (λ _. omega arith) (λ _. some_spanned rs x h)

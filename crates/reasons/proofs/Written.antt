@@ -8,7 +8,7 @@ use lib.ListN.{length, length-set}
 use lib.Seq.{get_or-set_same, get_or-set_other}
 use lib.Dec.{eqb}
 use borrow.Author.Tests.{eqb-true, eqb-false, eq-eqb, not-true}
-use Rattle.rules.specs.Base.{if◌then◌else◌, any}
+use Rattle.rules.specs.Base.{when◌then◌else◌, any}
 use Rattle.rules.specs.Field.{none}
 use Rattle.rules.specs.Net.{Net}
 use Rattle.rules.specs.Growth.{Marks, id_of, put, takes, finds, wrote, written, Spread, round}
@@ -77,7 +77,7 @@ abbrev pub Waits : Marks → ℕ → Type 0
 Waits m e = (e ≡ none → ⊥) → id_of m e ≡ 0
 
 -- an expansion begins with entries that wait
-pub start_waits : (m : Marks) (es : List ℕ) → All (Waits m) (map (λ e. if eqb (id_of m e) 0 then e else none) es)
+pub start_waits : (m : Marks) (es : List ℕ) → All (Waits m) (map (λ e. when eqb (id_of m e) 0 then e else none) es)
 start_waits m [] = tt
 start_waits m (e ∷ es) = (if-ind (λ (x : ℕ). Waits m x) (eqb (id_of m e) 0) (λ k _. eqb-true _ _ k) (λ _ n. absurd (n refl)), start_waits m es)
 
@@ -115,6 +115,6 @@ module _ (N : Net) (p : Spread) where
     pub round_waits : All (Waits (round N p).marks) (round N p).stack
     unfolding round
     round_waits =
-        map_all (Waits p.marks) (Waits (written N p.marks p.stack p.marks)) (λ e. if finds N p.marks e then none else e) p.stack
+        map_all (Waits p.marks) (Waits (written N p.marks p.stack p.marks)) (λ e. when finds N p.marks e then none else e) p.stack
         (λ e k. if-ind (λ (x : ℕ). Waits (written N p.marks p.stack p.marks) x) (finds N p.marks e) (λ _ n. absurd (n refl))
         (λ f n. written_still N p.marks p.stack p.marks e f ∙ k n)) w

@@ -1,7 +1,7 @@
 -- What growth does, as a log: each step of the plain rules (Growth) with all that it began with, the latest first.
 -- The log is what happened: replayed it gives the grown ids (`log_replays`), and each step begins with what the step before it left (`log_is_growth`).
 use Rattle.std.specs.Prelude.{ℕ, zero, suc, ◌+◌, ◌*◌, ◌-◌, ◌/◌, ◌%◌, ◌≤◌, ◌<◌, ◌≡◌, true, false, not, ◌⊎◌, List, [], ◌∷◌, map, length, get_or, eqb}
-use Rattle.rules.specs.Base.{◌and◌, if◌then◌else◌, upto, any}
+use Rattle.rules.specs.Base.{◌and◌, when◌then◌else◌, upto, any}
 use Rattle.rules.specs.Field.{Field, none}
 use Rattle.rules.specs.Net.{Net, net_of, spans, near, corner, area_of}
 use Rattle.rules.specs.Growth.{Marks, id_of, put, painted, first_id, blank, finds, Spread, round, expand}
@@ -20,12 +20,12 @@ unfoldable pub rounds_log : Net → ℕ → Spread → List Event → List Event
 rounds_log N zero p l = l
 rounds_log N (suc k) p l =
     let rest = rounds_log N k (round N p) (rounded p ∷ l) in
-    if any (finds N p.marks) p.stack then rest else l
+    when any (finds N p.marks) p.stack then rest else l
 
 unfoldable pub expand_log : Net → ℕ → Marks → List ℕ → List Event → List Event
 expand_log N level m es l =
-    rounds_log N (if eqb level 0 then suc (length es) else 8)
-    (record { marks = m; stack = map (λ e. if eqb (id_of m e) 0 then e else none) es }) l
+    rounds_log N (when eqb level 0 then suc (length es) else 8)
+    (record { marks = m; stack = map (λ e. when eqb (id_of m e) 0 then e else none) es }) l
 
 unfoldable pub flow_log : Net → List ℕ → Seed → ℕ → List ℕ → Marks → ℕ → List Event → List Event
 flow_log N dist q zero todo m n l = l
@@ -43,9 +43,9 @@ unfoldable pub floods_log : Net → List ℕ → ℕ → List ℕ → Marks → 
 floods_log N dist level [] m id l = l
 floods_log N dist level (e ∷ es) m id l =
     let f = flood N dist level id m e in
-    let hit = floods_log N dist level es f.marks (if eqb f.count 0 then id else suc id) (flood_log N dist level id m e l) in
+    let hit = floods_log N dist level es f.marks (when eqb f.count 0 then id else suc id) (flood_log N dist level id m e l) in
     let miss = floods_log N dist level es m id l in
-    if not (eqb e none) and eqb (id_of m e) 0 then hit else miss
+    when not (eqb e none) and eqb (id_of m e) 0 then hit else miss
 
 unfoldable pub turn_log : Net → List ℕ → ℕ → ℕ → Turn → List Event → List Event
 turn_log N dist top k t l =

@@ -12,7 +12,7 @@ use lib.ListN.{length, get_or, set}
 use lib.Dec.{eqb, ltb}
 use borrow.Author.Tests.{eqb-true}
 use mathlib.Core.Logic.{⊎_elim}
-use Rattle.rules.specs.Base.{◌and◌, ◌or◌, if◌then◌else◌, upto, tab}
+use Rattle.rules.specs.Base.{◌and◌, ◌or◌, when◌then◌else◌, upto, tab}
 use Rattle.rules.specs.Field.{Field, spans, cell_of, none}
 use Rattle.rules.specs.Net.{Net, net_of}
 use Rattle.rules.specs.Growth.{plain}
@@ -53,9 +53,9 @@ no_list : (l : List ℕ) → eqb (length l) 0 ≡ true → l ≡ []
 no_list [] e = refl
 no_list (x ∷ l) e = let z : suc (length l) ≡ 0 = eqb-true (suc (length l)) 0 e in absurd (omega arith)
 
-list_is : (N : Net) (ids l : List ℕ) (s : ℕ) (b : Bool) → eqb (length l) 0 ≡ b → (if b then traced N ids s else l)
-    ≡ (if b and ltb (first_solid N ids s) 4 then contour N ids s (first_solid N ids s) else l)
-unfolding traced if◌then◌else◌ ◌and◌
+list_is : (N : Net) (ids l : List ℕ) (s : ℕ) (b : Bool) → eqb (length l) 0 ≡ b → (when b then traced N ids s else l)
+    ≡ (when b and ltb (first_solid N ids s) 4 then contour N ids s (first_solid N ids s) else l)
+unfolding traced when◌then◌else◌ ◌and◌
 list_is N ids l s true e = rw (no_list l e) refl
 list_is N ids l s false e = refl
 
@@ -84,7 +84,7 @@ net_past plan ar ids ws ws' p r e f = net_same plan.table ar ws ws' r e (λ i h.
 -- the rule's span, with its cell at hand
 added_is : (F : Field) (ids : List ℕ) (cell : Spans) (c s : ℕ) (rs : List Rec) → Stands F c s → cell.from ≡ get_or F.index c 0 → cell.size ≡ get_or F.count c 0
     → added (net_of F) ids cell s rs ≡ add_span F ids s rs
-unfolding added add_span if◌then◌else◌
+unfolding added add_span when◌then◌else◌
 added_is F ids cell c s rs st ef es = go (plain (get_or ids s 0)) refl
   where
     en : cell.size ≡ get_or F.count (cell_of F.count s) 0
@@ -94,8 +94,8 @@ added_is F ids cell c s rs st ef es = go (plain (get_or ids s 0)) refl
     et = ef ∙ ap (λ (i : ℕ). get_or F.index i 0) (sym st.cell)
 
     go : (b : Bool) → plain (get_or ids s 0) ≡ b
-        → (if b then set rs (get_or ids s 0) (contoured (net_of F) ids s (celled ids s cell.size cell.from (at rs (get_or ids s 0)))) else rs)
-        ≡ (if b then set rs (get_or ids s 0) (counted F ids s (at rs (get_or ids s 0))) else rs)
+        → (when b then set rs (get_or ids s 0) (contoured (net_of F) ids s (celled ids s cell.size cell.from (at rs (get_or ids s 0)))) else rs)
+        ≡ (when b then set rs (get_or ids s 0) (counted F ids s (at rs (get_or ids s 0))) else rs)
     go true pl = ap (set rs (get_or ids s 0)) (counted_is F ids s cell.size cell.from (at rs (get_or ids s 0)) pl en et)
     go false pl = refl
 
@@ -105,7 +105,7 @@ module _ (plan : Plan) (ar cs ids : List ℕ) (cell : Spans) (s top : ℕ) (ws :
 
   -- a span of no region
   pub added_none : plain (get_or ids s 0) ≡ false → Added plan ar ids cell s ws top ws
-  unfolding added if◌then◌else◌
+  unfolding added when◌then◌else◌
   added_none pl = record {
     keeping = record {
       few = K.few;
@@ -153,7 +153,7 @@ module _ (plan : Plan) (ar cs ids : List ℕ) (cell : Spans) (s top : ℕ) (ws :
       }
 
       pub added-one : (t : ℕ) (ws₂ : List ℕ) → Step (contoured (net_at plan.table ar ws₁) ids s) ids plan.records r t (s + 1) ws₁ ws₂ → Added plan ar ids cell s ws t ws₂
-      unfolding added if◌then◌else◌
+      unfolding added when◌then◌else◌
       added-one t ws₂ q =
           let N = net_at plan.table ar ws in
           let q' : Step (contoured N ids s) ids plan.records r t (s + 1) ws₁ ws₂ = rw (← net_then) q in
@@ -261,7 +261,7 @@ module _ (plan : Plan) (ar cs ids : List ℕ) (cell last : Spans) (top : ℕ) (w
   }
 
   -- of each all is once it is done, and of the last one it stays known
-  pub know_next : 0 < cell.size → (t : ℕ) (ws' : List ℕ) → Entered plan ar ids cell cell.size top ws t ws' → (next : Spans) → next ≡ (if ltb 1 cell.size then cell else last)
+  pub know_next : 0 < cell.size → (t : ℕ) (ws' : List ℕ) → Entered plan ar ids cell cell.size top ws t ws' → (next : Spans) → next ≡ (when ltb 1 cell.size then cell else last)
       → Knowing ids plan.records next ws'
   unfolding recs_of
   know_next h t ws' D next e = rw e (if-ind (λ (x : Spans). Knowing ids plan.records x ws') (ltb 1 cell.size)

@@ -11,7 +11,7 @@ use lib.ListN.{length, get_or, set, take, drop, length-set, length-take}
 use lib.Seq.{ext_get_or, get_or-take, get_or-drop, take-suc-set}
 use lib.Dec.{eqb, leb-suc-suc}
 use borrow.Author.Tests.{eqb-true, eq-eqb, ne_eqb, lt-ltb, le-ltb, leb-true, leb-false}
-use Rattle.rules.specs.Base.{◌and◌, ◌or◌, if◌then◌else◌, keep, tab, any}
+use Rattle.rules.specs.Base.{◌and◌, ◌or◌, when◌then◌else◌, keep, tab, any}
 use Rattle.rules.specs.Growth.{flagged, plain}
 use Rattle.rules.specs.Merge.{place}
 use Rattle.rules.specs.Records.{has, once}
@@ -103,7 +103,7 @@ unfolding twins twin ◌and◌ ◌or◌
 twins-alone ids s own = rw (eq-eqb s s refl)
 
 pub others-alone : (ids : List ℕ) (s : ℕ) → others_from ids s 1 s ≡ []
-unfolding others_from keep tab if◌then◌else◌
+unfolding others_from keep tab when◌then◌else◌
 others-alone ids s = rw (eq-eqb s s refl)
 
 module _ (ids : List ℕ) (s own : ℕ) (pl : plain own ≡ true) where
@@ -158,13 +158,13 @@ found_place l n r p h e = let z : n - 0 ≡ n = omega arith in rw (e, z) (place_
 
 module _ (part : List ℕ) (len r p : ℕ) (f : Found part len r p) (h : len < length part) where
   pub once_there : p < len → JoinedOne (once (take len part) r) len part len
-  unfolding once if◌then◌else◌
+  unfolding once when◌then◌else◌
   once_there g =
       let z : has (take len part) r ≡ true = sym f.there ∙ lt-ltb p len g in
       record { same = rw z; low = omega arith; high = omega arith; within = omega arith }
 
   pub once_new : len ≤ p → JoinedOne (once (take len part) r) len (set part len r) (len + 1)
-  unfolding once if◌then◌else◌
+  unfolding once when◌then◌else◌
   once_new g =
       let z : has (take len part) r ≡ false = sym f.there ∙ le-ltb p len g in
       record {
@@ -176,14 +176,14 @@ module _ (part : List ℕ) (len r p : ℕ) (f : Found part len r p) (h : len < l
 
 module _ (ids part : List ℕ) (s t len : ℕ) (h : len ≤ length part) where
   pub join_self : t ≡ s → JoinedOne (join_one ids s t (take len part)) len part len
-  unfolding join_one if◌then◌else◌ ◌and◌
+  unfolding join_one when◌then◌else◌ ◌and◌
   join_self e = record { same = rw (eq-eqb t s e); low = omega arith; high = omega arith; within = h }
 
   module _ (n : t ≡ s → ⊥) where
     pub join_not : plain (get_or ids t 0) ≡ false → JoinedOne (join_one ids s t (take len part)) len part len
-    unfolding join_one if◌then◌else◌ ◌and◌
+    unfolding join_one when◌then◌else◌ ◌and◌
     join_not f = record { same = rw (ne_eqb t s n, f); low = omega arith; high = omega arith; within = h }
 
     pub join_yes : plain (get_or ids t 0) ≡ true → (part' : List ℕ) (k : ℕ) → JoinedOne (once (take len part) (get_or ids t 0)) len part' k → JoinedOne (join_one ids s t (take len part)) len part' k
-    unfolding join_one if◌then◌else◌ ◌and◌
+    unfolding join_one when◌then◌else◌ ◌and◌
     join_yes y part' k j = rw (ne_eqb t s n, y) j

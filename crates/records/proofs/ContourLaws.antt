@@ -9,7 +9,7 @@ use lib.ListN.{length, get_or, set, length-set}
 use lib.Seq.{get_or-set_same, get_or-set_other}
 use lib.Dec.{eqb}
 use borrow.Author.Tests.{eq-eqb, ne_eqb}
-use Rattle.rules.specs.Base.{◌and◌, if◌then◌else◌}
+use Rattle.rules.specs.Base.{◌and◌, when◌then◌else◌}
 use Rattle.rules.specs.Net.{Net, area_of}
 use Rattle.rules.specs.Contour.{first_solid}
 use Rattle.rules.specs.Growth.{plain}
@@ -66,7 +66,7 @@ module _ (ids : List ℕ) (m top k : ℕ) (ws : List ℕ) (K : Keeping ids m top
 
   -- a record that has a list stays
   pub contour_there : a < e → (N : Net) (s : ℕ) → Step (contoured N ids s) ids m r top k ws ws
-  unfolding contoured rec_at ◌and◌ if◌then◌else◌
+  unfolding contoured rec_at ◌and◌ when◌then◌else◌
   contour_there g N s =
       let n : eqb (length (list_at ws m (7 * m) r)) 0 ≡ false = ne_eqb (length (list_at ws m (7 * m) r)) 0 (λ (z : length (list_at ws m (7 * m) r) ≡ 0). omega (arith, long)) in
       step-none (contoured N ids s) ids m r top k ws K (rw (recs_at ws m r h, n, or_no (not (eqb (get_or ws (15 * m + r) 0) 0))))
@@ -103,7 +103,7 @@ module _ (ids : List ℕ) (m top k : ℕ) (ws : List ℕ) (K : Keeping ids m top
       pub contour-taken : (t : ℕ) → v ≡ get_or ar s 0 → (ws' : List ℕ)
           → (let M = net_at table ids (set ws (2 * m + r) v) in Step (with_contour (traced M ids s) (traced_cut M ids s)) ids m r t k (set ws (2 * m + r) v) ws')
           → Step (contoured (net_at table ar ws) ids s) ids m r t k ws ws'
-      unfolding contoured with_contour with_cut with_list with_area rec_at ◌and◌ if◌then◌else◌
+      unfolding contoured with_contour with_cut with_list with_area rec_at ◌and◌ when◌then◌else◌
       contour-taken t ev ws' q =
           let N = net_at table ar ws in
           let l : traced (net_at table ids (set ws (2 * m + r) v)) ids s ≡ traced N ids s =

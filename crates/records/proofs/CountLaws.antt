@@ -11,7 +11,7 @@ use lib.ListN.{length, get_or, take}
 use lib.Seq.{take-suc, take-length}
 use lib.Dec.{eqb, ltb}
 use borrow.Author.Tests.{eqb-true, eq-eqb, ne_eqb, lt-ltb, le-ltb}
-use Rattle.rules.specs.Base.{◌and◌, if◌then◌else◌, many}
+use Rattle.rules.specs.Base.{◌and◌, when◌then◌else◌, many}
 use Rattle.rules.specs.Growth.{plain}
 use Rattle.laws.proofs.Basics.{if-ind, many_le, both}
 use Rattle.records.specs.Rows.{slot, mine}
@@ -28,7 +28,7 @@ module _ (p : ℕ → Bool) (own : ℕ) (nay : p own ≡ false) where
   many_apart [] = omega arith
   many_apart (x ∷ l) =
       let r = many_apart l in
-      if-ind (λ (a : ℕ). a + (if eqb own x then suc (many (eqb own) l) else many (eqb own) l) ≤ suc (length l)) (p x)
+      if-ind (λ (a : ℕ). a + (when eqb own x then suc (many (eqb own) l) else many (eqb own) l) ≤ suc (length l)) (p x)
       (λ t. if-ind (λ (b : ℕ). suc (many p l) + b ≤ suc (length l)) (eqb own x)
       (λ e. let q : own ≡ x = eqb-true own x e in absurd (false≢true (sym nay ∙ (rw q t))))
       (λ _. omega arith))
@@ -36,7 +36,7 @@ module _ (p : ℕ → Bool) (own : ℕ) (nay : p own ≡ false) where
 
   -- own is of q too
   pub many_more : (q : ℕ → Bool) → q own ≡ true → ((x : ℕ) → (x ≡ own → ⊥) → q x ≡ p x) → (l : List ℕ) → many q l ≡ many p l + many (eqb own) l
-  unfolding many if◌then◌else◌
+  unfolding many when◌then◌else◌
   many_more q y e [] = refl
   many_more q y e (x ∷ l) =
       let r = many_more q y e l in
@@ -45,25 +45,25 @@ module _ (p : ℕ → Bool) (own : ℕ) (nay : p own ≡ false) where
         | no z ↦ rw (e x z, ne_eqb own x (λ w. z (sym w))) (go _ _ _ (p x) r)
       ]
     where
-      go : (a b c : ℕ) (t : Bool) → a ≡ b + c → (if t then suc a else a) ≡ (if t then suc b else b) + c
+      go : (a b c : ℕ) (t : Bool) → a ≡ b + c → (when t then suc a else a) ≡ (when t then suc b else b) + c
       go a b c true r = omega arith
       go a b c false r = r
 
 -- ---------------------------------------------------------------- the first k
 
 one : Bool → ℕ
-one b = if b then 1 else 0
+one b = when b then 1 else 0
 
 many_snoc : (p : ℕ → Bool) (l : List ℕ) (x : ℕ) → many p (l ++ (x ∷ [])) ≡ many p l + one (p x)
-unfolding many one if◌then◌else◌
+unfolding many one when◌then◌else◌
 many_snoc p [] x = base (p x)
   where
-    base : (c : Bool) → (if c then suc 0 else 0) ≡ 0 + (if c then 1 else 0)
+    base : (c : Bool) → (when c then suc 0 else 0) ≡ 0 + (when c then 1 else 0)
     base true = refl
     base false = refl
 many_snoc p (y ∷ l) x = go (p y) (many p (l ++ (x ∷ []))) (many p l) (one (p x)) (many_snoc p l x)
   where
-    go : (b : Bool) (a d c : ℕ) → a ≡ d + c → (if b then suc a else a) ≡ (if b then suc d else d) + c
+    go : (b : Bool) (a d c : ℕ) → a ≡ d + c → (when b then suc a else a) ≡ (when b then suc d else d) + c
     go true a d c e = omega arith
     go false a d c e = e
 
@@ -72,21 +72,21 @@ module _ (p : ℕ → Bool) (l : List ℕ) (k : ℕ) (h : k < length l) where
   many-take = rw (add-one k) (ap (many p) (take-suc l k 0 h) ∙ many_snoc p (take k l) (get_or l k 0))
 
   pub many_counts : p (get_or l k 0) ≡ true → many p (take (k + 1) l) ≡ many p (take k l) + 1
-  unfolding one if◌then◌else◌
+  unfolding one when◌then◌else◌
   many_counts e = many-take ∙ rw e refl
 
   pub many_passes : p (get_or l k 0) ≡ false → many p (take (k + 1) l) ≡ many p (take k l)
-  unfolding one if◌then◌else◌
+  unfolding one when◌then◌else◌
   many_passes e = many-take ∙ rw e (omega arith)
 
 pub many-take_le : (p : ℕ → Bool) (l : List ℕ) (k : ℕ) → many p (take k l) ≤ many p l
-unfolding many if◌then◌else◌
+unfolding many when◌then◌else◌
 many-take_le p [] zero = omega arith
 many-take_le p [] (suc k) = omega arith
 many-take_le p (x ∷ l) zero = omega arith
 many-take_le p (x ∷ l) (suc k) = go (p x) (many-take_le p l k)
   where
-    go : (b : Bool) → many p (take k l) ≤ many p l → (if b then suc (many p (take k l)) else many p (take k l)) ≤ (if b then suc (many p l) else many p l)
+    go : (b : Bool) → many p (take k l) ≤ many p l → (when b then suc (many p (take k l)) else many p (take k l)) ≤ (when b then suc (many p l) else many p l)
     go true h = omega arith
     go false h = h
 
@@ -120,7 +120,7 @@ unfolding many mine
 mine_le i [] = omega arith
 mine_le i (x ∷ l) =
     let r = mine_le i l in
-    if-ind (λ (a : ℕ). a ≤ (if eqb i x then suc (many (eqb i) l) else many (eqb i) l)) (plain x and eqb i x)
+    if-ind (λ (a : ℕ). a ≤ (when eqb i x then suc (many (eqb i) l) else many (eqb i) l)) (plain x and eqb i x)
     (λ t. if-ind (λ (b : ℕ). suc (many (mine i) l) ≤ b) (eqb i x) (λ _. omega arith) (λ f. absurd (false≢true (sym f ∙ of t))))
     (λ _. if-ind (λ (b : ℕ). many (mine i) l ≤ b) (eqb i x) (λ _. omega arith) (λ _. r))
   where
@@ -130,7 +130,7 @@ mine_le i (x ∷ l) =
 -- ---------------------------------------------------------------- the rooms of the floors
 
 pub slot-first : (ids : List ℕ) → slot ids 0 ≡ 0
-unfolding slot many if◌then◌else◌
+unfolding slot many when◌then◌else◌
 slot-first [] = refl
 slot-first (x ∷ l) = rw (le-ltb x 0 (omega arith)) (slot-first l)
 

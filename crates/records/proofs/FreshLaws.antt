@@ -10,7 +10,7 @@ use lib.ListN.{length, get_or, set, length-set}
 use lib.Seq.{get_or-set_same, get_or-set_other}
 use lib.Dec.{eqb}
 use borrow.Author.Tests.{eq-eqb, ne_eqb, lt-ltb, le-ltb}
-use Rattle.rules.specs.Base.{if◌then◌else◌, many}
+use Rattle.rules.specs.Base.{when◌then◌else◌, many}
 use Rattle.rules.specs.Refusals.{most_spans}
 use Rattle.laws.proofs.Basics.{many_le}
 use Rattle.space.proofs.Laws.{get_or_before, get_d_after}
@@ -26,11 +26,11 @@ use Rattle.records.proofs.CountLaws.{many_counts, many_passes, many-take_le, man
 
 module _ (m r : ℕ) (ws : List ℕ) where
   pub tally_past : m ≤ r → ws ≡ tally_one m r ws
-  unfolding tally_one if◌then◌else◌
+  unfolding tally_one when◌then◌else◌
   tally_past h = rw (le-ltb r m h)
 
   pub tally_below : r < m → set ws (m + r) (get_or ws (m + r) 0 + 1) ≡ tally_one m r ws
-  unfolding tally_one if◌then◌else◌
+  unfolding tally_one when◌then◌else◌
   tally_below h = rw (lt-ltb r m h)
 
 pub tallied_start : (ids : List ℕ) (m : ℕ) (ws : List ℕ) → Blank ids m ws → Tallied ids m 0 ws ws

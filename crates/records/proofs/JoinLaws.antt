@@ -8,7 +8,7 @@ use mathlib.Core.Bool.{Bool, true, false, not}
 use mathlib.Core.List.{List, map}
 use lib.ListN.{length, get_or, take}
 use lib.Dec.{eqb}
-use Rattle.rules.specs.Base.{◌and◌, if◌then◌else◌, keep, tab}
+use Rattle.rules.specs.Base.{◌and◌, when◌then◌else◌, keep, tab}
 use Rattle.rules.specs.Field.{Field, cell_of}
 use Rattle.rules.specs.Growth.{plain}
 use Rattle.rules.specs.Records.{has, once, once_all, others}
@@ -24,13 +24,13 @@ unfolding others others_from
 others_from_lem F ids s = refl
 
 others-step : (ids : List ℕ) (s n t : ℕ) (l : List ℕ) → once_all l (others_from ids s (suc n) t) ≡ once_all (join_one ids s t l) (others_from ids s n (suc t))
-unfolding others_from join_one keep tab once_all if◌then◌else◌ ◌and◌
+unfolding others_from join_one keep tab once_all when◌then◌else◌ ◌and◌
 others-step ids s n t l =
     let x = get_or ids t 0 in
     let r = keep (λ t. not (eqb t s)) (tab n (suc t) (λ t. t)) in
     let rest = keep plain (map (λ t. get_or ids t 0) r) in
-    if-ind (λ (y : List ℕ). once_all l (keep plain (map (λ t. get_or ids t 0) y)) ≡ once_all (if not (eqb t s) and plain x then once l x else l) rest) (not (eqb t s))
-    (λ e. rw e (if-ind (λ (y : List ℕ). once_all l y ≡ once_all (if plain x then once l x else l) rest) (plain x) (λ f. rw f refl) (λ f. rw f refl)))
+    if-ind (λ (y : List ℕ). once_all l (keep plain (map (λ t. get_or ids t 0) y)) ≡ once_all (when not (eqb t s) and plain x then once l x else l) rest) (not (eqb t s))
+    (λ e. rw e (if-ind (λ (y : List ℕ). once_all l y ≡ once_all (when plain x then once l x else l) rest) (plain x) (λ f. rw f refl) (λ f. rw f refl)))
     (λ e. rw e refl)
 
 -- what is listed stays listed
@@ -39,7 +39,7 @@ unfolding join_one
 join_keeps ids s t l v e = if-ind (λ (x : List ℕ). has x v ≡ true) (not (eqb t s) and plain (get_or ids t 0)) (λ _. once_keeps l (get_or ids t 0) v e) (λ _. e)
 
 once-listed : (part : List ℕ) (len r : ℕ) → len ≤ length part → has (take len part) r ≡ true → JoinedOne (once (take len part) r) len part len
-unfolding once if◌then◌else◌
+unfolding once when◌then◌else◌
 once-listed part len r h z = record { same = rw z; low = omega arith; high = omega arith; within = h }
 
 -- a layer that did not change joins to no effect

@@ -10,7 +10,7 @@ use lib.ListN.{length, get_or, length-set}
 use lib.Seq.{get_or-set_same}
 use lib.Dec.{eqb}
 use borrow.Author.Tests.{eq-eqb, ne_eqb, eqb-true}
-use Rattle.rules.specs.Base.{◌or◌, if◌then◌else◌, upto, keep, tab, any}
+use Rattle.rules.specs.Base.{◌or◌, when◌then◌else◌, upto, keep, tab, any}
 use Rattle.rules.specs.Net.{Net}
 use Rattle.rules.specs.Growth.{plain}
 use Rattle.rules.specs.Records.{Rec, fresh, at, has, once, once_all}
@@ -63,7 +63,7 @@ all_have l (r ∷ o) v e = go (eqb v r) refl (all_have (once l r) o v) e
 
 -- what is listed joins to no effect
 all_same : (l o : List ℕ) → ((v : ℕ) → has o v ≡ true → has l v ≡ true) → once_all l o ≡ l
-unfolding once_all once any if◌then◌else◌
+unfolding once_all once any when◌then◌else◌
 all_same l [] h = refl
 all_same l (r ∷ o) h =
     let z = h r (or_left (eqb r r) (has o r) (eq-eqb r r refl)) in
@@ -117,7 +117,7 @@ module _ (N : Net) (ids : List ℕ) (cell : Spans) where
 
   took_added : (s : ℕ) (rs : List Rec) → plain (get_or ids s 0) ≡ true → get_or ids s 0 < length rs
       → Took ids s cell.size cell.from (at (added N ids cell s rs) (get_or ids s 0))
-  unfolding added at if◌then◌else◌
+  unfolding added at when◌then◌else◌
   took_added s rs pl h =
       let r = get_or ids s 0 in
       let y = contoured N ids s (celled ids s cell.size cell.from (at rs r)) in
@@ -174,7 +174,7 @@ known_few ids cell rs z = record { took = λ s l u pl. alone s cell.size cell.fr
 
 module _ (ids : List ℕ) (s v : ℕ) where
   others_alike : (n t u : ℕ) → ((i : ℕ) → i < n → get_or ids (t + i) 0 ≡ get_or ids (u + i) 0) → ((i : ℕ) → i < n → eqb (t + i) s ≡ eqb (u + i) v) → others_from ids s n t ≡ others_from ids v n u
-  unfolding others_from keep tab if◌then◌else◌
+  unfolding others_from keep tab when◌then◌else◌
   others_alike zero t u h k = refl
   others_alike (suc n) t u h k =
       let a : t + 0 ≡ t = omega arith in
@@ -188,7 +188,7 @@ module _ (ids : List ℕ) (s v : ℕ) where
       rw e (both (not (eqb u v)) t u p q g ih)
     where
       both : (c : Bool) (t u : ℕ) (p q : List ℕ) → get_or ids t 0 ≡ get_or ids u 0 → keep plain (map (λ x. get_or ids x 0) p) ≡ keep plain (map (λ x. get_or ids x 0) q)
-          → keep plain (map (λ x. get_or ids x 0) (if c then t ∷ p else p)) ≡ keep plain (map (λ x. get_or ids x 0) (if c then u ∷ q else q))
+          → keep plain (map (λ x. get_or ids x 0) (when c then t ∷ p else p)) ≡ keep plain (map (λ x. get_or ids x 0) (when c then u ∷ q else q))
       both true t u p q g e = rw (g, e) refl
       both false t u p q g e = e
 
@@ -230,7 +230,7 @@ known_alike ids a b rs k e = record { took = λ s l u pl. go s (s - b.from) (ome
 
 -- the id of another span, if it is plain, is one of the others'
 others_have : (ids : List ℕ) (s n t j : ℕ) → j < n → (t + j ≡ s → ⊥) → plain (get_or ids (t + j) 0) ≡ true → has (others_from ids s n t) (get_or ids (t + j) 0) ≡ true
-unfolding others_from keep tab any if◌then◌else◌
+unfolding others_from keep tab any when◌then◌else◌
 others_have ids s zero t j h k pl = absurd (omega arith)
 others_have ids s (suc n) t zero h k pl =
     let a : t + 0 ≡ t = omega arith in
@@ -244,7 +244,7 @@ others_have ids s (suc n) t (suc j) h k pl =
     let ih = others_have ids s n (suc t) j (omega arith) (λ z. k (omega arith)) (rw a at pl) in
     rw a (later (not (eqb t s)) t r (get_or ids (suc t + j) 0) ih)
   where
-    later : (c : Bool) (t : ℕ) (r : List ℕ) (v : ℕ) → has (keep plain (map (λ x. get_or ids x 0) r)) v ≡ true → has (keep plain (map (λ x. get_or ids x 0) (if c then t ∷ r else r))) v ≡ true
+    later : (c : Bool) (t : ℕ) (r : List ℕ) (v : ℕ) → has (keep plain (map (λ x. get_or ids x 0) r)) v ≡ true → has (keep plain (map (λ x. get_or ids x 0) (when c then t ∷ r else r))) v ≡ true
     later true t r v e = if-ind (λ (y : List ℕ). has y v ≡ true) (plain (get_or ids t 0)) (λ _. or_right (eqb v (get_or ids t 0)) (has (keep plain (map (λ x. get_or ids x 0) r)) v) e) (λ _. e)
     later false t r v e = e
 

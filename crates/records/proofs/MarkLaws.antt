@@ -11,7 +11,7 @@ use lib.ListN.{get_or, set, length-set}
 use lib.Seq.{get_or-set_same, get_or-set_other}
 use lib.Dec.{eqb}
 use borrow.Author.Tests.{le-ltb}
-use Rattle.rules.specs.Base.{◌and◌, if◌then◌else◌}
+use Rattle.rules.specs.Base.{◌and◌, when◌then◌else◌}
 use Rattle.rules.specs.Records.{Rec, at}
 use Rattle.laws.proofs.Basics.{or_no, or_yes}
 use Rattle.table.specs.View.{start_of, end_of, list_at, rec_at, recs_of}
@@ -118,7 +118,7 @@ uncut x = rw (or_no x.cut)
 
 pub step_cut : (b : Bool) (ids : List ℕ) (m top k : ℕ) (ws : List ℕ) → Keeping ids m top k ws → (r : ℕ) → r < m
     → Step (with_cut b) ids m r top k ws (cut_marked m r b ws)
-unfolding cut_marked if◌then◌else◌
+unfolding cut_marked when◌then◌else◌
 step_cut true ids m top k ws K r h = step_mark ids m top k ws K r h
 step_cut false ids m top k ws K r h = step-none (with_cut false) ids m r top k ws K (uncut (at (recs_of ws m) r))
 
@@ -126,9 +126,9 @@ step_cut false ids m top k ws K r h = step-none (with_cut false) ids m r top k w
 
 module _ (ws : List ℕ) (m r : ℕ) (b : Bool) where
   pub cut_set : b ≡ true → set ws (15 * m + r) 1 ≡ cut_marked m r b ws
-  unfolding cut_marked if◌then◌else◌
+  unfolding cut_marked when◌then◌else◌
   cut_set t = rw t
 
   pub cut_left : b ≡ false → ws ≡ cut_marked m r b ws
-  unfolding cut_marked if◌then◌else◌
+  unfolding cut_marked when◌then◌else◌
   cut_left f = rw f

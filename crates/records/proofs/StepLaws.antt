@@ -9,7 +9,7 @@ use mathlib.Core.List.{List}
 use lib.ListN.{length, get_or, set, take}
 use lib.Seq.{get_or-set_same, get_or-set_other, set-get_or}
 use lib.Dec.{eqb}
-use Rattle.rules.specs.Base.{◌or◌, if◌then◌else◌, many}
+use Rattle.rules.specs.Base.{◌or◌, when◌then◌else◌, many}
 use Rattle.rules.specs.Growth.{plain}
 use Rattle.rules.specs.Records.{Rec, at, fresh}
 use Rattle.table.specs.View.{rec_at, recs_of}
@@ -150,14 +150,14 @@ module _ (ids : List ℕ) (m top k : ℕ) (ws : List ℕ) (K : Keeping ids m top
 -- overlap as the code sets it
 module _ (ws : List ℕ) (m r : ℕ) (b : Bool) where
   pub mark_set : b ≡ true → set ws (3 * m + r) 1 ≡ marked m r b ws
-  unfolding marked if◌then◌else◌
+  unfolding marked when◌then◌else◌
   mark_set t = rw t
 
   pub mark_left : b ≡ false → ws ≡ marked m r b ws
-  unfolding marked if◌then◌else◌
+  unfolding marked when◌then◌else◌
   mark_left f = rw f
 
 pub step-marked : (b : Bool) (ids : List ℕ) (m top k : ℕ) (ws : List ℕ) → Keeping ids m top k ws → (r : ℕ) → r < m → Step (overlaid b) ids m r top k ws (marked m r b ws)
-unfolding marked if◌then◌else◌
+unfolding marked when◌then◌else◌
 step-marked true ids m top k ws K r h = step-over ids m top k ws K r h
 step-marked false ids m top k ws K r h = step-not-over ids m top k ws K r h

@@ -9,7 +9,7 @@ use mathlib.Core.List.{List, []}
 use lib.ListN.{length, get_or, set}
 use lib.Dec.{eqb, ltb}
 use borrow.Author.Tests.{lt-ltb, le-ltb, ltb-true}
-use Rattle.rules.specs.Base.{◌and◌, if◌then◌else◌, many}
+use Rattle.rules.specs.Base.{◌and◌, when◌then◌else◌, many}
 use Rattle.rules.specs.Net.{Net}
 use Rattle.rules.specs.Contour.{first_solid, contour, cut_short}
 use Rattle.rules.specs.Records.{Rec}
@@ -51,7 +51,7 @@ module _ (pool : Pool) (cs ids : List ℕ) (s top : ℕ) (ws : List ℕ) (T : St
       trace_dir = found.1
 
       traced-at : traced N ids s ≡ contour N ids s d
-      unfolding traced if◌then◌else◌
+      unfolding traced when◌then◌else◌
       traced-at = rw (found.0, lt-ltb d 4 found.1)
 
       pub trace_at : (ws' : List ℕ) (t : ℕ) → ws' ≡ pooled ws pool.at (4 * length ids) top (contour N ids s d) → t ≡ top + length (contour N ids s d)
@@ -63,7 +63,7 @@ module _ (pool : Pool) (cs ids : List ℕ) (s top : ℕ) (ws : List ℕ) (T : St
       trace_cut_at c q = rw (found.0, lt-ltb d 4 found.1) q
 
     pub trace_none : r ≡ Nowhere → Traced (traced N ids s) ids pool.at top ws ws top
-    unfolding traced if◌then◌else◌
+    unfolding traced when◌then◌else◌
     trace_none q =
         let g = edge_none r (first_solid N ids s) e q in
         let z : sec (pool.at + top) (top - top) ws ≡ [] = (let k : top - top ≡ 0 = omega arith in rw k refl) in

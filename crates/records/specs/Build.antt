@@ -1,6 +1,6 @@
 -- The loops over cells and layers.
 use Rattle.std.specs.Prelude.{◌≡◌, List, ℕ, ◌+◌, ◌≤◌, ◌<◌, length, get_or, set}
-use Rattle.rules.specs.Base.{if◌then◌else◌, upto}
+use Rattle.rules.specs.Base.{when◌then◌else◌, upto}
 use Rattle.rules.specs.Net.{Net}
 use Rattle.rules.specs.Field.{none}
 use Rattle.rules.specs.Growth.{plain}
@@ -19,7 +19,7 @@ use Rattle.records.specs.declared.grow.Plan.{Plan}
 unfoldable pub added : Net → List ℕ → Spans → ℕ → List Rec → List Rec
 added N ids cell s rs =
     let r = get_or ids s 0 in
-    if plain r then set rs r (contoured N ids s (celled ids s cell.size cell.from (at rs r))) else rs
+    when plain r then set rs r (contoured N ids s (celled ids s cell.size cell.from (at rs r))) else rs
 
 -- the spans of cell c
 unfoldable pub spans_at : List ℕ → List ℕ → ℕ → Spans

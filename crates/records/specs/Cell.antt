@@ -1,6 +1,6 @@
 -- The other spans of a cell, as the code goes through them.
 use Rattle.std.specs.Prelude.{◌≡◌, ◌⊎◌, Bool, true, false, not, List, map, ℕ, zero, suc, ◌+◌, ◌-◌, ◌≤◌, ◌<◌, length, get_or, take, eqb, ltb}
-use Rattle.rules.specs.Base.{◌and◌, ◌or◌, if◌then◌else◌, keep, tab}
+use Rattle.rules.specs.Base.{◌and◌, ◌or◌, when◌then◌else◌, keep, tab}
 use Rattle.rules.specs.Field.{none}
 use Rattle.rules.specs.Growth.{plain}
 use Rattle.rules.specs.Records.{has, once, once_all}
@@ -21,7 +21,7 @@ others_from ids s n t = keep plain (map (λ t. get_or ids t 0) (keep (λ t. not 
 
 -- span t joins
 unfoldable pub join_one : List ℕ → ℕ → ℕ → List ℕ → List ℕ
-join_one ids s t l = if not (eqb t s) and plain (get_or ids t 0) then once l (get_or ids t 0) else l
+join_one ids s t l = when not (eqb t s) and plain (get_or ids t 0) then once l (get_or ids t 0) else l
 
 -- p is a place of r among the first n, or n where r is none of them
 pub record Found (l : List ℕ) (n r p : ℕ) : Type 0 where

@@ -1,13 +1,13 @@
 -- New records, made one after the other from the number of spans of each id.
 use Rattle.std.specs.Prelude.{◌≡◌, ◌⊎◌, List, ℕ, ◌+◌, ◌≤◌, ◌<◌, length, get_or, set, take, eqb, ltb}
-use Rattle.rules.specs.Base.{if◌then◌else◌, many}
+use Rattle.rules.specs.Base.{when◌then◌else◌, many}
 use Rattle.table.specs.Map.{areas_at, lists_at, cuts_at, pool_at, floors_from, records_end}
 use Rattle.table.specs.View.{list_start, list_end, floors_start, floors_end}
 use Rattle.records.specs.Rows.{floors_at}
 
 -- one more span of id r, if that is below m
 unfoldable pub tally_one : ℕ → ℕ → List ℕ → List ℕ
-tally_one m r ws = if ltb r m then set ws (m + r) (get_or ws (m + r) 0 + 1) else ws
+tally_one m r ws = when ltb r m then set ws (m + r) (get_or ws (m + r) 0 + 1) else ws
 
 -- how many of the first k spans have each id below m
 pub record Tallied (ids : List ℕ) (m k : ℕ) (ws₀ ws : List ℕ) : Type 0 where

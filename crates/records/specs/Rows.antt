@@ -1,6 +1,6 @@
 -- The records while they are built: m of them, of n spans. Record i's floors lie from 62·slot i on in the floors' room.
 use Rattle.std.specs.Prelude.{◌≡◌, Bool, true, List, [], ℕ, suc, ◌+◌, ◌*◌, ◌≤◌, ◌<◌, length, get_or, set, take, eqb, ltb}
-use Rattle.rules.specs.Base.{◌and◌, ◌or◌, if◌then◌else◌, many}
+use Rattle.rules.specs.Base.{◌and◌, ◌or◌, when◌then◌else◌, many}
 use Rattle.rules.specs.Net.{Net, area_of}
 use Rattle.rules.specs.Growth.{plain}
 use Rattle.rules.specs.Contour.{first_solid, contour, cut_short}
@@ -85,14 +85,14 @@ overlaid b r = record { id = r.id; count = r.count; area = r.area; visited = r.v
 
 -- overlap as it is set
 unfoldable pub marked : ℕ → ℕ → Bool → List ℕ → List ℕ
-marked m r b ws = if b then set ws (overlaps_at m + r) 1 else ws
+marked m r b ws = when b then set ws (overlaps_at m + r) 1 else ws
 
 unfoldable pub floored : List ℕ → Rec → Rec
 floored o r = record { id = r.id; count = r.count; area = r.area; visited = r.visited; overlap = r.overlap; list = r.list; floors = once_all r.floors o; cut = r.cut }
 
 -- the list that a span gives: that of its contour, if it has a solid edge
 unfoldable pub traced : Net → List ℕ → ℕ → List ℕ
-traced N ids s = if ltb (first_solid N ids s) 4 then contour N ids s (first_solid N ids s) else []
+traced N ids s = when ltb (first_solid N ids s) 4 then contour N ids s (first_solid N ids s) else []
 
 unfoldable pub with_area : ℕ → Rec → Rec
 with_area a r = record { id = r.id; count = r.count; area = a; visited = r.visited; overlap = r.overlap; list = r.list; floors = r.floors; cut = r.cut }
@@ -109,7 +109,7 @@ with_cut b r = record { id = r.id; count = r.count; area = r.area; visited = r.v
 
 -- the mark as it is set
 unfoldable pub cut_marked : ℕ → ℕ → Bool → List ℕ → List ℕ
-cut_marked m r b ws = if b then set ws (cuts_at m + r) 1 else ws
+cut_marked m r b ws = when b then set ws (cuts_at m + r) 1 else ws
 
 -- the list, and the mark where its walk was cut short
 unfoldable pub with_contour : List ℕ → Bool → Rec → Rec
@@ -122,10 +122,10 @@ contoured N ids s r =
     record {
       id = r.id;
       count = r.count;
-      area = if empty then area_of N s else r.area;
+      area = when empty then area_of N s else r.area;
       visited = r.visited;
       overlap = r.overlap;
-      list = if empty then traced N ids s else r.list;
+      list = when empty then traced N ids s else r.list;
       floors = r.floors;
       cut = r.cut or (empty and traced_cut N ids s);
     }

@@ -1,6 +1,6 @@
 // The other spans of a cell.
 ghost use Rattle.std.specs.Prelude.{◌≡◌, true, false, ◌+◌, ◌≤◌, ◌<◌, length, get_or, take, ltb};
-ghost use Rattle.rules.specs.Base.{◌or◌, if◌then◌else◌};
+ghost use Rattle.rules.specs.Base.{◌or◌, when◌then◌else◌};
 ghost use Rattle.rules.specs.Field.{none};
 ghost use Rattle.rules.specs.Records.{once, once_all};
 ghost use Rattle.rules.specs.Refusals.{most_spans};
@@ -66,7 +66,7 @@ pub struct Looked {
 // takes nothing. Of a cell with as many spans they have what the layers with the same ids take from each other.
 pub(crate) fn look_back(ids: &[u16], last: Spans, cell: Spans) -> Looked
     requires { (length ids.now ≤ most_spans) × Lies ids.now last × Lies ids.now cell }
-    ensures { (result.last ≡ (if ltb 1 cell.size then cell else last)) × LooksTo ids.now last cell result.prior }
+    ensures { (result.last ≡ (when ltb 1 cell.size then cell else last)) × LooksTo ids.now last cell result.prior }
 {
     if cell.size < 2 {
         return Looked {

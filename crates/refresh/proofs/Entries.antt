@@ -13,7 +13,7 @@ use lib.Dec.{eqb, leb, ltb}
 use borrow.Author.Tests.{eq-eqb, ne_eqb, lt-leb, lt-ltb, le-ltb, le-leb, ltb-false}
 use mir.Val.{Fits}
 use mir.Syntax.{w16, w64}
-use Rattle.rules.specs.Base.{◌and◌, ◌or◌, if◌then◌else◌, upto, every, any}
+use Rattle.rules.specs.Base.{◌and◌, ◌or◌, when◌then◌else◌, upto, every, any}
 use Rattle.rules.specs.Field.{Field, spans}
 use Rattle.rules.specs.Refusals.{refusal, wrong_length}
 use Rattle.rules.specs.Distance.{start, far, pass1, pass2, raw, greatest, blur_at, blur}
@@ -48,15 +48,15 @@ use Rattle.refresh.proofs.Turns.{whole_copied}
 
 module _ (n a b : ℕ) where
   pub odd_same : a ≡ n → b ≡ odd_length n a b
-  unfolding odd_length if◌then◌else◌
+  unfolding odd_length when◌then◌else◌
   odd_same e = rw (eq-eqb a n e)
 
   pub odd_other : (a ≡ n → ⊥) → a ≡ odd_length n a b
-  unfolding odd_length if◌then◌else◌
+  unfolding odd_length when◌then◌else◌
   odd_other e = rw (ne_eqb a n e)
 
 odd_lengths : (F : Field) (a b c : ℕ) → wrong_length F (odd_length (spans F) a b ∷ c ∷ []) ≡ wrong_length F (a ∷ b ∷ c ∷ [])
-unfolding wrong_length every odd_length if◌then◌else◌ ◌and◌
+unfolding wrong_length every odd_length when◌then◌else◌ ◌and◌
 odd_lengths F a b c =
     elim (ℕ_discrete a (spans F)) [
       | yes e ↦ rw (eq-eqb a (spans F) e)
@@ -86,7 +86,7 @@ module _ (F : Field) (p l m : List ℕ) (v : Low F p) (nl : length l ≡ spans F
 -- ---------------------------------------------------------------- rows whatever they come to, then rows until one comes out as stored
 
 step_on : (F : Field) (z1 k y : ℕ) (l : List ℕ) → y ≤ z1 → onward F z1 (suc k) y l ≡ onward F z1 k (suc y) (pass1_row F y l)
-unfolding onward if◌then◌else◌ ◌and◌
+unfolding onward when◌then◌else◌ ◌and◌
 step_on F z1 k y l h = rw (lt-leb (z1 + 1) y (omega arith))
 
 skip_on : (F : Field) (z1 y n k : ℕ) (l : List ℕ) → y + n ≤ z1 + 1 → onward F z1 (n + k) y l ≡ onward F z1 k (y + n) (upto n (λ i. pass1_row F (y + i)) l)
@@ -113,7 +113,7 @@ onward_all w h is ks ar cs z1 first z l m i j e g =
     ∙ sym (ap (λ (k : ℕ). onward (lent w h is ks ar cs) z1 k first l) q ∙ skip_on (lent w h is ks ar cs) z1 first n (h - (z1 + 1)) l (omega arith))
 
 step_back : (F : Field) (z0 : ℕ) (p : List ℕ) (y : ℕ) (l : List ℕ) → z0 ≤ y → 0 < z0 → backward F z0 p (suc y) l ≡ backward F z0 p y (from_pass1 F p y l)
-unfolding backward if◌then◌else◌ ◌and◌
+unfolding backward when◌then◌else◌ ◌and◌
 step_back F z0 p y l h g = rw (lt-leb y (z0 - 1) (omega arith))
 
 skip_back : (F : Field) (z0 : ℕ) (p : List ℕ) (n : ℕ) (l : List ℕ) → 0 < z0 → backward F z0 p (z0 + n) l ≡ backward F z0 p z0 (downto n (λ i. from_pass1 F p (z0 + i)) l)
@@ -332,20 +332,20 @@ none_above k (x ∷ l) e (suc i) d h = none_above k l (neither _ _ e).1 i d (ome
 
 module _ (r s : Bool) where
   pub own_11 : r ≡ true → 11 ≡ own_refusal r s
-  unfolding own_refusal if◌then◌else◌
+  unfolding own_refusal when◌then◌else◌
   own_11 e = rw e
 
   pub own_31 : r ≡ false → s ≡ true → 31 ≡ own_refusal r s
-  unfolding own_refusal if◌then◌else◌
+  unfolding own_refusal when◌then◌else◌
   own_31 e f = rw (e, f)
 
   pub own_0 : r ≡ false → s ≡ false → 0 ≡ own_refusal r s
-  unfolding own_refusal if◌then◌else◌
+  unfolding own_refusal when◌then◌else◌
   own_0 e f = rw (e, f)
 
 module _ (w h : ℕ) (is ks ar cs p r : List ℕ) (own : ℕ) (v : Verdict) (e : verdict_number v ≡ refusal (lent w h is ks ar cs) (length p ∷ length r ∷ own ∷ [])) (x0 z0 x1 z1 : ℕ) where
   pub check_refused : (c : Refusal) → v ≡ verdict.Refused c → number_of c ≡ refusal_of (lent w h is ks ar cs) (rect x0 z0 x1 z1) p r own
-  unfolding refusal_of if◌then◌else◌
+  unfolding refusal_of when◌then◌else◌
   check_refused c z =
       let n : number_of c ≡ refusal (lent w h is ks ar cs) (length p ∷ length r ∷ own ∷ []) = ap verdict_number (sym z) ∙ e in
       let f : eqb (refusal (lent w h is ks ar cs) (length p ∷ length r ∷ own ∷ [])) 0 ≡ false = ne_eqb (refusal (lent w h is ks ar cs) (length p ∷ length r ∷ own ∷ [])) 0 (λ k. omega (arith, number_pos c)) in
@@ -353,7 +353,7 @@ module _ (w h : ℕ) (is ks ar cs p r : List ℕ) (own : ℕ) (v : Verdict) (e :
 
   pub check_own : (t u : Bool) (n : ℕ) → v ≡ verdict.Sound → t ≡ wrong_rect (lent w h [] [] [] []) (rect x0 z0 x1 z1) → u ≡ wrong_stored p r → n ≡ own_refusal t u
       → n ≡ refusal_of (lent w h is ks ar cs) (rect x0 z0 x1 z1) p r own
-  unfolding refusal_of if◌then◌else◌ wrong_rect
+  unfolding refusal_of when◌then◌else◌ wrong_rect
   check_own t u n z f g k =
       let none : refusal (lent w h is ks ar cs) (length p ∷ length r ∷ own ∷ []) ≡ 0 = sym e ∙ ap verdict_number z in
       rw none (k ∙ ap (λ (b : Bool). own_refusal b u) f ∙ ap (own_refusal (wrong_rect (lent w h [] [] [] []) (rect x0 z0 x1 z1))) g)
@@ -367,7 +367,7 @@ refusal_is F q p r b = refl
 
 refused_with : (F : Field) (q : Rect) (p r b : List ℕ) (n : ℕ) → refresh_refusal F q p r b ≡ n → (n ≡ 0 → ⊥)
     → refresh_outcome F q p r b ≡ record { refused = n; most = 0; pass1_rows = no_rows; pass2_rows = no_rows; blur_rows = no_rows; pass1 = p; raw = r; blurred = b }
-unfolding refresh_outcome if◌then◌else◌
+unfolding refresh_outcome when◌then◌else◌
 refused_with F q p r b n e h = rw (e, ne_eqb n 0 h)
 
 module _ (w h : ℕ) (is ks ar cs p r b : List ℕ) (x0 z0 x1 z1 : ℕ) (v : RefreshVerdict)
@@ -413,12 +413,12 @@ module _ (w h : ℕ) (is ks ar cs p r b : List ℕ) (x0 z0 x1 z1 : ℕ) (v : Ref
     fine_blurred = three.2
 
     pub out_done : (o : RefreshOutcome) → o ≡ refreshed (lent w h is ks ar cs) (rect 0 z0 0 z1) p r b → o ≡ refresh_outcome (lent w h is ks ar cs) (rect x0 z0 x1 z1) p r b
-    unfolding refresh_outcome if◌then◌else◌ refreshed redone1 redone2
+    unfolding refresh_outcome when◌then◌else◌ refreshed redone1 redone2
     out_done o j = rw (number ∙ ap refresh_verdict_number z) j
 
 module _ (w h : ℕ) (is ks ar cs p r b : List ℕ) (v : Verdict) (e : verdict_number v ≡ refusal (lent w h is ks ar cs) (length p ∷ length r ∷ length b ∷ [])) where
   pub stages_refused : (c : Refusal) → v ≡ verdict.Refused c → stages_given (stages.Refused c) p r b ≡ stages_outcome (lent w h is ks ar cs) p r b
-  unfolding stages_outcome if◌then◌else◌
+  unfolding stages_outcome when◌then◌else◌
   stages_refused c z =
       let n : number_of c ≡ refusal (lent w h is ks ar cs) (length p ∷ length r ∷ length b ∷ []) = ap verdict_number (sym z) ∙ e in
       let f : eqb (refusal (lent w h is ks ar cs) (length p ∷ length r ∷ length b ∷ [])) 0 ≡ false = ne_eqb (refusal (lent w h is ks ar cs) (length p ∷ length r ∷ length b ∷ [])) 0 (λ k. omega (arith, number_pos c)) in
@@ -442,7 +442,7 @@ module _ (w h : ℕ) (is ks ar cs p r b : List ℕ) (v : Verdict) (e : verdict_n
 
     pub stages_done : (p' r' b' : List ℕ) (m : ℕ) → p' ≡ pass1 (lent w h is ks ar cs) (start (lent w h is ks ar cs)) → r' ≡ pass2 (lent w h is ks ar cs) p'
         → b' ≡ blur (lent w h is ks ar cs) r' → m ≡ greatest r' → stages_given (stages.Done m) p' r' b' ≡ stages_outcome (lent w h is ks ar cs) p r b
-    unfolding stages_outcome if◌then◌else◌
+    unfolding stages_outcome when◌then◌else◌
     stages_done p' r' b' m i j k l =
         let q : r' ≡ raw (lent w h is ks ar cs) = raw-end (lent w h is ks ar cs) p' r' i j in
         rw (none, l, k, q, i)

@@ -13,7 +13,7 @@ use lib.ListN.{length, get_or, set, length-set}
 use lib.Seq.{ext_get_or, get_or-set_same, get_or-set_other}
 use lib.Dec.{eqb, leb}
 use borrow.Author.Tests.{eq-eqb, le-leb}
-use Rattle.rules.specs.Base.{◌and◌, if◌then◌else◌, upto}
+use Rattle.rules.specs.Base.{◌and◌, when◌then◌else◌, upto}
 use Rattle.rules.specs.Field.{Field, spans, cell_of}
 use Rattle.rules.specs.Distance.{far}
 use Rattle.rules.specs.Rows.{downto, pass1_row, pass2_row, blur_row}
@@ -238,27 +238,27 @@ blur-last F r a b y l m h g e = let q : suc b ≡ y = omega arith in rw q e
 -- ---------------------------------------------------------------- rows until one comes out as stored
 
 onward-step : (F : Field) (z1 k y : ℕ) (l : List ℕ) → onward F z1 (suc k) y l
-    ≡ (if leb (z1 + 1) y and as_stored F y l (pass1_row F y l) then redone (pass1_row F y l) y else onward F z1 k (suc y) (pass1_row F y l))
+    ≡ (when leb (z1 + 1) y and as_stored F y l (pass1_row F y l) then redone (pass1_row F y l) y else onward F z1 k (suc y) (pass1_row F y l))
 unfolding onward
 onward-step F z1 k y l = refl
 
 module _ (F : Field) (z1 y : ℕ) (z : Redone) (l m : List ℕ) (e : z ≡ onward F z1 (F.h - y) y l) where
   module _ (h : y < F.h) (g : m ≡ pass1_row F y l) (t : Bool) (f : t ≡ as_stored F y l m) where
-    one-turn : z ≡ (if leb (z1 + 1) y and as_stored F y l m then redone m y else onward F z1 (F.h - (y + 1)) (y + 1) m)
+    one-turn : z ≡ (when leb (z1 + 1) y and as_stored F y l m then redone m y else onward F z1 (F.h - (y + 1)) (y + 1) m)
     one-turn =
         let k = F.h - (y + 1) in
         let q : F.h - y ≡ suc k = omega arith in
         let r : suc y ≡ y + 1 = omega arith in
         rw g
         (e ∙ ap (λ (n : ℕ). onward F z1 n y l) q ∙ onward-step F z1 k y l
-        ∙ ap (λ (n : ℕ). if leb (z1 + 1) y and as_stored F y l (pass1_row F y l) then redone (pass1_row F y l) y else onward F z1 k n (pass1_row F y l)) r)
+        ∙ ap (λ (n : ℕ). when leb (z1 + 1) y and as_stored F y l (pass1_row F y l) then redone (pass1_row F y l) y else onward F z1 k n (pass1_row F y l)) r)
 
     pub onward_go : t ≡ false → z ≡ onward F z1 (F.h - (y + 1)) (y + 1) m
-    unfolding if◌then◌else◌ ◌and◌
+    unfolding when◌then◌else◌ ◌and◌
     onward_go c = let s : as_stored F y l m ≡ false = sym f ∙ c in rw (and_no (leb (z1 + 1) y)) at (rw s at one-turn)
 
     pub onward_stop : z1 + 1 ≤ y → t ≡ true → redone m y ≡ z
-    unfolding if◌then◌else◌ ◌and◌
+    unfolding when◌then◌else◌ ◌and◌
     onward_stop b c = let s : as_stored F y l m ≡ true = sym f ∙ c in sym (rw (le-leb (z1 + 1) y b, s) at one-turn)
 
 pub onward-end : (w h : ℕ) (is ks ar cs : List ℕ) (z1 y : ℕ) (z : Redone) (l : List ℕ) → z ≡ onward (lent w h is ks ar cs) z1 (h - y) y l → h ≤ y → y ≤ h → redone l (h - 1) ≡ z
@@ -271,16 +271,16 @@ onward-end w h is ks ar cs z1 y z l e i j =
 
 module _ (F : Field) (z0 : ℕ) (p : List ℕ) (y : ℕ) (z : Redone) (l m : List ℕ) (e : z ≡ backward F z0 p y l) where
   module _ (h : 0 < y) (g : m ≡ from_pass1 F p (y - 1) l) (t : Bool) (f : t ≡ as_stored F (y - 1) l m) where
-    one-back : z ≡ (if leb (y - 1) (z0 - 1) and as_stored F (y - 1) l m then redone m (y - 1) else backward F z0 p (y - 1) m)
+    one-back : z ≡ (when leb (y - 1) (z0 - 1) and as_stored F (y - 1) l m then redone m (y - 1) else backward F z0 p (y - 1) m)
     unfolding backward
     one-back = let q : y ≡ suc (y - 1) = omega arith in rw g (rw q at e)
 
     pub backward_go : t ≡ false → z ≡ backward F z0 p (y - 1) m
-    unfolding if◌then◌else◌ ◌and◌
+    unfolding when◌then◌else◌ ◌and◌
     backward_go c = let s : as_stored F (y - 1) l m ≡ false = sym f ∙ c in rw (and_no (leb (y - 1) (z0 - 1))) at (rw s at one-back)
 
     pub backward_stop : y ≤ z0 → t ≡ true → redone m (y - 1) ≡ z
-    unfolding if◌then◌else◌ ◌and◌
+    unfolding when◌then◌else◌ ◌and◌
     backward_stop b c = let s : as_stored F (y - 1) l m ≡ true = sym f ∙ c in sym (rw (le-leb (y - 1) (z0 - 1) (omega arith), s) at one-back)
 
 pub backward-end : (F : Field) (z0 : ℕ) (p : List ℕ) (y : ℕ) (z : Redone) (l : List ℕ) → z ≡ backward F z0 p y l → y ≤ 0 → redone l 0 ≡ z

@@ -1,6 +1,6 @@
 -- The numbers of the entries' answers, and the answers as the rules have them.
 use Rattle.std.specs.Prelude.{ℕ, Bool, not, List, [], ◌∷◌, length, eqb}
-use Rattle.rules.specs.Base.{if◌then◌else◌}
+use Rattle.rules.specs.Base.{when◌then◌else◌}
 use Rattle.rules.specs.Field.{Field}
 use Rattle.rules.specs.Refusals.{refusal}
 use Rattle.rules.specs.Refresh.{wrong_rect, wrong_stored, Rect, Rows, no_rows, StagesOutcome, RefreshOutcome}
@@ -77,17 +77,17 @@ refresh_given a p r b =
 
 -- of two lengths the first that is not n, or the second
 unfoldable pub odd_length : ℕ → ℕ → ℕ → ℕ
-odd_length n a b = if eqb a n then b else a
+odd_length n a b = when eqb a n then b else a
 
 -- 11 and 31 in their order
 unfoldable pub own_refusal : Bool → Bool → ℕ
-own_refusal rect stored = if rect then 11 else if stored then 31 else 0
+own_refusal rect stored = when rect then 11 else when stored then 31 else 0
 
 -- the refusal of a refresh, given the length of the blurred list in its place
 unfoldable pub refusal_of : Field → Rect → List ℕ → List ℕ → ℕ → ℕ
 refusal_of F q p r own =
     let k = refusal F (length p ∷ length r ∷ own ∷ []) in
-    if not (eqb k 0) then k else own_refusal (wrong_rect F q) (wrong_stored p r)
+    when not (eqb k 0) then k else own_refusal (wrong_rect F q) (wrong_stored p r)
 
 abbrev pub refresh_verdict_number : RefreshVerdict → ℕ
 refresh_verdict_number fine.Fine = 0

@@ -6,7 +6,7 @@ use mathlib.Core.Bool.{Bool, true, false, not}
 use mathlib.Core.List.{List, [], ◌∷◌, ◌++◌, map}
 use lib.ListN.{length, get_or, set, length-map}
 use lib.Dec.{eqb, ltb}
-use Rattle.rules.specs.Base.{◌and◌, ◌or◌, if◌then◌else◌, upto, tab, any}
+use Rattle.rules.specs.Base.{◌and◌, ◌or◌, when◌then◌else◌, upto, tab, any}
 use Rattle.rules.specs.Field.{Field, spans}
 use Rattle.rules.specs.Growth.{flagged, plain}
 use Rattle.rules.specs.Records.{Rec, fresh, at, has, once, counted, add_span, records}
@@ -18,12 +18,12 @@ use Rattle.rooms.specs.Bare.{bare, bare_records, bare_regions}
 
 -- ---------------------------------------------------------------- lists
 
-if_of : {A B : Type 0} (f : A → B) (b : Bool) (x y : A) → f (if b then x else y) ≡ (if b then f x else f y)
-unfolding if◌then◌else◌
+if_of : {A B : Type 0} (f : A → B) (b : Bool) (x y : A) → f (when b then x else y) ≡ (when b then f x else f y)
+unfolding when◌then◌else◌
 if_of f true x y = refl
 if_of f false x y = refl
 
-if_then : {A : Type 0} (b : Bool) (x x' y y' : A) → x ≡ x' → y ≡ y' → (if b then x else y) ≡ (if b then x' else y')
+if_then : {A : Type 0} (b : Bool) (x x' y y' : A) → x ≡ x' → y ≡ y' → (when b then x else y) ≡ (when b then x' else y')
 if_then b x x' y y' e f = rw (e, f)
 
 any_same : (p q : ℕ → Bool) → ((x : ℕ) → p x ≡ q x) → (l : List ℕ) → any p l ≡ any q l
@@ -97,9 +97,9 @@ unfolding reach
 reach-bare [] g = refl
 reach-bare (r ∷ l) g =
     let c : Bool = flagged r or (at g.recs r).visited or eqb (at g.recs r).id 0 in
-    ap (λ (b : Bool). reach l (if b then bare_gather g else pushed r (bare_gather g))) (rw (visited_bare g.recs r, id_bare g.recs r))
-    ∙ ap (λ (x : Gather). reach l (if c then bare_gather g else x)) (pushed-bare r g)
-    ∙ ap (reach l) (sym (if_of bare_gather c g (pushed r g))) ∙ reach-bare l (if c then g else pushed r g)
+    ap (λ (b : Bool). reach l (when b then bare_gather g else pushed r (bare_gather g))) (rw (visited_bare g.recs r, id_bare g.recs r))
+    ∙ ap (λ (x : Gather). reach l (when c then bare_gather g else x)) (pushed-bare r g)
+    ∙ ap (reach l) (sym (if_of bare_gather c g (pushed r g))) ∙ reach-bare l (when c then g else pushed r g)
 
 gather-bare : (k : ℕ) (todo : List ℕ) (rs : List Rec) (found : List ℕ) → gather k todo (map bare rs) found ≡ bare_gather (gather k todo rs found)
 unfolding gather
@@ -132,12 +132,12 @@ small-bare least rs l =
     rw (total-bare rs l, e)
 
 abbrev judged : ℕ → List Rec → Gather → List Rec
-judged least rs g = if small least rs g.found then remove_all g.found g.recs else g.recs
+judged least rs g = when small least rs g.found then remove_all g.found g.recs else g.recs
 
 judged_bare : (least : ℕ) (rs : List Rec) (g : Gather) → judged least (map bare rs) (bare_gather g) ≡ map bare (judged least rs g)
 judged_bare least rs g =
-    ap (λ (b : Bool). if b then remove_all g.found (map bare g.recs) else map bare g.recs) (small-bare least rs g.found)
-    ∙ ap (λ (x : List Rec). if small least rs g.found then x else map bare g.recs) (remove_bare g.found g.recs)
+    ap (λ (b : Bool). when b then remove_all g.found (map bare g.recs) else map bare g.recs) (small-bare least rs g.found)
+    ∙ ap (λ (x : List Rec). when small least rs g.found then x else map bare g.recs) (remove_bare g.found g.recs)
     ∙ sym (if_of (map bare) (small least rs g.found) (remove_all g.found g.recs) g.recs)
 
 group_bare : (i : ℕ) (rs : List Rec) → gather (suc (length (map bare rs))) (i ∷ []) (set (map bare rs) i (seen (at (map bare rs) i))) []
@@ -155,9 +155,9 @@ filter-one-bare : (least i : ℕ) (rs : List Rec) → filter_one least i (map ba
 unfolding filter_one passed
 filter-one-bare least i rs =
     let g = gather (suc (length rs)) (i ∷ []) (set rs i (seen (at rs i))) [] in
-    ap (λ (b : Bool). if b then map bare rs else judged least (map bare rs) (gather (suc (length (map bare rs))) (i ∷ []) (set (map bare rs) i (seen (at (map bare rs) i))) []))
+    ap (λ (b : Bool). when b then map bare rs else judged least (map bare rs) (gather (suc (length (map bare rs))) (i ∷ []) (set (map bare rs) i (seen (at (map bare rs) i))) []))
     (passed_bare rs i)
-    ∙ ap (λ (x : List Rec). if passed rs i then map bare rs else x) (ap (judged least (map bare rs)) (group_bare i rs) ∙ judged_bare least rs g)
+    ∙ ap (λ (x : List Rec). when passed rs i then map bare rs else x) (ap (judged least (map bare rs)) (group_bare i rs) ∙ judged_bare least rs g)
     ∙ sym (if_of (map bare) (passed rs i) rs (judged least rs g))
 
 pub filtered-bare : (least : ℕ) (rs : List Rec) → filtered least (map bare rs) ≡ map bare (filtered least rs)
@@ -196,11 +196,11 @@ unfolding bare
 fits_bare a r b size = rw (suits-bare a b, suits-bare b a)
 
 abbrev taken : Rec → ℕ → Rec → Pick → Pick
-taken a r b p = if fits a r b p.size then record { size = b.count; id = b.id } else p
+taken a r b p = when fits a r b p.size then record { size = b.count; id = b.id } else p
 
 taken-bare : (a : Rec) (r : ℕ) (b : Rec) (p : Pick) → taken (bare a) r (bare b) p ≡ taken a r b p
 unfolding bare
-taken-bare a r b p = ap (λ (x : Bool). if x then record { size = b.count; id = b.id } else p) (fits_bare a r b p.size)
+taken-bare a r b p = ap (λ (x : Bool). when x then record { size = b.count; id = b.id } else p) (fits_bare a r b p.size)
 
 picked-bare : (rs : List Rec) (a : Rec) (l : List ℕ) (p : Pick) → picked (map bare rs) (bare a) l p ≡ picked rs a l p
 unfolding picked
@@ -240,13 +240,13 @@ joins-bare i a p b g =
 
 -- one merge, of a record and its pick
 tried : ℕ → ℕ → Rec → Pick → Rec → Merge → Merge
-tried area i a p b g = if stays area a p b then g else joins i a p b g
+tried area i a p b g = when stays area a p b then g else joins i a p b g
 
 tried_bare : (area i : ℕ) (a : Rec) (p : Pick) (b : Rec) (g : Merge) → tried area i (bare a) p (bare b) (bare_merge g) ≡ bare_merge (tried area i a p b g)
 unfolding tried
 tried_bare area i a p b g =
-    ap (λ (x : Bool). if x then bare_merge g else joins i (bare a) p (bare b) (bare_merge g)) (stays-bare area a p b)
-    ∙ ap (λ (x : Merge). if stays area a p b then bare_merge g else x) (joins-bare i a p b g)
+    ap (λ (x : Bool). when x then bare_merge g else joins i (bare a) p (bare b) (bare_merge g)) (stays-bare area a p b)
+    ∙ ap (λ (x : Merge). when stays area a p b then bare_merge g else x) (joins-bare i a p b g)
     ∙ sym (if_of bare_merge (stays area a p b) g (joins i a p b g))
 
 -- the pick of record a
@@ -279,8 +279,8 @@ merged-bare area (suc k) rs =
     let g = upto (length rs) (merge_one area) (record { recs = rs; merges = 0 }) in
     let e : upto (length (map bare rs)) (merge_one area) (record { recs = map bare rs; merges = 0 }) ≡ bare_merge g =
     rw (length-map rs bare) (upto_of (merge_one area) bare_merge (merge_one-bare area) (length rs) (record { recs = rs; merges = 0 })) in
-    ap (λ (h : Merge). if eqb h.merges 0 then map bare rs else merged area k h.recs) e
-    ∙ ap (λ (l : List Rec). if eqb g.merges 0 then map bare rs else l) (merged-bare area k g.recs)
+    ap (λ (h : Merge). when eqb h.merges 0 then map bare rs else merged area k h.recs) e
+    ∙ ap (λ (l : List Rec). when eqb g.merges 0 then map bare rs else l) (merged-bare area k g.recs)
     ∙ sym (if_of (map bare) (eqb g.merges 0) rs (merged area k g.recs))
 
 -- ---------------------------------------------------------------- the numbering
@@ -288,15 +288,15 @@ merged-bare area (suc k) rs =
 live-bare : (rs : List Rec) (l : List ℕ) → live (map bare rs) l ≡ live rs l
 unfolding bare live
 live-bare [] l = refl
-live-bare (r ∷ rs) l = live-bare rs (if eqb r.id 0 then l else once l r.id)
+live-bare (r ∷ rs) l = live-bare rs (when eqb r.id 0 then l else once l r.id)
 
 overlaps-bare : (rs : List Rec) → overlaps (map bare rs) ≡ overlaps rs
 unfolding bare overlaps
 overlaps-bare [] = refl
-overlaps-bare (r ∷ rs) = ap (λ (k : ℕ). if r.overlap then suc k else k) (overlaps-bare rs)
+overlaps-bare (r ∷ rs) = ap (λ (k : ℕ). when r.overlap then suc k else k) (overlaps-bare rs)
 
 cuts-bare : (rs : List Rec) → cuts (map bare rs) ≡ 0
-unfolding bare cuts if◌then◌else◌
+unfolding bare cuts when◌then◌else◌
 cuts-bare [] = refl
 cuts-bare (r ∷ rs) = cuts-bare rs
 

@@ -9,7 +9,7 @@ use mathlib.Core.List.{List, [], ◌∷◌, map}
 use lib.ListN.{length, get_or, length-map, get_or-map}
 use lib.Dec.{eqb}
 use borrow.Author.Tests.{eq-eqb, leb-true, leb-false}
-use Rattle.rules.specs.Base.{if◌then◌else◌, any}
+use Rattle.rules.specs.Base.{when◌then◌else◌, any}
 use Rattle.rules.specs.Field.{Field}
 use Rattle.rules.specs.Growth.{flagged, plain, first_id}
 use Rattle.rules.specs.Records.{has}
@@ -37,7 +37,7 @@ rank_le ids j (suc d) =
 
 -- "the two forms' ids differ by one strictly rising renaming of the ids in use"
 pub rank_rises : (ids : List ℕ) (j k : ℕ) → j < k → in_use ids k ≡ true → rank ids j < rank ids k
-unfolding rank if◌then◌else◌
+unfolding rank when◌then◌else◌
 rank_rises ids j zero h u = absurd (omega arith)
 rank_rises ids j (suc k) h u =
     let e : (k - j) + j ≡ k = omega arith in
@@ -52,8 +52,8 @@ has_borne [] k s h e = absurd (omega arith)
 has_borne (x ∷ ids) k zero h e = or_left (eqb k x) (any (eqb k) ids) (eq-eqb k x (sym e))
 has_borne (x ∷ ids) k (suc s) h e = or_right (eqb k x) (any (eqb k) ids) (has_borne ids k s (omega arith) e)
 
-else_same : (b : Bool) (x y y' : ℕ) → (b ≡ false → y ≡ y') → (if b then x else y) ≡ (if b then x else y')
-unfolding if◌then◌else◌
+else_same : (b : Bool) (x y y' : ℕ) → (b ≡ false → y ≡ y') → (when b then x else y) ≡ (when b then x else y')
+unfolding when◌then◌else◌
 else_same true x y y' h = refl
 else_same false x y y' h = h refl
 
@@ -80,7 +80,7 @@ lower_forth d k p =
     if-ind (λ (n : ℕ). n ≡ k) (flagged (k + d)) (λ e. let h : 0x8000 ≤ k + d = leb-true 0x8000 (k + d) e in absurd (omega (arith, p.1))) (λ _. omega arith)
 
 lower_zero : (d : ℕ) → lower d 0 ≡ 0
-unfolding lower if◌then◌else◌
+unfolding lower when◌then◌else◌
 lower_zero d = omega arith
 
 pub lower-at : (d : ℕ) (ids : List ℕ) (s : ℕ) → get_or (map (lower d) ids) s 0 ≡ lower d (get_or ids s 0)
@@ -133,7 +133,7 @@ module _ (F : Field) (first : ℕ) (ids : List ℕ) (past : ℕ) (R : Rooms F fi
           (λ _. omega arith)
 
   -- the new number of a span's id
-  new_is : (s : ℕ) → (if flagged (get_or ids s 0) then get_or ids s 0 else rank ids (get_or ids s 0)) ≡ lower (first - 1) (get_or ids s 0)
+  new_is : (s : ℕ) → (when flagged (get_or ids s 0) then get_or ids s 0 else rank ids (get_or ids s 0)) ≡ lower (first - 1) (get_or ids s 0)
   unfolding lower
   new_is s = else_same (flagged (get_or ids s 0)) _ _ _ (λ e. rank_of (get_or ids s 0) s refl (leb-false 0x8000 (get_or ids s 0) e))
     where
@@ -204,7 +204,7 @@ pub record Renamed (from to : List ℕ) : Type 0 where
   pub by : ℕ → ℕ
   pub none : by 0 ≡ 0
   pub rises : (j k : ℕ) → j < k → in_use from k ≡ true → by j < by k
-  pub is : to ≡ map (λ r. if flagged r then r else by r) from
+  pub is : to ≡ map (λ r. when flagged r then r else by r) from
 
 pub forms_differ : (v : Regions) → Renamed (formed compared v).ids (formed dense v).ids
 unfolding formed condensed

@@ -7,7 +7,7 @@ use mathlib.Core.List.{List, [], ◌∷◌, map}
 use lib.ListN.{length, get_or, length-set}
 use lib.Dec.{eqb}
 use borrow.Author.Tests.{eqb-true, eqb-false, not-true}
-use Rattle.rules.specs.Base.{if◌then◌else◌}
+use Rattle.rules.specs.Base.{when◌then◌else◌}
 use Rattle.rules.specs.Field.{none}
 use Rattle.rules.specs.Net.{Net, spans, near, area_of}
 use Rattle.rules.specs.Growth.{Marks, id_of, put, Taken, look, takes, finds, wrote, written, Spread, round, rounds, expand}
@@ -137,10 +137,10 @@ module _ (N : Net) (m : Marks) where
       let h = written_held es m i (record { size = refl; step = λ s. same refl; still = λ s k. refl }) in
       step_grow N first next m.ids (written N m es m).ids g h.step h.size
 
-  round_idle : (es : List ℕ) → All Idle es → All (λ e. (e ≡ none → ⊥) → id_of (written N m es m) e ≡ 0) (map (λ e. if finds N m e then none else e) es)
+  round_idle : (es : List ℕ) → All Idle es → All (λ e. (e ≡ none → ⊥) → id_of (written N m es m) e ≡ 0) (map (λ e. when finds N m e then none else e) es)
   round_idle es i =
       let h = written_held es m i (record { size = refl; step = λ s. same refl; still = λ s k. refl }) in
-      map_all Idle (λ e. (e ≡ none → ⊥) → id_of (written N m es m) e ≡ 0) (λ e. if finds N m e then none else e) es
+      map_all Idle (λ e. (e ≡ none → ⊥) → id_of (written N m es m) e ≡ 0) (λ e. when finds N m e then none else e) es
       (λ e k. if-ind (λ (x : ℕ). (x ≡ none → ⊥) → id_of (written N m es m) x ≡ 0) (finds N m e) (λ _ n. absurd (n refl)) (λ f n. h.still e f ∙ k n)) i
 
 module _ (N : Net) (first next : ℕ) where
@@ -157,7 +157,7 @@ module _ (N : Net) (first next : ℕ) where
   expand_grow level m es g =
       rounds_grow _ _ (idle es) g
     where
-      idle : (es : List ℕ) → All (Idle N m) (map (λ e. if eqb (id_of m e) 0 then e else none) es)
+      idle : (es : List ℕ) → All (Idle N m) (map (λ e. when eqb (id_of m e) 0 then e else none) es)
       idle [] = tt
       idle (e ∷ es) = (if-ind (Idle N m) (eqb (id_of m e) 0) (λ k _. eqb-true _ _ k) (λ _ n. absurd (n refl)), idle es)
 

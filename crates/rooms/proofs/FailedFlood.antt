@@ -7,7 +7,7 @@ use mathlib.Core.List.{List, ◌∷◌}
 use lib.ListN.{length}
 use lib.Seq.{ext_get_or}
 use borrow.Author.Tests.{eq-eqb, ne_eqb}
-use Rattle.rules.specs.Base.{◌and◌, if◌then◌else◌}
+use Rattle.rules.specs.Base.{◌and◌, when◌then◌else◌}
 use Rattle.rules.specs.Field.{none}
 use Rattle.rules.specs.Net.{Net, spans, area_of}
 use Rattle.rules.specs.Growth.{Marks, id_of, flood, floods}
@@ -37,5 +37,5 @@ module _ (N : Net) (dist : List ℕ) (level id : ℕ) (m : Marks) (s : ℕ) (b :
 
   -- and the floods from the entries after it begin with that id
   pub next_flood_gets_the_id : (es : List ℕ) → (s ≡ none → ⊥) → floods N dist level (s ∷ es) m id ≡ floods N dist level es (flood N dist level id m s).marks id
-  unfolding floods ◌and◌ if◌then◌else◌
+  unfolding floods ◌and◌ when◌then◌else◌
   next_flood_gets_the_id es h = rw (ne_eqb s 65535 h, eq-eqb (id_of m s) 0 b.blank, eq-eqb (flood N dist level id m s).count 0 failed)

@@ -9,7 +9,7 @@ use lib.ListN.{length, get_or, set, length-set}
 use lib.Seq.{get_or-set_same, get_or-set_other}
 use lib.Dec.{eqb}
 use borrow.Author.Tests.{eqb-true, eqb-false, ne_eqb, lt-leb, not-true}
-use Rattle.rules.specs.Base.{if◌then◌else◌}
+use Rattle.rules.specs.Base.{when◌then◌else◌}
 use Rattle.rules.specs.Net.{Net, spans, near, area_of}
 use Rattle.rules.specs.Growth.{Marks, id_of, put, flagged, Seed, Flow, other, objects, pushed, visit, flow, flood, floods, floods_run_out, Ids}
 use Rattle.laws.proofs.Basics.{both, neither, if-ind, if_ind₂, upto-ind, All, All_map, get_or-set_cases}
@@ -241,7 +241,7 @@ module _ (N : Net) (first : ℕ) where
   }
 
   pub flood_grow : (dist : List ℕ) (level id : ℕ) (m : Marks) (s : ℕ) → id < 0x8000 → s < spans N → (area_of N s ≡ 0 → ⊥) → area_of N s < 256 → id_of m s ≡ 0
-      → Grow N first id m.ids → Grow N first (if eqb (flood N dist level id m s).count 0 then id else suc id) (flood N dist level id m s).marks.ids
+      → Grow N first id m.ids → Grow N first (when eqb (flood N dist level id m s).count 0 then id else suc id) (flood N dist level id m s).marks.ids
   flood_grow dist level id m s b h w a e g =
       let p : 0 < id = omega (arith, g.some, g.ahead) in
       let f = flood N dist level id m s in
@@ -263,6 +263,6 @@ floods_grow N first dist level bytes (e ∷ es) al m id b g =
     let in_e = al.0 (eqb-false _ _ (not-true _ t2.0)) in
     let blank : id_of m e ≡ 0 = eqb-true _ _ t2.1 in
     let f = flood N dist level id m e in
-    floods_grow N first dist level bytes es al.1 f.marks (if eqb f.count 0 then id else suc id) (after_last _ id b o2.0)
+    floods_grow N first dist level bytes es al.1 f.marks (when eqb f.count 0 then id else suc id) (after_last _ id b o2.0)
     (flood_grow N first dist level id m e b in_e.0 in_e.1 (bytes e in_e.0) blank g) o2.1)
     (λ _. floods_grow N first dist level bytes es al.1 m id b g)

@@ -10,7 +10,7 @@ use lib.ListN.{length, get_or, set, length-set, get_or-eq_default}
 use lib.Seq.{get_or-set_same}
 use lib.Dec.{ltb}
 use borrow.Author.Tests.{eqb-true, eqb-false, ltb-true, ltb-false, not-false}
-use Rattle.rules.specs.Base.{if◌then◌else◌, upto, tab}
+use Rattle.rules.specs.Base.{when◌then◌else◌, upto, tab}
 use Rattle.rules.specs.Field.{Field}
 use Rattle.rules.specs.Net.{Net, net_of, spans, near, area_of}
 use Rattle.rules.specs.Growth.{plain}
@@ -222,7 +222,7 @@ pub record Raw (N : Net) (first next : ℕ) (ids : List ℕ) (rs : List Rec) : T
   pub area : (j : ℕ) → Plain j → (t : ℕ) → Bears ids j t → area_of N t ≡ (at rs j).area
   pub list : (j : ℕ) → All (Listed N ids j) (at rs j).list
 
-fresh_at : (n j : ℕ) → at (tab n 0 fresh) j ≡ (if ltb j n then fresh j else fresh 0)
+fresh_at : (n j : ℕ) → at (tab n 0 fresh) j ≡ (when ltb j n then fresh j else fresh 0)
 unfolding at
 fresh_at n j =
     if-ind (λ (x : Rec). get_or (tab n 0 fresh) j (fresh 0) ≡ x) (ltb j n)

@@ -9,7 +9,7 @@ use lib.ListN.{length, get_or, set, take, drop, length-set, length-map}
 use lib.Seq.{get_or-set_same}
 use lib.Dec.{eqb}
 use borrow.Author.Tests.{eqb-true, eqb-false, not-true}
-use Rattle.rules.specs.Base.{if◌then◌else◌, any}
+use Rattle.rules.specs.Base.{when◌then◌else◌, any}
 use Rattle.rules.specs.Net.{Net, near, area_of}
 use Rattle.rules.specs.Records.{Rec, fresh, at, has}
 use Rattle.rules.specs.Merge.{suits, Pick, picked, place, around, dedup, tidy, absorbed, emptied, renamed, Merge, merge_one, merged}
@@ -53,7 +53,7 @@ any_none p (x ∷ l) e = let a = neither _ _ e in (a.0, any_none p l a.1)
 -- ---------------------------------------------------------------- a name for another
 
 abbrev pub ren : ℕ → ℕ → ℕ → ℕ
-ren a b x = if eqb x a then b else x
+ren a b x = when eqb x a then b else x
 
 ren_hit : (a b x : ℕ) → x ≡ a → ren a b x ≡ b
 ren_hit a b x e = if-ind (λ (y : ℕ). y ≡ b) (eqb x a) (λ _. refl) (λ f. absurd (eqb-false _ _ f e))
@@ -262,7 +262,7 @@ renamed_list_lem a b r Q z h =
     if-ind (λ (x : Rec). All Q x.list) (eqb r.id 0)
     (λ e. absurd (z (eqb-true _ _ e)))
     (λ _. if-ind (All Q) (has r.list a)
-    (λ _. tidy_all Q (map (λ x. if eqb x a then b else x) r.list) (map_all (λ x. Q (ren a b x)) Q (λ x. if eqb x a then b else x) r.list (λ x k. k) h))
+    (λ _. tidy_all Q (map (λ x. when eqb x a then b else x) r.list) (map_all (λ x. Q (ren a b x)) Q (λ x. when eqb x a then b else x) r.list (λ x k. k) h))
     (λ e. All_map r.list (λ x k. subst Q (ren_miss a b x (λ q. eqb-false _ _ k.0 (sym q))) k.1) (All_both (λ x. eqb a x ≡ false) (λ x. Q (ren a b x)) r.list (any_none (eqb a) r.list e) h)))
 
 set_empty : (rs : List Rec) (i : ℕ) (r : Rec) → i < length rs → (at (set rs i (emptied r)) i).count ≡ 0

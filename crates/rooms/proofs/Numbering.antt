@@ -9,7 +9,7 @@ use lib.ListN.{length, get_or, length-append, get_or-append}
 use lib.Seq.{get_or-append_seam}
 use lib.Dec.{eqb}
 use borrow.Author.Tests.{eqb-true, eqb-false, eq-eqb}
-use Rattle.rules.specs.Base.{◌or◌, if◌then◌else◌, upto, any}
+use Rattle.rules.specs.Base.{◌or◌, when◌then◌else◌, upto, any}
 use Rattle.rules.specs.Records.{Rec, at, has, once}
 use Rattle.rules.specs.Merge.{place}
 use Rattle.rules.specs.Numbering.{live}
@@ -68,7 +68,7 @@ place-left (x ∷ l) ys c e =
 -- ---------------------------------------------------------------- live ids as a loop
 
 pub add : (ℕ → ℕ) → ℕ → List ℕ → List ℕ
-add f k l = if eqb (f k) 0 then l else once l (f k)
+add f k l = when eqb (f k) 0 then l else once l (f k)
 
 upto_front {ℓ} : {A : Type ℓ} (n : ℕ) (f : ℕ → A → A) (a : A) → upto (suc n) f a ≡ upto n (λ k. f (suc k)) (f 0 a)
 unfolding upto

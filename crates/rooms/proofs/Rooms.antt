@@ -8,7 +8,7 @@ use mathlib.Core.List.{List, [], ◌∷◌, ◌++◌, map}
 use lib.ListN.{length, get_or, length-append}
 use lib.Dec.{eqb}
 use borrow.Author.Tests.{eqb-true, eqb-false, lt-leb, leb-true, not-false}
-use Rattle.rules.specs.Base.{if◌then◌else◌, upto}
+use Rattle.rules.specs.Base.{when◌then◌else◌, upto}
 use Rattle.rules.specs.Field.{Field, Bytes}
 use Rattle.rules.specs.Net.{Net, net_of, spans}
 use Rattle.rules.specs.Refusals.{refusal, region_refusal}
@@ -51,7 +51,7 @@ number_some l c z = if-ind (λ (n : ℕ). n ≡ suc (place l c)) (eqb c 0) (λ k
 
 -- the id of a span at last, from its id as grown
 abbrev final : List Rec → List ℕ → ℕ → ℕ
-final rs l r = if flagged r then r else number_of l (at rs r).id
+final rs l r = when flagged r then r else number_of l (at rs r).id
 
 module _ (N : Net) (first next : ℕ) (ids : List ℕ) (g : Grow N first next ids) (few : next < 0x8000) (rs : List Rec) (h : Sound N first next ids rs) where
   -- numbered before the last record

@@ -1,12 +1,12 @@
 -- The dense form by one number: ids in use are exactly first to max_region - 1 in the compared form, so what is left out lies below first.
 use Rattle.std.specs.Prelude.{ℕ, suc, ◌-◌, map}
-use Rattle.rules.specs.Base.{if◌then◌else◌}
+use Rattle.rules.specs.Base.{when◌then◌else◌}
 use Rattle.rules.specs.Growth.{flagged, first_id}
 use Rattle.rules.specs.Numbering.{Form, dense, compared, Regions}
 
 -- "Flagged ids stay.", the others lose d
 unfoldable pub lower : ℕ → ℕ → ℕ
-lower d r = if flagged r then r else r - d
+lower d r = when flagged r then r else r - d
 
 -- with first the first id that the compared form can have
 unfoldable pub lowered : ℕ → Regions → Regions

@@ -1,6 +1,6 @@
 -- The contour walk.
 use Rattle.std.specs.Prelude.{ℕ, zero, suc, ◌+◌, ◌-◌, ◌%◌, Bool, not, List, [], ◌∷◌, ◌++◌, length, get_or, take, ltb, eqb}
-use Rattle.rules.specs.Base.{◌and◌, if◌then◌else◌}
+use Rattle.rules.specs.Base.{◌and◌, when◌then◌else◌}
 use Rattle.rules.specs.Net.{Net, near}
 
 -- "the id across it (0 if none)"
@@ -14,7 +14,7 @@ solid N ids s d = not (eqb (across N ids s d) (get_or ids s 0))
 -- "the first solid direction of four, or none": 4 is none
 unfoldable pub first_solid : Net → List ℕ → ℕ → ℕ
 first_solid N ids s =
-    if solid N ids s 0 then 0 else if solid N ids s 1 then 1 else if solid N ids s 2 then 2 else if solid N ids s 3 then 3 else 4
+    when solid N ids s 0 then 0 else when solid N ids s 1 then 1 else when solid N ids s 2 then 2 else when solid N ids s 3 then 3 else 4
 
 -- "a walker standing on a span and facing one direction", with the last id listed and the list so far
 pub record Walker : Type 0 where
@@ -29,8 +29,8 @@ stride N ids v =
     let s = v.span in
     let d = v.dir in
     let r = across N ids s d in
-    if solid N ids s d
-    then record { span = s; dir = (d + 1) % 4; last = r; listed = if eqb r v.last then v.listed else v.listed ++ (r ∷ []) }
+    when solid N ids s d
+    then record { span = s; dir = (d + 1) % 4; last = r; listed = when eqb r v.last then v.listed else v.listed ++ (r ∷ []) }
     else record { span = near N s d; dir = (d + 3) % 4; last = v.last; listed = v.listed }
 
 -- "It ends back at the start, or after 40,000 steps, each turn and each move being one.": at most k steps more, from start s, d
@@ -39,11 +39,11 @@ walk N ids s d zero v = v
 walk N ids s d (suc k) v =
     let u = stride N ids v in
     let rest = walk N ids s d k u in
-    if eqb u.span s and eqb u.dir d then u else rest
+    when eqb u.span s and eqb u.dir d then u else rest
 
 -- "A last entry equal to the first is dropped when the list has more than one."
 unfoldable pub trim : List ℕ → List ℕ
-trim l = let n = length l in if ltb 1 n and eqb (get_or l 0 0) (get_or l (n - 1) 0) then take (n - 1) l else l
+trim l = let n = length l in when ltb 1 n and eqb (get_or l 0 0) (get_or l (n - 1) 0) then take (n - 1) l else l
 
 -- "The id across the starting edge is listed.": the walker at the end of the walk from edge d of span s
 unfoldable pub walk_from : Net → List ℕ → ℕ → ℕ → Walker

@@ -1,15 +1,15 @@
 -- The distance rules.
 use Rattle.std.specs.Prelude.{ℕ, ◌+◌, ◌*◌, ◌-◌, ◌/◌, min, max, List, [], ◌∷◌, get_or, set, leb, ltb, eqb}
-use Rattle.rules.specs.Base.{if◌then◌else◌, upto, tab}
+use Rattle.rules.specs.Base.{when◌then◌else◌, upto, tab}
 use Rattle.rules.specs.Field.{Field, spans, near, corner, area_of}
 
 -- 1 for a neighbour of the span's own area ("area 0 counts as an area")
 unfoldable pub same : Field → ℕ → ℕ → ℕ
-same F s d = if eqb (area_of F (near F s d)) (area_of F s) then 1 else 0
+same F s d = when eqb (area_of F (near F s d)) (area_of F s) then 1 else 0
 
 -- "Start at 65,535. A span with fewer than four neighbours of its own area gets 0"
 unfoldable pub start_at : Field → ℕ → ℕ
-start_at F s = if ltb (same F s 0 + same F s 1 + same F s 2 + same F s 3) 4 then 0 else 65535
+start_at F s = when ltb (same F s 0 + same F s 1 + same F s 2 + same F s 3) 4 then 0 else 65535
 
 unfoldable pub start : Field → List ℕ
 start F = tab (spans F) 0 (start_at F)
@@ -60,7 +60,7 @@ term F l s c d = get_or l (near F s d) c + get_or l (corner F s d) c
 unfoldable pub blur_at : Field → List ℕ → ℕ → ℕ
 blur_at F l s =
     let c = get_or l s 0 in
-    if leb c 2 then c else (c + term F l s c 0 + term F l s c 1 + term F l s c 2 + term F l s c 3 + 5) / 9
+    when leb c 2 then c else (c + term F l s c 0 + term F l s c 1 + term F l s c 2 + term F l s c 3 + 5) / 9
 
 unfoldable pub blur : Field → List ℕ → List ℕ
 blur F l = tab (spans F) 0 (blur_at F l)

@@ -1,6 +1,6 @@
 -- The field as lent, and where a connection leads.
 use Rattle.std.specs.Prelude.{ℕ, suc, ◌+◌, ◌*◌, ◌-◌, ◌/◌, ◌%◌, ◌<◌, Bool, true, List, [], ◌∷◌, length, get_or, leb, ltb, eqb}
-use Rattle.rules.specs.Base.{if◌then◌else◌}
+use Rattle.rules.specs.Base.{when◌then◌else◌}
 
 -- "Width w, height h; w·h cells, row by row (x fastest), each an index and a count; n spans, n being the length of the area list.
 -- An area is a byte, 0 = not walkable. Connections are four bytes a span, in direction order"
@@ -23,7 +23,7 @@ none = 65535
 -- the cell that holds span s, the spans being laid out cell by cell
 unfoldable pub cell_of : List ℕ → ℕ → ℕ
 cell_of [] s = 0
-cell_of (k ∷ ks) s = let rest = suc (cell_of ks (s - k)) in if ltb s k then 0 else rest
+cell_of (k ∷ ks) s = let rest = suc (cell_of ks (s - k)) in when ltb s k then 0 else rest
 
 -- "Directions: 0 is (-1,0), 1 is (0,1), 2 is (1,0), 3 is (0,-1)": the cell across from cell c
 unfoldable pub cell_to : ℕ → ℕ → ℕ → ℕ
@@ -41,7 +41,7 @@ con_of F s d = get_or F.con (4 * s + d) 255
 unfoldable pub near : Field → ℕ → ℕ → ℕ
 near F s d =
     let k = con_of F s d in
-    if eqb k 255 then none else get_or F.index (cell_to F.w (cell_of F.count s) d) 0 + k
+    when eqb k 255 then none else get_or F.index (cell_to F.w (cell_of F.count s) d) 0 + k
 
 -- "The corner neighbour in direction d is the neighbour's neighbour in direction d+1 (3 wraps to 0)."
 unfoldable pub corner : Field → ℕ → ℕ → ℕ

@@ -2,7 +2,7 @@
 -- least area, merge area: 10 bytes), 2 cell (count: 1 byte), 3 span (area, four connections: 5 bytes), 4 end (none). Order: header,
 -- each cell followed by its spans, end."
 use Rattle.std.specs.Prelude.{ℕ, zero, suc, ◌+◌, ◌*◌, List, [], ◌∷◌, ◌++◌, length, get_or, take, drop, leb, ltb, eqb}
-use Rattle.rules.specs.Base.{◌and◌, if◌then◌else◌}
+use Rattle.rules.specs.Base.{◌and◌, when◌then◌else◌}
 use Rattle.rules.specs.Field.{Field}
 use Rattle.rules.specs.Outcomes.{Sizes}
 
@@ -50,14 +50,14 @@ read_on zero cells due promised bytes F z = refused 20
 read_on (suc k) cells due promised [] F z = refused 20
 read_on (suc k) cells (suc due) promised (kind ∷ rest) F z =
     let on = read_on k cells due promised (drop 5 rest) (with_span (take 5 rest) F) z in
-    if eqb kind 3 and leb 5 (length rest) then on else refused 20
+    when eqb kind 3 and leb 5 (length rest) then on else refused 20
 read_on (suc k) (suc cells) zero promised (kind ∷ rest) F z =
     let c = get_or rest 0 0 in
     let on = read_on k cells c (promised + c) (drop 1 rest) (with_cell promised c F) z in
-    let fits = if ltb 200 (promised + c) then refused 21 else on in
-    if eqb kind 2 and leb 1 (length rest) then fits else refused 20
+    let fits = when ltb 200 (promised + c) then refused 21 else on in
+    when eqb kind 2 and leb 1 (length rest) then fits else refused 20
 read_on (suc k) zero zero promised (kind ∷ rest) F z =
-    if eqb kind 4 and eqb (length rest) 0 then described (record { field = F; sizes = z }) else refused 20
+    when eqb kind 4 and eqb (length rest) 0 then described (record { field = F; sizes = z }) else refused 20
 
 unfoldable pub empty_field : ℕ → ℕ → Field
 empty_field w h = record { w = w; h = h; index = []; count = []; area = []; con = [] }
@@ -69,5 +69,5 @@ read_file (kind ∷ rest) =
     let cells = word rest 0 * word rest 2 in
     let z : Sizes = record { border = word rest 4; least = word rest 6; merge = word rest 8 } in
     let on = read_on (length rest) cells 0 0 (drop 10 rest) (empty_field (word rest 0) (word rest 2)) z in
-    let fits = if ltb 1024 cells then refused 21 else on in
-    if eqb kind 1 and leb 10 (length rest) then fits else refused 20
+    let fits = when ltb 1024 cells then refused 21 else on in
+    when eqb kind 1 and leb 10 (length rest) then fits else refused 20

@@ -1,6 +1,6 @@
 -- The filter.
 use Rattle.std.specs.Prelude.{ℕ, zero, suc, ◌+◌, true, not, List, [], ◌∷◌, ◌++◌, length, set, ltb, eqb}
-use Rattle.rules.specs.Base.{◌and◌, ◌or◌, if◌then◌else◌, upto, any}
+use Rattle.rules.specs.Base.{◌and◌, ◌or◌, when◌then◌else◌, upto, any}
 use Rattle.rules.specs.Growth.{flagged}
 use Rattle.rules.specs.Records.{Rec, at}
 
@@ -22,7 +22,7 @@ unfoldable pub reach : List ℕ → Gather → Gather
 reach [] g = g
 reach (r ∷ rs) g =
     let q = at g.recs r in
-    reach rs (if flagged r or q.visited or eqb q.id 0 then g
+    reach rs (when flagged r or q.visited or eqb q.id 0 then g
     else record { todo = q.id ∷ g.todo; recs = set g.recs r (seen q); found = g.found })
 
 -- "gather the unvisited records that can be reached through neighbour lists; all gathered are then visited. These are one-way.":
@@ -47,8 +47,8 @@ unfoldable pub filter_one : ℕ → ℕ → List Rec → List Rec
 filter_one least i rs =
     let r = at rs i in
     let g = gather (suc (length rs)) (i ∷ []) (set rs i (seen r)) [] in
-    if eqb r.id 0 or eqb r.count 0 or r.visited then rs else
-    if ltb (total rs g.found) least and not (any (λ j. any flagged (at rs j).list) g.found)
+    when eqb r.id 0 or eqb r.count 0 or r.visited then rs else
+    when ltb (total rs g.found) least and not (any (λ j. any flagged (at rs j).list) g.found)
     then remove_all g.found g.recs else g.recs
 
 -- "from each unvisited nonempty record in order"

@@ -1,6 +1,6 @@
 -- Flood and expansion, rules 1 to 5.
 use Rattle.std.specs.Prelude.{ℕ, zero, suc, ◌+◌, ◌*◌, ◌-◌, ◌/◌, ◌%◌, Bool, false, not, List, [], ◌∷◌, ◌++◌, map, length, get_or, set, replicate, leb, ltb, eqb}
-use Rattle.rules.specs.Base.{◌and◌, ◌or◌, if◌then◌else◌, upto, tab, keep, any}
+use Rattle.rules.specs.Base.{◌and◌, ◌or◌, when◌then◌else◌, upto, tab, keep, any}
 use Rattle.rules.specs.Field.{Field, none, cell_of}
 use Rattle.rules.specs.Net.{Net, net_of, spans, near, corner, area_of}
 
@@ -36,22 +36,22 @@ paint_of F b s =
     let c = cell_of F.count s in
     let x = c % F.w in
     let z = c / F.w in
-    if not (walkable F.area s) then 0 else
-    if leb (F.h - b) z then 0x8004 else
-    if ltb z b then 0x8003 else
-    if leb (F.w - b) x then 0x8002 else
-    if ltb x b then 0x8001 else 0
+    when not (walkable F.area s) then 0 else
+    when leb (F.h - b) z then 0x8004 else
+    when ltb z b then 0x8003 else
+    when leb (F.w - b) x then 0x8002 else
+    when ltb x b then 0x8001 else 0
 
 -- "If border size is above 0"; source distance "0 at the start"
 unfoldable pub painted : Field → ℕ → Marks
 painted F b = record {
-  ids = if eqb b 0 then replicate (length F.area) 0 else tab (length F.area) 0 (paint_of F b);
+  ids = when eqb b 0 then replicate (length F.area) 0 else tab (length F.area) 0 (paint_of F b);
   src = replicate (length F.area) 0;
 }
 
 -- "Next id is 1. If border size is above 0, .. next id is then 5."
 unfoldable pub first_id : ℕ → ℕ
-first_id b = if eqb b 0 then 1 else 5
+first_id b = when eqb b 0 then 1 else 5
 
 -- ---------------------------------------------------------------- 2. sorting
 
@@ -80,7 +80,7 @@ unfoldable pub look : Net → Marks → ℕ → ℕ → Taken → Taken
 look N m s d t =
     let a = near N s d in
     let f = get_or m.src a 0 + 2 in
-    if eqb (area_of N a) (area_of N s) and plain (id_of m a) and ltb f t.far then record { id = id_of m a; far = f } else t
+    when eqb (area_of N a) (area_of N s) and plain (id_of m a) and ltb f t.far then record { id = id_of m a; far = f } else t
 
 unfoldable pub takes : Net → Marks → ℕ → Taken
 takes N m s = upto 4 (look N m s) (record { id = 0; far = 65535 })
@@ -91,7 +91,7 @@ finds N m e = not (eqb e none) and not (eqb (takes N m e).id 0)
 
 -- "All are written together at the round's end.": what entry e finds in m is written into out
 unfoldable pub wrote : Net → Marks → ℕ → Marks → Marks
-wrote N m e out = let t = takes N m e in if finds N m e then put out e t.id t.far else out
+wrote N m e out = let t = takes N m e in when finds N m e then put out e t.id t.far else out
 
 unfoldable pub written : Net → Marks → List ℕ → Marks → Marks
 written N m [] out = out
@@ -105,20 +105,20 @@ pub record Spread : Type 0 where
 unfoldable pub round : Net → Spread → Spread
 round N p = record {
   marks = written N p.marks p.stack p.marks;
-  stack = map (λ e. if finds N p.marks e then none else e) p.stack;
+  stack = map (λ e. when finds N p.marks e then none else e) p.stack;
 }
 
 -- "A round in which nothing changed ends it": at most k rounds
 unfoldable pub rounds : Net → ℕ → Spread → Spread
 rounds N zero p = p
-rounds N (suc k) p = let rest = rounds N k (round N p) in if any (finds N p.marks) p.stack then rest else p
+rounds N (suc k) p = let rest = rounds N k (round N p) in when any (finds N p.marks) p.stack then rest else p
 
 -- "first, entries that have an id are marked used. .. at a level above 0, so does the eighth round."
 -- At level 0 a round for each entry and one more is no limit (`expand_settles`).
 unfoldable pub expand : Net → ℕ → Marks → List ℕ → Spread
 expand N level m es =
-    rounds N (if eqb level 0 then suc (length es) else 8)
-    (record { marks = m; stack = map (λ e. if eqb (id_of m e) 0 then e else none) es })
+    rounds N (when eqb level 0 then suc (length es) else 8)
+    (record { marks = m; stack = map (λ e. when eqb (id_of m e) 0 then e else none) es })
 
 -- "source distances in expansion may pass 65,535 .. Refuse instead: .. when a sum that expansion computes would exceed 65,535":
 -- entry s computes one for each same-area neighbour of a nonzero unflagged id
@@ -140,8 +140,8 @@ rounds_stray N (suc k) p =
 
 unfoldable pub expand_strays : Net → ℕ → Marks → List ℕ → Bool
 expand_strays N level m es =
-    rounds_stray N (if eqb level 0 then suc (length es) else 8)
-    (record { marks = m; stack = map (λ e. if eqb (id_of m e) 0 then e else none) es })
+    rounds_stray N (when eqb level 0 then suc (length es) else 8)
+    (record { marks = m; stack = map (λ e. when eqb (id_of m e) 0 then e else none) es })
 
 -- ---------------------------------------------------------------- 4. flood
 
@@ -168,10 +168,10 @@ unfoldable pub sees : Net → Marks → Seed → ℕ → ℕ → ℕ
 sees N m q c d =
     let t = near N c d in
     let u = corner N c d in
-    if not (eqb (area_of N t) q.area) then 0 else
-    if flagged (id_of m t) then 1 else
-    if other q.id (id_of m t) then 2 else
-    if eqb (area_of N u) q.area and other q.id (id_of m u) then 2 else 0
+    when not (eqb (area_of N t) q.area) then 0 else
+    when flagged (id_of m t) then 1 else
+    when other q.id (id_of m t) then 2 else
+    when eqb (area_of N u) q.area and other q.id (id_of m u) then 2 else 0
 
 -- the first that is not 0
 unfoldable pub or_else : ℕ → ℕ → ℕ
@@ -186,14 +186,14 @@ objects N m q c = eqb (or_else (sees N m q c 0) (or_else (sees N m q c 1) (or_el
 unfoldable pub pushed : Net → List ℕ → Seed → ℕ → ℕ → Flow → Flow
 pushed N dist q c d f =
     let t = near N c d in
-    if eqb (area_of N t) q.area and eqb (id_of f.marks t) 0 and leb q.limit (get_or dist t 0)
+    when eqb (area_of N t) q.area and eqb (id_of f.marks t) 0 and leb q.limit (get_or dist t 0)
     then record { todo = t ∷ f.todo; marks = put f.marks t q.id 0; count = f.count }
     else f
 
 -- "With an objection the span returns to id 0. Otherwise it counts, and its .. neighbours .. are pushed"
 unfoldable pub visit : Net → List ℕ → Seed → ℕ → Flow → Flow
 visit N dist q c f =
-    if objects N f.marks q c
+    when objects N f.marks q c
     then record { todo = f.todo; marks = record { ids = set f.marks.ids c 0; src = f.marks.src }; count = f.count }
     else upto 4 (pushed N dist q c) (record { todo = f.todo; marks = f.marks; count = suc f.count })
 
@@ -219,9 +219,9 @@ unfoldable pub floods : Net → List ℕ → ℕ → List ℕ → Marks → ℕ 
 floods N dist level [] m id = record { marks = m; next = id }
 floods N dist level (e ∷ es) m id =
     let f = flood N dist level id m e in
-    let hit = floods N dist level es f.marks (if eqb f.count 0 then id else suc id) in
+    let hit = floods N dist level es f.marks (when eqb f.count 0 then id else suc id) in
     let miss = floods N dist level es m id in
-    if not (eqb e none) and eqb (id_of m e) 0 then hit else miss
+    when not (eqb e none) and eqb (id_of m e) 0 then hit else miss
 
 -- "ids, when a successful flood would make the next id 0x8000"
 unfoldable pub floods_run_out : Net → List ℕ → ℕ → List ℕ → Marks → ℕ → Bool
@@ -229,9 +229,9 @@ floods_run_out N dist level [] m id = false
 floods_run_out N dist level (e ∷ es) m id =
     let f = flood N dist level id m e in
     let last = not (eqb f.count 0) and eqb (suc id) 0x8000 in
-    let hit = floods_run_out N dist level es f.marks (if eqb f.count 0 then id else suc id) in
+    let hit = floods_run_out N dist level es f.marks (when eqb f.count 0 then id else suc id) in
     let miss = floods_run_out N dist level es m id in
-    if not (eqb e none) and eqb (id_of m e) 0 then last or hit else miss
+    when not (eqb e none) and eqb (id_of m e) 0 then last or hit else miss
 
 -- ---------------------------------------------------------------- turns
 
@@ -244,7 +244,7 @@ pub record Turn : Type 0 where
 -- stack before is appended to this turn's."
 unfoldable pub loaded : Net → List ℕ → ℕ → ℕ → Turn → List (List ℕ)
 loaded N dist level j t =
-    if eqb j 0 then sorted N.areas dist t.marks.ids level
+    when eqb j 0 then sorted N.areas dist t.marks.ids level
     else set t.stacks j (get_or t.stacks j [] ++ remains t.marks.ids (get_or t.stacks (j - 1) []))
 
 -- "While it is above 0, a turn (2 to 4) begins by lowering it by 2. The turn number counts 0 to 7 and round.":
@@ -265,8 +265,8 @@ turn_stops N dist top k t =
     let j = k % 8 in
     let entries = get_or (loaded N dist level j t) j [] in
     let e = expand N level t.marks entries in
-    if expand_strays N level t.marks entries then 13 else
-    if floods_run_out N dist level e.stack e.marks t.next then 12 else 0
+    when expand_strays N level t.marks entries then 13 else
+    when floods_run_out N dist level e.stack e.marks t.next then 12 else 0
 
 -- k turns from t on
 unfoldable pub turns_stop : Net → List ℕ → ℕ → ℕ → Turn → ℕ
@@ -293,4 +293,4 @@ stops F dist most b =
     let top = 2 * ((most + 1) / 2) in
     let start : Turn = record { marks = painted F b; stacks = []; next = first_id b } in
     let t = upto (top / 2) (turn N dist top) start in
-    or_else (turns_stop N dist top (top / 2) start) (if expand_strays N 0 t.marks (blank N.areas t.marks.ids) then 13 else 0)
+    or_else (turns_stop N dist top (top / 2) start) (when expand_strays N 0 t.marks (blank N.areas t.marks.ids) then 13 else 0)

@@ -2,7 +2,7 @@
 use Rattle.std.specs.Prelude.{ℕ, zero, suc, ◌+◌, ◌*◌, ◌/◌, ◌%◌, List, [], ◌∷◌, ◌++◌, get_or, replicate, ltb, eqb}
 use Prim.Native.Char.{code}
 use Prim.Native.String.{String, len, char_at}
-use Rattle.rules.specs.Base.{if◌then◌else◌, tab}
+use Rattle.rules.specs.Base.{when◌then◌else◌, tab}
 use Rattle.rules.specs.Field.{Field, spans}
 use Rattle.rules.specs.Numbering.{dense}
 use Rattle.rules.specs.Outcomes.{RegionOutcome, distance_outcome, region_outcome}
@@ -13,7 +13,7 @@ use Rattle.rules.specs.File.{Level, Reading, refused, described, read_file}
 -- "Ids are decimal": k digits at most, which five are for a u16
 unfoldable pub digits : ℕ → ℕ → List ℕ
 digits zero v = []
-digits (suc k) v = (if ltb v 10 then [] else digits k (v / 10)) ++ ((48 + v % 10) ∷ [])
+digits (suc k) v = (when ltb v 10 then [] else digits k (v / 10)) ++ ((48 + v % 10) ∷ [])
 
 abbrev pub decimal : ℕ → List ℕ
 decimal v = digits 5 v
@@ -32,7 +32,7 @@ joined between (t ∷ (u ∷ ts)) = t ++ (between ∷ joined between (u ∷ ts))
 
 -- "Layers in a cell are joined by `/`; an empty cell is `-`.": the k ids of a cell from place i on
 unfoldable pub cell_text : List ℕ → ℕ → ℕ → List ℕ
-cell_text ids i k = if eqb k 0 then 45 ∷ [] else joined 47 (tab k i (λ s. decimal (get_or ids s 0)))
+cell_text ids i k = when eqb k 0 then 45 ∷ [] else joined 47 (tab k i (λ s. decimal (get_or ids s 0)))
 
 -- "a row is a line, empty if w is 0"
 unfoldable pub row_text : Field → List ℕ → ℕ → List ℕ
@@ -63,8 +63,8 @@ ran v =
     let zeros : List ℕ = replicate (spans F) 0 in
     let a = distance_outcome F zeros zeros in
     let b = region_outcome dense F a.blurred a.most v.sizes (replicate (128 * spans F + 4096) 0) zeros in
-    let second = if eqb b.refused 0 then listing F a.most b else refused_line b.refused in
-    if eqb a.refused 0 then second else refused_line a.refused
+    let second = when eqb b.refused 0 then listing F a.most b else refused_line b.refused in
+    when eqb a.refused 0 then second else refused_line a.refused
 
 unfoldable pub answered : Reading → List ℕ
 answered (refused n) = refused_line n

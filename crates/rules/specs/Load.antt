@@ -1,7 +1,7 @@
 -- Loading in pieces (document 02, A2): "Take the field file in pieces of any length, an empty piece too." A loader takes a byte at a time; a piece is its bytes.
 -- It is defined on ANY loader and lists of any length, so a caller may hand in numbers that no loading leads to.
 use Rattle.std.specs.Prelude.{ℕ, zero, suc, ◌+◌, ◌-◌, ◌*◌, ◌%◌, Bool, List, [], ◌∷◌, ◌++◌, length, get_or, set, take, drop, leb, ltb, eqb}
-use Rattle.rules.specs.Base.{◌and◌, if◌then◌else◌}
+use Rattle.rules.specs.Base.{◌and◌, when◌then◌else◌}
 use Rattle.rules.specs.Field.{Field}
 use Rattle.rules.specs.Outcomes.{Sizes}
 use Rattle.rules.specs.File.{Level, Reading, refused, described, word, with_cell, with_span, empty_field}
@@ -20,17 +20,17 @@ read_on_at most zero p cells due promised bytes F z = refused_at 20 p F
 read_on_at most (suc k) p cells due promised [] F z = refused_at 20 p F
 read_on_at most (suc k) p cells (suc due) promised (kind ∷ rest) F z =
     let on = read_on_at most k (p + 6) cells due promised (drop 5 rest) (with_span (take 5 rest) F) z in
-    let body = if leb 5 (length rest) then on else refused_at 20 (p + suc (length rest)) (with_span rest F) in
-    if eqb kind 3 then body else refused_at 20 p F
+    let body = when leb 5 (length rest) then on else refused_at 20 (p + suc (length rest)) (with_span rest F) in
+    when eqb kind 3 then body else refused_at 20 p F
 read_on_at most (suc k) p (suc cells) zero promised (kind ∷ rest) F z =
     let c = get_or rest 0 0 in
     let on = read_on_at most k (p + 2) cells c (promised + c) (drop 1 rest) (with_cell promised c F) z in
-    let fits = if ltb most (promised + c) then refused_at 21 p F else on in
-    let body = if leb 1 (length rest) then fits else refused_at 20 (p + suc (length rest)) F in
-    if eqb kind 2 then body else refused_at 20 p F
+    let fits = when ltb most (promised + c) then refused_at 21 p F else on in
+    let body = when leb 1 (length rest) then fits else refused_at 20 (p + suc (length rest)) F in
+    when eqb kind 2 then body else refused_at 20 p F
 read_on_at most (suc k) p zero zero promised (kind ∷ rest) F z =
-    let end = if eqb (length rest) 0 then describes (record { field = F; sizes = z }) else refused_at 20 (p + 1) F in
-    if eqb kind 4 then end else refused_at 20 p F
+    let end = when eqb (length rest) 0 then describes (record { field = F; sizes = z }) else refused_at 20 (p + 1) F in
+    when eqb kind 4 then end else refused_at 20 p F
 
 -- as `read_file`, for a field of at most so many cells and spans
 unfoldable pub read_file_at : ℕ → ℕ → List ℕ → Placed
@@ -40,9 +40,9 @@ read_file_at cells spans (kind ∷ rest) =
     let h = word rest 2 in
     let z : Sizes = record { border = word rest 4; least = word rest 6; merge = word rest 8 } in
     let on = read_on_at spans (length rest) 11 (w * h) 0 0 (drop 10 rest) (empty_field w h) z in
-    let fits = if ltb cells (w * h) then refused_at 21 0 (empty_field 0 0) else on in
-    let body = if leb 10 (length rest) then fits else refused_at 20 (suc (length rest)) (empty_field 0 0) in
-    if eqb kind 1 then body else refused_at 20 0 (empty_field 0 0)
+    let fits = when ltb cells (w * h) then refused_at 21 0 (empty_field 0 0) else on in
+    let body = when leb 10 (length rest) then fits else refused_at 20 (suc (length rest)) (empty_field 0 0) in
+    when eqb kind 1 then body else refused_at 20 0 (empty_field 0 0)
 
 -- document 01's reading, the place left out
 unfoldable pub reading_by : Placed → Reading
@@ -114,7 +114,7 @@ going l = eqb l.refusal 0 and eqb l.ended 0
 
 -- one more, in 32 bits: a count that has no more room stays where it is
 unfoldable pub up : ℕ → ℕ
-up n = if ltb n 4294967295 then n + 1 else n
+up n = when ltb n 4294967295 then n + 1 else n
 
 -- refused, at that place
 unfoldable pub refusing : ℕ → ℕ → Loader → Loader
@@ -185,19 +185,19 @@ counted cells spans due l = record {
 -- "Order: header, each cell followed by its spans, end.": the kind that is in place
 unfoldable pub wanted : Loader → ℕ
 wanted l =
-    if eqb l.received 0 then 1 else
-    if ltb 0 l.due then 3 else
-    if ltb l.cells (l.w * l.h) then 2 else 4
+    when eqb l.received 0 then 1 else
+    when ltb 0 l.due then 3 else
+    when ltb l.cells (l.w * l.h) then 2 else 4
 
 -- a kind byte: "unknown kind, record out of place" is refused there
 unfoldable pub kind_byte : Loader → ℕ → Loader
-kind_byte l b = if eqb b (wanted l) then onward b l.received 0 l else refusing 20 l.received l
+kind_byte l b = when eqb b (wanted l) then onward b l.received 0 l else refusing 20 l.received l
 
 -- "numbers little-endian": a number of the header whose bytes are i and i + 1 of the body, after byte b came as number got
 unfoldable pub number_with : ℕ → ℕ → ℕ → ℕ → ℕ
 number_with i got old b =
-    if eqb got i then b else
-    if eqb got (i + 1) then old % 256 + 256 * b else old
+    when eqb got i then b else
+    when eqb got (i + 1) then old % 256 + 256 * b else old
 
 unfoldable pub sized : Loader → ℕ → Loader
 sized l b = record {
@@ -222,13 +222,13 @@ sized l b = record {
 
 -- the header is read: "`refused 21`: over .. cells (at the header)"
 unfoldable pub headed : Loader → Loader
-headed l = if ltb l.most_cells (l.w * l.h) then refusing 21 l.start l else onward 0 l.start 0 l
+headed l = when ltb l.most_cells (l.w * l.h) then refusing 21 l.start l else onward 0 l.start 0 l
 
 -- a byte of the header's body
 unfoldable pub header_byte : Loader → ℕ → Loader
 header_byte l b =
     let m = sized l b in
-    if ltb l.got 9 then onward 1 l.start (l.got + 1) m else headed m
+    when ltb l.got 9 then onward 1 l.start (l.got + 1) m else headed m
 
 -- the loader after a cell's count
 unfoldable pub cell_on : Loader → ℕ → Loader
@@ -238,7 +238,7 @@ cell_on l b = onward 0 l.start 0 (counted (up l.cells) l.spans b l)
 unfoldable pub cell_byte : Loading → ℕ → Loading
 cell_byte x b =
     let l = x.loader in
-    if ltb l.most_spans (l.spans + b)
+    when ltb l.most_spans (l.spans + b)
     then record { loader = refusing 21 l.start l; index = x.index; count = x.count; area = x.area; con = x.con }
     else record {
       loader = cell_on l b;
@@ -251,7 +251,7 @@ cell_byte x b =
 -- the loader after a byte of a span's body, of which there are five
 unfoldable pub span_on : Loader → Loader
 span_on l =
-    if ltb l.got 4
+    when ltb l.got 4
     then onward 3 l.start (l.got + 1) l
     else onward 0 l.start 0 (counted l.cells (up l.spans) (l.due - 1) l)
 
@@ -259,7 +259,7 @@ span_on l =
 unfoldable pub span_byte : Loading → ℕ → Loading
 span_byte x b =
     let l = x.loader in
-    if eqb l.got 0
+    when eqb l.got 0
     then record { loader = span_on l; index = x.index; count = x.count; area = set x.area l.spans b; con = x.con }
     else record { loader = span_on l; index = x.index; count = x.count; area = x.area; con = set x.con (4 * l.spans + (l.got - 1)) b }
 
@@ -271,14 +271,14 @@ with x l = record { loader = l; index = x.index; count = x.count; area = x.area;
 unfoldable pub taken : Loading → ℕ → Loading
 taken x b =
     let l = x.loader in
-    if eqb l.kind 0 then with x (kind_byte l b) else
-    if eqb l.kind 1 then with x (header_byte l b) else
-    if eqb l.kind 2 then cell_byte x b else
-    if eqb l.kind 3 then span_byte x b else with x (refusing 20 l.received l)
+    when eqb l.kind 0 then with x (kind_byte l b) else
+    when eqb l.kind 1 then with x (header_byte l b) else
+    when eqb l.kind 2 then cell_byte x b else
+    when eqb l.kind 3 then span_byte x b else with x (refusing 20 l.received l)
 
 -- "After a refusal or a declared end every further call gets the same answer and changes nothing."
 unfoldable pub byte_in : Loading → ℕ → Loading
-byte_in x b = if going x.loader then taken x b else x
+byte_in x b = when going x.loader then taken x b else x
 
 -- a piece
 unfoldable pub feed : List ℕ → Loading → Loading
@@ -310,7 +310,7 @@ closed l = record {
 -- "A file is complete only when its end is declared.": without an end record it is "cut short", at "the number of bytes received"
 unfoldable pub load_end : Loader → Loader
 load_end l =
-    if going l then (if eqb l.kind 4 then closed l else refusing 20 l.received l) else l
+    when going l then (when eqb l.kind 4 then closed l else refusing 20 l.received l) else l
 
 -- ---------------------------------------------------------------- a call
 
@@ -323,11 +323,11 @@ roomy x =
 
 -- the refusal of the call itself, where the loader is still going: 3 for a list that is too short; nothing changes then
 unfoldable pub piece_refusal : Loading → ℕ
-piece_refusal x = if going x.loader then (if roomy x then 0 else 3) else 0
+piece_refusal x = when going x.loader then (when roomy x then 0 else 3) else 0
 
 -- what a call with a piece leaves
 unfoldable pub load_piece : List ℕ → Loading → Loading
-load_piece piece x = if eqb (piece_refusal x) 0 then feed piece x else x
+load_piece piece x = when eqb (piece_refusal x) 0 then feed piece x else x
 
 -- ---------------------------------------------------------------- what a caller is told at the end
 
@@ -345,12 +345,12 @@ unfoldable pub told : Loading → Told
 told x =
     let l = x.loader in
     let z : Sizes = record { border = l.border; least = l.least; merge = l.merge } in
-    if eqb l.refusal 0 then loaded_told l.w l.h z l.spans x.index x.count x.area x.con
+    when eqb l.refusal 0 then loaded_told l.w l.h z l.spans x.index x.count x.area x.con
     else refused_told l.refusal l.position x.index x.count x.area x.con
 
 -- a place in 32 bits: 4,294,967,295 is there or later
 unfoldable pub capped : ℕ → ℕ
-capped p = if ltb p 4294967295 then p else 4294967295
+capped p = when ltb p 4294967295 then p else 4294967295
 
 -- by what reading the whole file comes to, over what the lists held
 unfoldable pub told_by : List ℕ → List ℕ → List ℕ → List ℕ → Placed → Told

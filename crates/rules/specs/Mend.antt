@@ -1,6 +1,6 @@
 -- The mending of a hand-edited field, and its outcome on ANY input.
 use Rattle.std.specs.Prelude.{ℕ, zero, suc, ◌*◌, ◌/◌, ◌%◌, Bool, List, [], ◌∷◌, ◌++◌, length, get_or, drop, leb, ltb, eqb}
-use Rattle.rules.specs.Base.{◌and◌, if◌then◌else◌, tab}
+use Rattle.rules.specs.Base.{◌and◌, when◌then◌else◌, tab}
 use Rattle.rules.specs.Field.{Field, spans}
 use Rattle.rules.specs.Refusals.{refusal, good_con, good_back}
 
@@ -14,7 +14,7 @@ stays_at F i = stays F (i / 4) (i % 4)
 
 -- "and sets every other to none"
 unfoldable pub mended_at : Field → ℕ → ℕ
-mended_at F i = if stays_at F i then get_or F.con i 255 else 255
+mended_at F i = when stays_at F i then get_or F.con i 255 else 255
 
 unfoldable pub mended_con : Field → List ℕ
 mended_con F = tab (4 * spans F) 0 (mended_at F)
@@ -30,12 +30,12 @@ mended F = relinked F (mended_con F)
 -- "It lists each change: span, direction, old layer, in span and direction order.": those of the first i connections
 unfoldable pub changes_to : Field → ℕ → List ℕ
 changes_to F zero = []
-changes_to F (suc i) = if stays_at F i then changes_to F i else changes_to F i ++ ((i / 4) ∷ (i % 4) ∷ get_or F.con i 255 ∷ [])
+changes_to F (suc i) = when stays_at F i then changes_to F i else changes_to F i ++ ((i / 4) ∷ (i % 4) ∷ get_or F.con i 255 ∷ [])
 
 -- and how many
 unfoldable pub changed_to : Field → ℕ → ℕ
 changed_to F zero = 0
-changed_to F (suc i) = if stays_at F i then changed_to F i else suc (changed_to F i)
+changed_to F (suc i) = when stays_at F i then changed_to F i else suc (changed_to F i)
 
 -- of all
 abbrev pub changes_of : Field → List ℕ
@@ -48,8 +48,8 @@ changed F = changed_to F (4 * spans F)
 unfoldable pub mend_refusal : Field → ℕ → ℕ
 mend_refusal F len =
     let r = refusal F [] in
-    if leb 1 r and leb r 4 then r else
-    if ltb (len / 3) (changed F) then 27 else 0
+    when leb 1 r and leb r 4 then r else
+    when ltb (len / 3) (changed F) then 27 else 0
 
 pub record MendOutcome : Type 0 where
   pub refused : ℕ
@@ -62,6 +62,6 @@ unfoldable pub mend_outcome : Field → List ℕ → MendOutcome
 mend_outcome F changes₀ =
     let r = mend_refusal F (length changes₀) in
     let l = changes_of F in
-    if eqb r 0
+    when eqb r 0
     then record { refused = 0; count = changed F; con = mended_con F; changes = l ++ drop (length l) changes₀ }
     else record { refused = r; count = 0; con = F.con; changes = changes₀ }

@@ -1,6 +1,6 @@
 -- The merge, in the Rust's steps `can_merge_with`, `merge_regions`, `remove_adjacent_neighbours` and `replace_neighbour`.
 use Rattle.std.specs.Prelude.{ℕ, zero, suc, ◌+◌, ◌%◌, Bool, false, not, List, [], ◌∷◌, ◌++◌, map, length, get_or, set, take, drop, leb, ltb, eqb}
-use Rattle.rules.specs.Base.{◌and◌, ◌or◌, if◌then◌else◌, upto, many}
+use Rattle.rules.specs.Base.{◌and◌, ◌or◌, when◌then◌else◌, upto, many}
 use Rattle.rules.specs.Growth.{flagged}
 use Rattle.rules.specs.Records.{Rec, at, has, once_all}
 
@@ -18,12 +18,12 @@ unfoldable pub picked : List Rec → Rec → List ℕ → Pick → Pick
 picked rs a [] p = p
 picked rs a (r ∷ l) p =
     let b = at rs r in
-    picked rs a l (if not (flagged r) and not (eqb b.id 0) and not b.overlap and ltb b.count p.size and suits a b and suits b a
+    picked rs a l (when not (flagged r) and not (eqb b.id 0) and not b.overlap and ltb b.count p.size and suits a b and suits b a
     then record { size = b.count; id = b.id } else p)
 
 unfoldable pub place : List ℕ → ℕ → ℕ
 place [] r = 0
-place (x ∷ xs) r = if eqb x r then 0 else suc (place xs r)
+place (x ∷ xs) r = when eqb x r then 0 else suc (place xs r)
 
 -- all but entry i, from the one after it round to the one before it
 unfoldable pub around : List ℕ → ℕ → List ℕ
@@ -36,8 +36,8 @@ dedup (suc k) i l =
     let n = length l in
     let drops = dedup k i (take i l ++ drop (suc i) l) in
     let keeps = dedup k (suc i) l in
-    let rest = if eqb (get_or l i 0) (get_or l ((i + 1) % n) 0) then drops else keeps in
-    if ltb i n and ltb 1 n then rest else l
+    let rest = when eqb (get_or l i 0) (get_or l ((i + 1) % n) 0) then drops else keeps in
+    when ltb i n and ltb 1 n then rest else l
 
 unfoldable pub tidy : List ℕ → List ℕ
 tidy l = dedup (suc (length l)) 0 l
@@ -60,19 +60,19 @@ unfoldable pub emptied : Rec → Rec
 emptied r = record { id = r.id; count = 0; area = r.area; visited = r.visited; overlap = r.overlap; list = []; floors = r.floors; cut = false }
 
 abbrev pub swapped : ℕ → ℕ → List ℕ → List ℕ
-swapped old new l = map (λ r. if eqb r old then new else r) l
+swapped old new l = map (λ r. when eqb r old then new else r) l
 
 -- "in live records its id is renamed, own ids too, as in `replace_neighbour`"
 unfoldable pub renamed : ℕ → ℕ → Rec → Rec
 renamed old new r =
-    if eqb r.id 0 then r else
+    when eqb r.id 0 then r else
     record {
-      id = if eqb r.id old then new else r.id;
+      id = when eqb r.id old then new else r.id;
       count = r.count;
       area = r.area;
       visited = r.visited;
       overlap = r.overlap;
-      list = if has r.list old then tidy (swapped old new r.list) else r.list;
+      list = when has r.list old then tidy (swapped old new r.list) else r.list;
       floors = swapped old new r.floors;
       cut = r.cut;
     }
@@ -90,7 +90,7 @@ merge_one area i g =
     let a = at rs i in
     let p = picked rs a a.list (record { size = 65536; id = a.id }) in
     let b = at rs p.id in
-    if eqb a.id 0 or a.overlap or eqb a.count 0 or (ltb area a.count and has a.list 0) or eqb p.id a.id
+    when eqb a.id 0 or a.overlap or eqb a.count 0 or (ltb area a.count and has a.list 0) or eqb p.id a.id
     or not (has b.list a.id and has a.list b.id) then g else
     record { recs = map (renamed a.id p.id) (set (set rs p.id (absorbed b a)) i (emptied a)); merges = suc g.merges }
 
@@ -100,4 +100,4 @@ merged area zero rs = rs
 merged area (suc k) rs =
     let g = upto (length rs) (merge_one area) (record { recs = rs; merges = 0 }) in
     let rest = merged area k g.recs in
-    if eqb g.merges 0 then rs else rest
+    when eqb g.merges 0 then rs else rest

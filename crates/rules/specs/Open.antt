@@ -1,11 +1,11 @@
 -- The fields that the figures speak of, and what document 01 calls open.
 use Rattle.std.specs.Prelude.{ℕ, ◌*◌, ◌/◌, ◌%◌, replicate}
-use Rattle.rules.specs.Base.{if◌then◌else◌, tab}
+use Rattle.rules.specs.Base.{when◌then◌else◌, tab}
 use Rattle.rules.specs.Field.{Field, leaves}
 
 -- connection k of them all, that of span k / 4 in direction k % 4: none where there is no cell across, otherwise layer 0
 unfoldable pub open_con : ℕ → ℕ → ℕ → ℕ
-open_con w h k = if leaves w h (k / 4) (k % 4) then 255 else 0
+open_con w h k = when leaves w h (k / 4) (k % 4) then 255 else 0
 
 -- one span a cell, all connected; a gives the area of each cell
 unfoldable pub flat : ℕ → ℕ → (ℕ → ℕ) → Field

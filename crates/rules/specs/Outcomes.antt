@@ -1,6 +1,6 @@
 -- The outcome of each public entry on ANY input: the numbers it returns and every lent list at exit, refusals included.
 use Rattle.std.specs.Prelude.{ℕ, List, [], ◌∷◌, length, replicate, not, eqb}
-use Rattle.rules.specs.Base.{if◌then◌else◌}
+use Rattle.rules.specs.Base.{when◌then◌else◌}
 use Rattle.rules.specs.Field.{Field}
 use Rattle.rules.specs.Refusals.{refusal, region_refusal}
 use Rattle.rules.specs.Distance.{raw, greatest, blur}
@@ -19,7 +19,7 @@ unfoldable pub distance_outcome : Field → List ℕ → List ℕ → DistanceOu
 distance_outcome F raw₀ blurred₀ =
     let r = refusal F (length raw₀ ∷ length blurred₀ ∷ []) in
     let l = raw F in
-    if eqb r 0
+    when eqb r 0
     then record { refused = 0; most = greatest l; raw = l; blurred = blur F l }
     else record { refused = r; most = 0; raw = raw₀; blurred = blurred₀ }
 
@@ -47,6 +47,6 @@ region_outcome form F dist most z work₀ ids₀ =
     let stop = stops F dist most z.border in
     let g = grown F dist most z.border in
     let v = formed form (regions F z.least z.merge g.ids g.next) in
-    if not (eqb r 0) then record { refused = r; most = 0; over = 0; cut = 0; workspace = work₀; ids = ids₀ } else
-    if not (eqb stop 0) then record { refused = stop; most = 0; over = 0; cut = 0; workspace = replicate (length work₀) 0; ids = ids₀ } else
+    when not (eqb r 0) then record { refused = r; most = 0; over = 0; cut = 0; workspace = work₀; ids = ids₀ } else
+    when not (eqb stop 0) then record { refused = stop; most = 0; over = 0; cut = 0; workspace = replicate (length work₀) 0; ids = ids₀ } else
     record { refused = 0; most = v.most; over = v.over; cut = v.cut; workspace = replicate (length work₀) 0; ids = v.ids }

@@ -1,6 +1,6 @@
 -- Plain rooms: one id for each set of spans that are joined, with no distances, filter or merge; and the outcome of their entry on ANY input.
 use Rattle.std.specs.Prelude.{ℕ, zero, suc, not, List, [], ◌∷◌, length, get_or, set, replicate, ltb, eqb}
-use Rattle.rules.specs.Base.{◌and◌, if◌then◌else◌, upto}
+use Rattle.rules.specs.Base.{◌and◌, when◌then◌else◌, upto}
 use Rattle.rules.specs.Field.{Field}
 use Rattle.rules.specs.Net.{Net, net_of, spans, near, area_of}
 use Rattle.rules.specs.Refusals.{refusal, too_short}
@@ -16,7 +16,7 @@ pub record Fill : Type 0 where
 unfoldable pub joins : Net → ℕ → ℕ → ℕ → ℕ → Fill → Fill
 joins N area id c d f =
     let t = near N c d in
-    if eqb (area_of N t) area and eqb (get_or f.ids t 0) 0
+    when eqb (area_of N t) area and eqb (get_or f.ids t 0) 0
     then record { todo = t ∷ f.todo; ids = set f.ids t id }
     else f
 
@@ -41,7 +41,7 @@ pub record Rooms : Type 0 where
 unfoldable pub begins : Net → ℕ → Rooms → Rooms
 begins N s v =
     let f = room_from N (suc v.most) v.ids s in
-    if walkable N.areas s and eqb (get_or v.ids s 0) 0 then record { ids = f.ids; most = suc v.most } else v
+    when walkable N.areas s and eqb (get_or v.ids s 0) 0 then record { ids = f.ids; most = suc v.most } else v
 
 -- "Border paint as before"; "max_region is the greatest id, 0 for none"
 unfoldable pub plain_rooms : Field → ℕ → Rooms
@@ -55,8 +55,8 @@ most_rooms = 32767
 unfoldable pub rooms_refusal : Field → List ℕ → ℕ → ℕ
 rooms_refusal F lens work =
     let r = refusal F lens in
-    if not (eqb r 0) then r else
-    if too_short F work then 7 else 0
+    when not (eqb r 0) then r else
+    when too_short F work then 7 else 0
 
 pub record RoomsOutcome : Type 0 where
   pub refused : ℕ
@@ -69,6 +69,6 @@ unfoldable pub rooms_outcome : Field → ℕ → List ℕ → List ℕ → Rooms
 rooms_outcome F b work₀ ids₀ =
     let r = rooms_refusal F (length ids₀ ∷ []) (length work₀) in
     let v = plain_rooms F b in
-    if not (eqb r 0) then record { refused = r; most = 0; workspace = work₀; ids = ids₀ } else
-    if ltb most_rooms v.most then record { refused = 12; most = 0; workspace = replicate (length work₀) 0; ids = ids₀ } else
+    when not (eqb r 0) then record { refused = r; most = 0; workspace = work₀; ids = ids₀ } else
+    when ltb most_rooms v.most then record { refused = 12; most = 0; workspace = replicate (length work₀) 0; ids = ids₀ } else
     record { refused = 0; most = v.most; workspace = replicate (length work₀) 0; ids = v.ids }

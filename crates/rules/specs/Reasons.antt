@@ -1,7 +1,7 @@
 -- "Why has this span no room? .. For a chosen span tell the reason". "Every reason is what the rules did in that very build": each rule here goes along the
 -- plain rule's own states (Growth, Filter, Merge) and notes what it did to the span.
 use Rattle.std.specs.Prelude.{ℕ, zero, suc, ◌+◌, ◌*◌, ◌-◌, ◌/◌, ◌%◌, Bool, not, List, [], ◌∷◌, ◌++◌, map, length, get_or, set, replicate, ltb, eqb}
-use Rattle.rules.specs.Base.{◌and◌, if◌then◌else◌, upto, any}
+use Rattle.rules.specs.Base.{◌and◌, when◌then◌else◌, upto, any}
 use Rattle.rules.specs.Field.{Field, none, spans}
 use Rattle.rules.specs.Net.{Net, net_of, near, corner, area_of}
 use Rattle.rules.specs.Net as net
@@ -39,39 +39,39 @@ gives N m s far d = eqb (area_of N (near N s d)) (area_of N s) and plain (id_of 
 -- "for expansion the span whose id it took": the first neighbour with the least sum
 unfoldable pub source : Net → Marks → ℕ → ℕ
 source N m s =
-    if gives N m s (takes N m s).far 0 then near N s 0 else
-    if gives N m s (takes N m s).far 1 then near N s 1 else
-    if gives N m s (takes N m s).far 2 then near N s 2 else near N s 3
+    when gives N m s (takes N m s).far 0 then near N s 0 else
+    when gives N m s (takes N m s).far 1 then near N s 1 else
+    when gives N m s (takes N m s).far 2 then near N s 2 else near N s 3
 
 -- a round, in which the span takes an id if it stands in the stack, unused, and finds one
 unfoldable pub round_tells : Net → Spread → Story → Story
-round_tells N p y = if has p.stack y.span and finds N p.marks y.span then took_from (source N p.marks y.span) y else y
+round_tells N p y = when has p.stack y.span and finds N p.marks y.span then took_from (source N p.marks y.span) y else y
 
 unfoldable pub rounds_tell : Net → ℕ → Spread → Story → Story
 rounds_tell N zero p y = y
 rounds_tell N (suc k) p y =
     let rest = rounds_tell N k (round N p) (round_tells N p y) in
-    if any (finds N p.marks) p.stack then rest else y
+    when any (finds N p.marks) p.stack then rest else y
 
 unfoldable pub expand_tells : Net → ℕ → Marks → List ℕ → Story → Story
 expand_tells N level m es y =
-    rounds_tell N (if eqb level 0 then suc (length es) else 8)
-    (record { marks = m; stack = map (λ e. if eqb (id_of m e) 0 then e else none) es }) y
+    rounds_tell N (when eqb level 0 then suc (length es) else 8)
+    (record { marks = m; stack = map (λ e. when eqb (id_of m e) 0 then e else none) es }) y
 
 -- "the objecting span": the neighbour whose other id span c sees in direction d, or else its corner
 unfoldable pub objector : Net → Marks → Seed → ℕ → ℕ → ℕ
-objector N m q c d = if other q.id (id_of m (near N c d)) then near N c d else corner N c d
+objector N m q c d = when other q.id (id_of m (near N c d)) then near N c d else corner N c d
 
 -- the first in the order of looking
 unfoldable pub objecting : Net → Marks → Seed → ℕ → ℕ
 objecting N m q c =
-    if eqb (sees N m q c 0) 2 then objector N m q c 0 else
-    if eqb (sees N m q c 1) 2 then objector N m q c 1 else
-    if eqb (sees N m q c 2) 2 then objector N m q c 2 else objector N m q c 3
+    when eqb (sees N m q c 0) 2 then objector N m q c 0 else
+    when eqb (sees N m q c 1) 2 then objector N m q c 1 else
+    when eqb (sees N m q c 2) 2 then objector N m q c 2 else objector N m q c 3
 
 -- "With an objection the span returns to id 0": a visit of span c
 unfoldable pub visit_tells : Net → Marks → Seed → ℕ → Story → Story
-visit_tells N m q c y = if eqb c y.span and objects N m q c then gave_back q.id (objecting N m q c) y else y
+visit_tells N m q c y = when eqb c y.span and objects N m q c then gave_back q.id (objecting N m q c) y else y
 
 unfoldable pub flow_tells : Net → List ℕ → Seed → ℕ → List ℕ → Marks → ℕ → Story → Story
 flow_tells N dist q zero todo m n y = y
@@ -88,9 +88,9 @@ unfoldable pub floods_tell : Net → List ℕ → ℕ → List ℕ → Marks →
 floods_tell N dist level [] m id y = y
 floods_tell N dist level (e ∷ es) m id y =
     let f = flood N dist level id m e in
-    let hit = floods_tell N dist level es f.marks (if eqb f.count 0 then id else suc id) (flood_tells N dist level id m e y) in
+    let hit = floods_tell N dist level es f.marks (when eqb f.count 0 then id else suc id) (flood_tells N dist level id m e y) in
     let miss = floods_tell N dist level es m id y in
-    if not (eqb e none) and eqb (id_of m e) 0 then hit else miss
+    when not (eqb e none) and eqb (id_of m e) 0 then hit else miss
 
 -- turn k of all, from t
 unfoldable pub turn_tells : Net → List ℕ → ℕ → ℕ → Turn → Story → Story
@@ -126,7 +126,7 @@ unfoldable pub gone_with : ℕ → ℕ → ℕ → List Rec → ℕ
 gone_with least r zero rs = 0
 gone_with least r (suc k) rs =
     let before = upto k (filter_one least) rs in
-    if not (eqb (at before r).id 0) and eqb (at (filter_one least k before) r).id 0 then group_count k before
+    when not (eqb (at before r).id 0) and eqb (at (filter_one least k before) r).id 0 then group_count k before
     else gone_with least r k rs
 
 -- a merge: an id that was absorbed, and the id that absorbed it
@@ -138,7 +138,7 @@ pub record Merging : Type 0 where
 unfoldable pub merge_tells : ℕ → ℕ → Merge → List Merging → List Merging
 merge_tells area i g l =
     let g' = merge_one area i g in
-    if eqb g'.merges g.merges then l else l ++ (record { old = (at g.recs i).id; new = (at g'.recs i).id } ∷ [])
+    when eqb g'.merges g.merges then l else l ++ (record { old = (at g.recs i).id; new = (at g'.recs i).id } ∷ [])
 
 -- the first k records of a round
 unfoldable pub round_merges : ℕ → ℕ → Merge → List Merging → List Merging
@@ -152,12 +152,12 @@ mergings area (suc k) rs l =
     let start : Merge = record { recs = rs; merges = 0 } in
     let g = upto (length rs) (merge_one area) start in
     let rest = mergings area k g.recs (round_merges area (length rs) start l) in
-    if eqb g.merges 0 then l else rest
+    when eqb g.merges 0 then l else rest
 
 -- "the trail of merges from the flood's id to the last": the id, then each id that it became by a merge
 unfoldable pub trail : List Merging → ℕ → List ℕ
 trail [] r = r ∷ []
-trail (x ∷ xs) r = if eqb x.old r then r ∷ trail xs x.new else trail xs r
+trail (x ∷ xs) r = when eqb x.old r then r ∷ trail xs x.new else trail xs r
 
 -- ---------------------------------------------------------------- the reason
 
@@ -181,11 +181,11 @@ reason_of F dist most z s =
     let ids = trail (mergings z.merge (suc (length kept)) kept []) r in
     let number = get_or (formed dense (regions F z.least z.merge g.ids g.next)).ids s 0 in
     let a = (story F dist most z.border s).from in
-    if eqb (get_or F.area s 256) 0 then not_walkable else
-    if flagged r then painted_by (r - 0x8000) else
-    if eqb r 0 then never_reached else
-    if eqb (at kept r).id 0 then filtered_out (gone_with z.least r (length recs) recs) z.least else
-    if eqb a none then flooded r ids number else expanded r a ids number
+    when eqb (get_or F.area s 256) 0 then not_walkable else
+    when flagged r then painted_by (r - 0x8000) else
+    when eqb r 0 then never_reached else
+    when eqb (at kept r).id 0 then filtered_out (gone_with z.least r (length recs) recs) z.least else
+    when eqb a none then flooded r ids number else expanded r a ids number
 
 -- the numbers of a reason: "Numbers that a reason does not have are 0"
 abbrev pub reason_number : Reason → ℕ
@@ -258,8 +258,8 @@ final_of (expanded r a t k) = k
 unfoldable pub explain_refusal : Field → ℕ → ℕ → List ℕ → ℕ → ℕ → ℕ
 explain_refusal F trail work dist most s =
     let r = region_refusal F (length dist ∷ trail ∷ []) work dist most in
-    if not (eqb r 0) then r else
-    if ltb s (spans F) then 0 else 14
+    when not (eqb r 0) then r else
+    when ltb s (spans F) then 0 else 14
 
 pub record ExplainOutcome : Type 0 where
   pub refused : ℕ
@@ -318,6 +318,6 @@ unfoldable pub explain_outcome : Field → List ℕ → ℕ → Sizes → ℕ �
 explain_outcome F dist most z s work₀ trail₀ =
     let r = explain_refusal F (length trail₀) (length work₀) dist most s in
     let stop = stops F dist most z.border in
-    if not (eqb r 0) then unexplained r work₀ trail₀ else
-    if not (eqb stop 0) then unexplained stop (replicate (length work₀) 0) trail₀ else
+    when not (eqb r 0) then unexplained r work₀ trail₀ else
+    when not (eqb stop 0) then unexplained stop (replicate (length work₀) 0) trail₀ else
     explains (spans F) (reason_of F dist most z s) (story F dist most z.border s) (length work₀)

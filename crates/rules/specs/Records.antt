@@ -1,6 +1,6 @@
 -- Region records.
 use Rattle.std.specs.Prelude.{ℕ, suc, Bool, false, not, List, [], ◌∷◌, ◌++◌, map, length, get_or, set, ltb, eqb}
-use Rattle.rules.specs.Base.{◌or◌, ◌and◌, if◌then◌else◌, upto, tab, keep, any}
+use Rattle.rules.specs.Base.{◌or◌, ◌and◌, when◌then◌else◌, upto, tab, keep, any}
 use Rattle.rules.specs.Field.{Field, spans, cell_of}
 use Rattle.rules.specs.Net.{net_of, area_of}
 use Rattle.rules.specs.Growth.{plain}
@@ -28,7 +28,7 @@ has l r = any (eqb r) l
 
 -- "join the floor list once"
 unfoldable pub once : List ℕ → ℕ → List ℕ
-once l r = if has l r then l else l ++ (r ∷ [])
+once l r = when has l r then l else l ++ (r ∷ [])
 
 unfoldable pub once_all : List ℕ → List ℕ → List ℕ
 once_all l [] = l
@@ -52,9 +52,9 @@ counted F ids s r =
       id = r.id;
       count = suc r.count;
       visited = r.visited;
-      area = if empty then area_of (net_of F) s else r.area;
+      area = when empty then area_of (net_of F) s else r.area;
       overlap = r.overlap or has o (get_or ids s 0);
-      list = if empty and ltb d 4 then contour (net_of F) ids s d else r.list;
+      list = when empty and ltb d 4 then contour (net_of F) ids s d else r.list;
       floors = once_all r.floors o;
       cut = r.cut or (empty and ltb d 4 and cut_short (net_of F) ids s d);
     }
@@ -63,7 +63,7 @@ counted F ids s r =
 unfoldable pub add_span : Field → List ℕ → ℕ → List Rec → List Rec
 add_span F ids s rs =
     let r = get_or ids s 0 in
-    if plain r then set rs r (counted F ids s (at rs r)) else rs
+    when plain r then set rs r (counted F ids s (at rs r)) else rs
 
 -- "Records run from 0 to the next id, both included. In scan order .."
 unfoldable pub records : Field → List ℕ → ℕ → List Rec

@@ -1,7 +1,7 @@
 -- A door in an editor: area codes change in one rectangle, and the rows that may come out otherwise are redone. The outcome of the two entries on ANY
 -- input: the build that writes all three lists, and the refresh.
 use Rattle.std.specs.Prelude.{ℕ, zero, suc, ◌+◌, ◌*◌, ◌-◌, min, Bool, not, List, [], ◌∷◌, length, get_or, set, leb, ltb, eqb}
-use Rattle.rules.specs.Base.{◌and◌, ◌or◌, if◌then◌else◌, upto, every, any}
+use Rattle.rules.specs.Base.{◌and◌, ◌or◌, when◌then◌else◌, upto, every, any}
 use Rattle.rules.specs.Field.{Field}
 use Rattle.rules.specs.Refusals.{refusal}
 use Rattle.rules.specs.Distance.{start, pass1, raw, greatest, blur}
@@ -38,7 +38,7 @@ onward F z1 zero y l = record { values = l; end = y - 1 }
 onward F z1 (suc k) y l =
     let m = pass1_row F y l in
     let rest = onward F z1 k (suc y) m in
-    if leb (z1 + 1) y and as_stored F y l m then record { values = m; end = y } else rest
+    when leb (z1 + 1) y and as_stored F y l m then record { values = m; end = y } else rest
 
 -- the value of span s in list p, and those of row y
 unfoldable pub value_to : List ℕ → ℕ → List ℕ → List ℕ
@@ -57,7 +57,7 @@ backward F z0 p zero l = record { values = l; end = 0 }
 backward F z0 p (suc y) l =
     let m = from_pass1 F p y l in
     let rest = backward F z0 p y m in
-    if leb y (z0 - 1) and as_stored F y l m then record { values = m; end = y } else rest
+    when leb y (z0 - 1) and as_stored F y l m then record { values = m; end = y } else rest
 
 -- "The first and last row redone in each stage are reported"
 pub record Rows : Type 0 where
@@ -85,7 +85,7 @@ unfoldable pub stages_outcome : Field → List ℕ → List ℕ → List ℕ →
 stages_outcome F pass1₀ raw₀ blurred₀ =
     let r = refusal F (length pass1₀ ∷ length raw₀ ∷ length blurred₀ ∷ []) in
     let l = raw F in
-    if eqb r 0
+    when eqb r 0
     then record { refused = 0; most = greatest l; pass1 = pass1 F (start F); raw = l; blurred = blur F l }
     else record { refused = r; most = 0; pass1 = pass1₀; raw = raw₀; blurred = blurred₀ }
 
@@ -101,9 +101,9 @@ wrong_stored p r = any (ltb 510) p or any (ltb 510) r
 unfoldable pub refresh_refusal : Field → Rect → List ℕ → List ℕ → List ℕ → ℕ
 refresh_refusal F q p r b =
     let k = refusal F (length p ∷ length r ∷ length b ∷ []) in
-    if not (eqb k 0) then k else
-    if wrong_rect F q then 11 else
-    if wrong_stored p r then 31 else 0
+    when not (eqb k 0) then k else
+    when wrong_rect F q then 11 else
+    when wrong_stored p r then 31 else 0
 
 pub record RefreshOutcome : Type 0 where
   pub refused : ℕ
@@ -149,7 +149,7 @@ unfoldable pub refresh_outcome : Field → Rect → List ℕ → List ℕ → Li
 refresh_outcome F q p₀ r₀ b₀ =
     let k = refresh_refusal F q p₀ r₀ b₀ in
     let o = refreshed F q p₀ r₀ b₀ in
-    if eqb k 0 then o else
+    when eqb k 0 then o else
     record {
       refused = k;
       most = 0;

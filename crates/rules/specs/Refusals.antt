@@ -1,6 +1,6 @@
 -- The refusal numbers 1 to 8. "Checked in this order; the first that applies is given, and none is given otherwise."
 use Rattle.std.specs.Prelude.{ℕ, ◌+◌, ◌*◌, ◌%◌, Bool, false, not, List, [], ◌∷◌, length, get_or, leb, ltb, eqb}
-use Rattle.rules.specs.Base.{◌and◌, ◌or◌, if◌then◌else◌, every, any}
+use Rattle.rules.specs.Base.{◌and◌, ◌or◌, when◌then◌else◌, every, any}
 use Rattle.rules.specs.Field.{Field, spans, cell_of, cell_to, leaves, con_of, near}
 
 -- 1: "w or h above 256"
@@ -52,12 +52,12 @@ wrong_back F = not (every (spans F) (λ s. every 4 (good_back F s)))
 -- 1 to 6, 0 for none of them
 unfoldable pub refusal : Field → List ℕ → ℕ
 refusal F lens =
-    if too_wide F then 1 else
-    if too_many F then 2 else
-    if wrong_length F lens then 3 else
-    if wrong_cells F then 4 else
-    if wrong_reach F then 5 else
-    if wrong_back F then 6 else 0
+    when too_wide F then 1 else
+    when too_many F then 2 else
+    when wrong_length F lens then 3 else
+    when wrong_cells F then 4 else
+    when wrong_reach F then 5 else
+    when wrong_back F then 6 else 0
 
 -- 7: "region entry: workspace shorter than 128·n + 4,096 numbers"
 unfoldable pub too_short : Field → ℕ → Bool
@@ -71,6 +71,6 @@ too_far dist most = ltb 510 most or any (ltb most) dist
 unfoldable pub region_refusal : Field → List ℕ → ℕ → List ℕ → ℕ → ℕ
 region_refusal F lens work dist most =
     let r = refusal F lens in
-    if not (eqb r 0) then r else
-    if too_short F work then 7 else
-    if too_far dist most then 8 else 0
+    when not (eqb r 0) then r else
+    when too_short F work then 7 else
+    when too_far dist most then 8 else 0

@@ -2,7 +2,7 @@
 use Rattle.std.specs.Prelude.{ℕ, suc, ◌*◌, ◌/◌, ◌%◌, min, max, Bool, false, not, List, [], length, get_or, leb, ltb, eqb, pos, Float}
 use Rattle.std.specs.Float.{fin, binary64}
 use Rattle.std.specs.Float.Ieee.{round}
-use Rattle.rules.specs.Base.{◌and◌, ◌or◌, if◌then◌else◌, upto, any}
+use Rattle.rules.specs.Base.{◌and◌, ◌or◌, when◌then◌else◌, upto, any}
 use Rattle.rules.specs.Field.{Field, spans, cell_of, area_of}
 use Rattle.rules.specs.Refusals.{refusal}
 use Rattle.rules.specs.Growth.{flagged}
@@ -23,7 +23,7 @@ nothing = record { count = 0; area = 0; x_least = 0; x_past = 0; z_least = 0; z_
 -- a span of area a at (x, z) is added
 unfoldable pub added : ℕ → ℕ → ℕ → Extent → Extent
 added a x z e =
-    if eqb e.count 0
+    when eqb e.count 0
     then record { count = 1; area = a; x_least = x; x_past = suc x; z_least = z; z_past = suc z }
     else record {
       count = suc e.count;
@@ -38,7 +38,7 @@ added a x z e =
 unfoldable pub noted : Field → List ℕ → ℕ → ℕ → Extent → Extent
 noted F ids id s e =
     let c = cell_of F.count s in
-    if eqb (get_or ids s 0) id then added (area_of F s) (c % F.w) (c / F.w) e else e
+    when eqb (get_or ids s 0) id then added (area_of F s) (c % F.w) (c / F.w) e else e
 
 unfoldable pub extent : Field → List ℕ → ℕ → Extent
 extent F ids id = upto (spans F) (noted F ids id) nothing
@@ -48,7 +48,7 @@ unfoldable pub shown : ℕ → ℕ → Bool
 shown most id = leb 1 id and leb id most and not (flagged id)
 
 unfoldable pub extent_of : Field → List ℕ → ℕ → ℕ → Extent
-extent_of F ids most id = if shown most id then extent F ids id else nothing
+extent_of F ids most id = when shown most id then extent F ids id else nothing
 
 -- "Each is a 64-bit float, exact": the value a / c, of which nothing is rounded (`size_exact`)
 unfoldable pub metres : ℕ → ℕ → Float
@@ -92,9 +92,9 @@ wrong_ids n ids most = not (eqb (length ids) n) or any (too_great most) ids
 unfoldable pub measure_refusal : Field → List ℕ → ℕ → ℕ → ℕ
 measure_refusal F ids most k =
     let r = refusal F [] in
-    if not (eqb r 0) then r else
-    if wrong_scale k then 9 else
-    if wrong_ids (spans F) ids most then 10 else 0
+    when not (eqb r 0) then r else
+    when wrong_scale k then 9 else
+    when wrong_ids (spans F) ids most then 10 else 0
 
 pub record MeasureOutcome : Type 0 where
   pub refused : ℕ
@@ -110,6 +110,6 @@ zeros = record { floor = zero64; x_least = zero64; x_past = zero64; z_least = ze
 unfoldable pub measure_outcome : Field → List ℕ → ℕ → ℕ → ℕ → MeasureOutcome
 measure_outcome F ids most k id =
     let r = measure_refusal F ids most k in
-    if eqb r 0
+    when eqb r 0
     then record { refused = 0; room = sized k (extent_of F ids most id) }
     else record { refused = r; room = zeros }

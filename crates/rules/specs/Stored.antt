@@ -1,6 +1,6 @@
 -- Stored results: a result is the ids of its spans in span order. Two forms of a file, and the conversion of ANY file of one form into the other.
 use Rattle.std.specs.Prelude.{ℕ, zero, suc, ◌+◌, ◌*◌, ◌/◌, ◌%◌, Bool, true, false, not, List, [], ◌∷◌, ◌++◌, length, get_or, drop, replicate, leb, ltb, eqb}
-use Rattle.rules.specs.Base.{◌and◌, ◌or◌, if◌then◌else◌}
+use Rattle.rules.specs.Base.{◌and◌, ◌or◌, when◌then◌else◌}
 
 -- "2 bytes each", "numbers little-endian"
 unfoldable pub two : ℕ → List ℕ
@@ -49,7 +49,7 @@ joins x k y = eqb x y and ltb k most_long
 -- "runs in span order .., every run as long as equal ids and that limit allow": the run so far, of id x and length k, and the ids after it
 unfoldable pub runs_from : ℕ → ℕ → List ℕ → List Run
 runs_from x k [] = record { id = x; long = k } ∷ []
-runs_from x k (y ∷ ys) = if joins x k y then runs_from x (suc k) ys else record { id = x; long = k } ∷ runs_from y 1 ys
+runs_from x k (y ∷ ys) = when joins x k y then runs_from x (suc k) ys else record { id = x; long = k } ∷ runs_from y 1 ys
 
 unfoldable pub runs_of : List ℕ → List Run
 runs_of [] = []
@@ -101,7 +101,7 @@ unfoldable pub new_from : ℕ → ℕ → List Run → List ℕ
 new_from t s [] = 4 ∷ []
 new_from t s (r ∷ rs) =
     run_record r.id r.long
-    ++ (if eqb (suc t) stretch_runs then mark_record (s + r.long) ++ new_from 0 (s + r.long) rs else new_from (suc t) (s + r.long) rs)
+    ++ (when eqb (suc t) stretch_runs then mark_record (s + r.long) ++ new_from 0 (s + r.long) rs else new_from (suc t) (s + r.long) rs)
 
 unfoldable pub new_bytes : List Run → List ℕ
 new_bytes rs = new_from 0 0 rs
@@ -110,7 +110,7 @@ new_bytes rs = new_from 0 0 rs
 unfoldable pub marks_fit : ℕ → ℕ → List Run → Bool
 marks_fit t s [] = true
 marks_fit t s (r ∷ rs) =
-    if eqb (suc t) stretch_runs then leb (s + r.long) most_spans_marked and marks_fit 0 (s + r.long) rs else marks_fit (suc t) (s + r.long) rs
+    when eqb (suc t) stretch_runs then leb (s + r.long) most_spans_marked and marks_fit 0 (s + r.long) rs else marks_fit (suc t) (s + r.long) rs
 
 -- a file of this form, whatever its runs and its numbers of spans, after t runs of a stretch and s spans; "a length of 0", "a missing or misplaced one, or a
 -- span count that doesn't fit 4 bytes, is malformed"
@@ -121,7 +121,7 @@ new_fine_from t s (kind ∷ a ∷ []) = false
 new_fine_from t s (kind ∷ a ∷ b ∷ []) = false
 new_fine_from t s (kind ∷ a ∷ b ∷ c ∷ []) = false
 new_fine_from t s (kind ∷ a ∷ b ∷ c ∷ d ∷ rest) =
-    if eqb t stretch_runs
+    when eqb t stretch_runs
     then (eqb kind 7 and leb s most_spans_marked) and new_fine_from 0 s rest
     else (eqb kind 6 and ltb 0 (c + 256 * d)) and new_fine_from (suc t) (s + (c + 256 * d)) rest
 
@@ -136,7 +136,7 @@ new_runs_from t (kind ∷ a ∷ []) = []
 new_runs_from t (kind ∷ a ∷ b ∷ []) = []
 new_runs_from t (kind ∷ a ∷ b ∷ c ∷ []) = []
 new_runs_from t (kind ∷ a ∷ b ∷ c ∷ d ∷ rest) =
-    if eqb t stretch_runs then new_runs_from 0 rest else record { id = a + 256 * b; long = c + 256 * d } ∷ new_runs_from (suc t) rest
+    when eqb t stretch_runs then new_runs_from 0 rest else record { id = a + 256 * b; long = c + 256 * d } ∷ new_runs_from (suc t) rest
 
 unfoldable pub new_runs : List ℕ → List Run
 new_runs file = new_runs_from 0 file
@@ -149,7 +149,7 @@ right_from t s (kind ∷ a ∷ []) = true
 right_from t s (kind ∷ a ∷ b ∷ []) = true
 right_from t s (kind ∷ a ∷ b ∷ c ∷ []) = true
 right_from t s (kind ∷ a ∷ b ∷ c ∷ d ∷ rest) =
-    if eqb t stretch_runs then eqb (four_of a b c d) s and right_from 0 s rest else right_from (suc t) (s + (c + 256 * d)) rest
+    when eqb t stretch_runs then eqb (four_of a b c d) s and right_from 0 s rest else right_from (suc t) (s + (c + 256 * d)) rest
 
 unfoldable pub right_numbers : List ℕ → Bool
 right_numbers file = right_from 0 0 file
@@ -165,13 +165,13 @@ unpacked file = old_bytes (spread (new_runs file))
 -- "22 malformed, 23 not the longest runs, .. in that order", "25 wrong number, between 23 and 24": those of the file alone, asked over the whole file. An old
 -- file whose new form would need a number that does not fit 4 bytes is malformed too
 unfoldable pub pack_refusal : List ℕ → ℕ
-pack_refusal file = if old_fine file and marks_fit 0 0 (runs_of (old_ids file)) then 0 else 22
+pack_refusal file = when old_fine file and marks_fit 0 0 (runs_of (old_ids file)) then 0 else 22
 
 unfoldable pub read_refusal : List ℕ → ℕ
 read_refusal file =
-    if not (new_fine file) then 22 else
-    if not (longest (new_runs file)) then 23 else
-    if not (right_numbers file) then 25 else 0
+    when not (new_fine file) then 22 else
+    when not (longest (new_runs file)) then 23 else
+    when not (right_numbers file) then 25 else 0
 
 pub record StoredOutcome : Type 0 where
   pub refused : ℕ
@@ -181,8 +181,8 @@ pub record StoredOutcome : Type 0 where
 -- "24 no room (exactly when the output would exceed the list lent; nothing is written then)"; places past the output keep what they held
 unfoldable pub given_out : ℕ → List ℕ → List ℕ → StoredOutcome
 given_out refusal output out₀ =
-    if not (eqb refusal 0) then record { refused = refusal; long = 0; out = out₀ } else
-    if ltb (length out₀) (length output) then record { refused = 24; long = 0; out = out₀ } else
+    when not (eqb refusal 0) then record { refused = refusal; long = 0; out = out₀ } else
+    when ltb (length out₀) (length output) then record { refused = 24; long = 0; out = out₀ } else
     record { refused = 0; long = length output; out = output ++ drop (length output) out₀ }
 
 unfoldable pub pack_outcome : List ℕ → List ℕ → StoredOutcome
@@ -203,14 +203,14 @@ pub record IdOutcome : Type 0 where
 unfoldable pub seek : ℕ → ℕ → ℕ → List Run → ℕ → IdOutcome
 seek p t s [] span = record { refused = 26; id = 0; stretch = p }
 seek p t s (r ∷ rs) span =
-    let next = if eqb (suc t) stretch_runs then seek (suc p) 0 (s + r.long) rs span else seek p (suc t) (s + r.long) rs span in
-    if ltb span (s + r.long) then record { refused = 0; id = r.id; stretch = p } else next
+    let next = when eqb (suc t) stretch_runs then seek (suc p) 0 (s + r.long) rs span else seek p (suc t) (s + r.long) rs span in
+    when ltb span (s + r.long) then record { refused = 0; id = r.id; stretch = p } else next
 
 -- "22, 23, 25, then 26"
 unfoldable pub id_whole : List ℕ → ℕ → IdOutcome
 id_whole file span =
     let r = read_refusal file in
-    if not (eqb r 0) then record { refused = r; id = 0; stretch = 0 } else seek 0 0 0 (new_runs file) span
+    when not (eqb r 0) then record { refused = r; id = 0; stretch = 0 } else seek 0 0 0 (new_runs file) span
 
 -- ---------------------------------------------------------------- one span's id by way of the kind 7 records
 
@@ -224,12 +224,12 @@ unfoldable pub halving : ℕ → List ℕ → ℕ → ℕ → ℕ → ℕ
 halving zero file span lo hi = lo
 halving (suc k) file span lo hi =
     let mid = (lo + hi) / 2 in
-    let next = if leb (mark_at file mid) span then halving k file span (suc mid) hi else halving k file span lo mid in
-    if ltb lo hi then next else lo
+    let next = when leb (mark_at file mid) span then halving k file span (suc mid) hi else halving k file span lo mid in
+    when ltb lo hi then next else lo
 
 -- the kind 7 records that a file of this length has: no more than their greatest number, since each is above the one before
 unfoldable pub marks_in : List ℕ → ℕ
-marks_in file = if ltb most_spans_marked (length file / 325) then most_spans_marked else length file / 325
+marks_in file = when ltb most_spans_marked (length file / 325) then most_spans_marked else length file / 325
 
 -- the stretch that is read
 unfoldable pub chosen : List ℕ → ℕ → ℕ
@@ -244,19 +244,19 @@ spans_before file (suc k) = mark_at file k
 unfoldable pub within : ℕ → ℕ → List ℕ → ℕ → ℕ → IdOutcome
 within p zero bytes s span = record { refused = 25; id = 0; stretch = p }
 within p (suc c) [] s span = record { refused = 22; id = 0; stretch = p }
-within p (suc c) (kind ∷ []) s span = record { refused = if eqb kind 4 then 26 else 22; id = 0; stretch = p }
+within p (suc c) (kind ∷ []) s span = record { refused = when eqb kind 4 then 26 else 22; id = 0; stretch = p }
 within p (suc c) (kind ∷ x ∷ []) s span = record { refused = 22; id = 0; stretch = p }
 within p (suc c) (kind ∷ x ∷ y ∷ []) s span = record { refused = 22; id = 0; stretch = p }
 within p (suc c) (kind ∷ x ∷ y ∷ z ∷ []) s span = record { refused = 22; id = 0; stretch = p }
 within p (suc c) (kind ∷ x ∷ y ∷ z ∷ w ∷ rest) s span =
     let next = within p c rest (s + (z + 256 * w)) span in
-    let here = if ltb span (s + (z + 256 * w)) then record { refused = 0; id = x + 256 * y; stretch = p } else next in
-    if eqb kind 6 and ltb 0 (z + 256 * w) then here else record { refused = 22; id = 0; stretch = p }
+    let here = when ltb span (s + (z + 256 * w)) then record { refused = 0; id = x + 256 * y; stretch = p } else next in
+    when eqb kind 6 and ltb 0 (z + 256 * w) then here else record { refused = 22; id = 0; stretch = p }
 
 -- a file whose length no file of the form has is refused 22 before a stretch is chosen
 unfoldable pub id_at : List ℕ → ℕ → IdOutcome
 id_at file span =
     let p = chosen file span in
-    if eqb (length file % 5) 1
+    when eqb (length file % 5) 1
     then within p stretch_runs (drop (325 * p) file) (spans_before file p) span
     else record { refused = 22; id = 0; stretch = 0 }

@@ -8,7 +8,7 @@ use lib.ListN.{length}
 use lib.Dec.{eqb}
 use lib.Ieee.{Float}
 use borrow.Author.Tests.{eqb-true, eq-eqb, ne_eqb, not-false}
-use Rattle.rules.specs.Base.{◌and◌, if◌then◌else◌, every}
+use Rattle.rules.specs.Base.{◌and◌, when◌then◌else◌, every}
 use Rattle.rules.specs.Field.{Field, spans}
 use Rattle.rules.specs.Refusals.{wrong_length, refusal}
 use Rattle.rules.specs.Sizes.{Extent, RoomSize, shown, extent, extent_of, nothing, metres, sized, wrong_scale, wrong_ids, measure_refusal, measure_outcome}
@@ -38,11 +38,11 @@ sized_is k e f a b c d p q r s t = rw (p, q, r, s, t)
 
 module _ (F : Field) (ids : List ℕ) (most id : ℕ) where
   pub extent-shown : (b : Bool) → b ≡ shown most id → b ≡ true → (e : Extent) → e ≡ extent F ids id → e ≡ extent_of F ids most id
-  unfolding extent_of if◌then◌else◌
+  unfolding extent_of when◌then◌else◌
   extent-shown b p t e q = let z : shown most id ≡ true = sym p ∙ t in rw z q
 
   pub extent-none : (b : Bool) → b ≡ shown most id → b ≡ false → (e : Extent) → e ≡ nothing → e ≡ extent_of F ids most id
-  unfolding extent_of if◌then◌else◌
+  unfolding extent_of when◌then◌else◌
   extent-none b p t e q = let z : shown most id ≡ false = sym p ∙ t in rw z q
 
 pub measure_celled : (F : Field) (v : Verdict) → verdict_number v ≡ refusal F (spans F ∷ spans F ∷ []) → v ≡ verdict.Sound → Celled F
@@ -53,12 +53,12 @@ unfolding wrong_ids
 measure_long n ids most x q u = eqb-true _ _ (not-false _ (neither _ _ (sym q ∙ u)).0)
 
 first_given : (F : Field) (ids : List ℕ) (most k : ℕ) → (refusal F [] ≡ 0 → ⊥) → measure_refusal F ids most k ≡ refusal F []
-unfolding measure_refusal if◌then◌else◌
+unfolding measure_refusal when◌then◌else◌
 first_given F ids most k z = rw (ne_eqb (refusal F []) 0 z)
 
 module _ (F : Field) (ids : List ℕ) (most k id : ℕ) (v : Verdict) (e : verdict_number v ≡ refusal F (spans F ∷ spans F ∷ [])) where
   pub measure_refused : (r : Refusal) → v ≡ verdict.Refused r → outcome (Refused r) ≡ measure_outcome F ids most k id
-  unfolding measure_outcome if◌then◌else◌
+  unfolding measure_outcome when◌then◌else◌
   measure_refused r y =
       let n : number_of r ≡ refusal F [] = ap verdict_number (sym y) ∙ e ∙ lens_own F in
       let m : number_of r ≡ measure_refusal F ids most k = n ∙ sym (first_given F ids most k (λ q. omega (arith, number_pos r))) in
@@ -72,7 +72,7 @@ module _ (F : Field) (ids : List ℕ) (most k id : ℕ) (v : Verdict) (e : verdi
     none = eq-eqb (refusal F []) 0 sound
 
     pub measure_scale : (b : Bool) → b ≡ wrong_scale k → b ≡ true → outcome WrongScale ≡ measure_outcome F ids most k id
-    unfolding measure_outcome measure_refusal if◌then◌else◌
+    unfolding measure_outcome measure_refusal when◌then◌else◌
     measure_scale b p t = let z : wrong_scale k ≡ true = sym p ∙ t in rw (none, z)
 
     module _ (b : Bool) (p : b ≡ wrong_scale k) (t : b ≡ false) where
@@ -80,7 +80,7 @@ module _ (F : Field) (ids : List ℕ) (most k id : ℕ) (v : Verdict) (e : verdi
       good = sym p ∙ t
 
       pub measure_ids : (x : Bool) → x ≡ wrong_ids (spans F) ids most → x ≡ true → outcome WrongIds ≡ measure_outcome F ids most k id
-      unfolding measure_outcome measure_refusal if◌then◌else◌
+      unfolding measure_outcome measure_refusal when◌then◌else◌
       measure_ids x q u = let z : wrong_ids (spans F) ids most ≡ true = sym q ∙ u in rw (none, good, z)
 
       module _ (x : Bool) (q : x ≡ wrong_ids (spans F) ids most) (u : x ≡ false) where
@@ -88,5 +88,5 @@ module _ (F : Field) (ids : List ℕ) (most k id : ℕ) (v : Verdict) (e : verdi
         listed = sym q ∙ u
 
         pub measure_done : (m : Room) (a : Extent) → a ≡ extent_of F ids most id → room_of m ≡ sized k a → outcome (Measured m) ≡ measure_outcome F ids most k id
-        unfolding measure_outcome measure_refusal if◌then◌else◌
+        unfolding measure_outcome measure_refusal when◌then◌else◌
         measure_done m a f g = rw (none, good, listed, ← f) (ap (λ (r : RoomSize). record { refused = 0; room = r }) g)

@@ -9,7 +9,7 @@ use mathlib.Core.List.{List}
 use lib.ListN.{length, get_or}
 use lib.Dec.{eqb}
 use borrow.Author.Tests.{eq-eqb, ne_eqb}
-use Rattle.rules.specs.Base.{if◌then◌else◌, upto}
+use Rattle.rules.specs.Base.{when◌then◌else◌, upto}
 use Rattle.rules.specs.Field.{Field, spans, area_of}
 use Rattle.rules.specs.Sizes.{Extent, nothing, added, noted, extent}
 use Rattle.laws.proofs.Basics.{if-ind, upto-ind, upto_join, upto_ext, upto_next, get_d_any}
@@ -29,12 +29,12 @@ part_le c w = div-le_self c w
 
 module _ (a x z : ℕ) (e : Extent) where
   pub add_first : e.count ≡ 0 → ◌≡◌ {A = Extent} (record { count = 1; area = a; x_least = x; x_past = x + 1; z_least = z; z_past = z + 1 }) (added a x z e)
-  unfolding added if◌then◌else◌
+  unfolding added when◌then◌else◌
   add_first h = rw (eq-eqb e.count 0 h, add-one x, add-one z)
 
   pub add_more : (e.count ≡ 0 → ⊥) → (l p m q : ℕ) → l ≡ min e.x_least x → p ≡ max e.x_past (x + 1) → m ≡ min e.z_least z → q ≡ max e.z_past (z + 1)
       → ◌≡◌ {A = Extent} (record { count = e.count + 1; area = e.area; x_least = l; x_past = p; z_least = m; z_past = q }) (added a x z e)
-  unfolding added if◌then◌else◌
+  unfolding added when◌then◌else◌
   add_more h l p m q l= p= m= q= =
       let p' = rw (add-one x) at p= in
       let q' = rw (add-one z) at q= in
@@ -42,11 +42,11 @@ module _ (a x z : ℕ) (e : Extent) where
 
 module _ (area ids : List ℕ) (id x z s : ℕ) (e : Extent) where
   pub note_has : get_or ids s 0 ≡ id → (r : Extent) → r ≡ added (get_or area s 0) x z e → r ≡ note_at area ids id x z s e
-  unfolding note_at if◌then◌else◌
+  unfolding note_at when◌then◌else◌
   note_has h r q = rw (eq-eqb _ _ h) q
 
   pub note_not : (get_or ids s 0 ≡ id → ⊥) → e ≡ note_at area ids id x z s e
-  unfolding note_at if◌then◌else◌
+  unfolding note_at when◌then◌else◌
   note_not h = rw (ne_eqb _ _ h)
 
   pub note_count : (note_at area ids id x z s e).count ≤ suc e.count

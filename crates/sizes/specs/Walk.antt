@@ -1,6 +1,6 @@
 -- What the walk's promises cite.
 use Rattle.std.specs.Prelude.{ℕ, List, get_or, eqb}
-use Rattle.rules.specs.Base.{if◌then◌else◌}
+use Rattle.rules.specs.Base.{when◌then◌else◌}
 use Rattle.rules.specs.Sizes.{Extent, added}
 use Rattle.sizes.specs.declared.walk.Extent as code
 
@@ -10,4 +10,4 @@ extent_at e = record { count = e.count; area = e.area; x_least = e.x_least; x_pa
 
 -- span s, which stands at (x, z), if it has the id
 unfoldable pub note_at : List ℕ → List ℕ → ℕ → ℕ → ℕ → ℕ → Extent → Extent
-note_at area ids id x z s e = if eqb (get_or ids s 0) id then added (get_or area s 0) x z e else e
+note_at area ids id x z s e = when eqb (get_or ids s 0) id then added (get_or area s 0) x z e else e

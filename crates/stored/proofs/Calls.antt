@@ -8,7 +8,7 @@ use mathlib.Core.List.{List, [], ◌∷◌, ◌++◌}
 use lib.ListN.{length, length-append}
 use lib.Dec.{eqb, ltb, leb}
 use borrow.Author.Tests.{eq-eqb, ne_eqb, ltb-true, lt-ltb, le-leb, leb-true}
-use Rattle.rules.specs.Base.{◌and◌, if◌then◌else◌}
+use Rattle.rules.specs.Base.{◌and◌, when◌then◌else◌}
 use Rattle.rules.specs.File.{word}
 use Rattle.rules.specs.Stored.{two, four, span_record, run_record, mark_record, joins, old_fine, old_ids, runs_of, marks_fit, packed}
 use Rattle.laws.proofs.Basics.{same_test}
@@ -108,43 +108,43 @@ module _ (x k y : ℕ) (b : Bool) (e : b ≡ joins x k y) where
   grown-small t = (joined x k y (sym e ∙ t)).1
 
   pub grown_more : b ≡ true → k + 1 ≡ grown x k y
-  unfolding grown if◌then◌else◌
+  unfolding grown when◌then◌else◌
   grown_more t = let p : joins x k y ≡ true = sym e ∙ t in rw p (omega arith)
 
   pub grown-one : b ≡ false → 1 ≡ grown x k y
-  unfolding grown if◌then◌else◌
+  unfolding grown when◌then◌else◌
   grown-one t = let p : joins x k y ≡ false = sym e ∙ t in rw p
 
   pub turned_same : (t : ℕ) → b ≡ true → t ≡ turned x k y t
-  unfolding turned if◌then◌else◌
+  unfolding turned when◌then◌else◌
   turned_same t f = let p : joins x k y ≡ true = sym e ∙ f in rw p
 
   pub turned_next : (t r : ℕ) → b ≡ false → r ≡ next_run t → r ≡ turned x k y t
-  unfolding turned if◌then◌else◌
+  unfolding turned when◌then◌else◌
   turned_next t r f g = let p : joins x k y ≡ false = sym e ∙ f in rw p g
 
   pub bytes_none : (t : ℕ) → b ≡ true → 0 ≡ ended_bytes x k y t
-  unfolding ended_bytes if◌then◌else◌
+  unfolding ended_bytes when◌then◌else◌
   bytes_none t f = let p : joins x k y ≡ true = sym e ∙ f in rw p
 
   pub bytes_run : (t r : ℕ) → b ≡ false → r ≡ run_bytes t → r ≡ ended_bytes x k y t
-  unfolding ended_bytes if◌then◌else◌
+  unfolding ended_bytes when◌then◌else◌
   bytes_run t r f g = let p : joins x k y ≡ false = sym e ∙ f in rw p g
 
   pub end_goes : (t s : ℕ) → b ≡ true → true ≡ end_fits x k y t s
-  unfolding end_fits if◌then◌else◌
+  unfolding end_fits when◌then◌else◌
   end_goes t s f = let p : joins x k y ≡ true = sym e ∙ f in rw p
 
   pub end_tests : (t s : ℕ) (r : Bool) → b ≡ false → r ≡ mark_fits t s → r ≡ end_fits x k y t s
-  unfolding end_fits if◌then◌else◌
+  unfolding end_fits when◌then◌else◌
   end_tests t s r f g = let p : joins x k y ≡ false = sym e ∙ f in rw p g
 
   ended-none : (t s : ℕ) → b ≡ true → ended x k y t s ≡ []
-  unfolding ended if◌then◌else◌
+  unfolding ended when◌then◌else◌
   ended-none t s f = let p : joins x k y ≡ true = sym e ∙ f in rw p
 
   ended-run : (t s : ℕ) → b ≡ false → ended x k y t s ≡ run_then x k t s
-  unfolding ended if◌then◌else◌
+  unfolding ended when◌then◌else◌
   ended-run t s f = let p : joins x k y ≡ false = sym e ∙ f in rw p
 
   pub ended_here : (out : List ℕ) (at t s : ℕ) → b ≡ true → Wrote out at (ended x k y t s) at out
@@ -159,44 +159,44 @@ module _ (x k y : ℕ) (b : Bool) (e : b ≡ joins x k y) where
 -- ---------------------------------------------------------------- the last run of a stretch, or another
 
 pub next_zero : (t : ℕ) → t + 1 ≡ 64 → 0 ≡ next_run t
-unfolding next_run if◌then◌else◌
+unfolding next_run when◌then◌else◌
 next_zero t e = rw (eq-eqb (suc t) 64 (omega arith))
 
 pub next_more : (t : ℕ) → (t + 1 ≡ 64 → ⊥) → t + 1 ≡ next_run t
-unfolding next_run if◌then◌else◌
+unfolding next_run when◌then◌else◌
 next_more t n = rw (ne_eqb (suc t) 64 (λ e. n (omega arith))) (omega arith)
 
 pub ten_bytes : (t : ℕ) → t + 1 ≡ 64 → 10 ≡ run_bytes t
-unfolding run_bytes if◌then◌else◌
+unfolding run_bytes when◌then◌else◌
 ten_bytes t e = rw (eq-eqb (suc t) 64 (omega arith))
 
 pub five_bytes : (t : ℕ) → (t + 1 ≡ 64 → ⊥) → 5 ≡ run_bytes t
-unfolding run_bytes if◌then◌else◌
+unfolding run_bytes when◌then◌else◌
 five_bytes t n = rw (ne_eqb (suc t) 64 (λ e. n (omega arith)))
 
 pub mark_tests : (t s : ℕ) → t + 1 ≡ 64 → leb s 4294967295 ≡ mark_fits t s
-unfolding mark_fits if◌then◌else◌
+unfolding mark_fits when◌then◌else◌
 mark_tests t s e = rw (eq-eqb (suc t) 64 (omega arith))
 
 pub mark_none : (t s : ℕ) → (t + 1 ≡ 64 → ⊥) → true ≡ mark_fits t s
-unfolding mark_fits if◌then◌else◌
+unfolding mark_fits when◌then◌else◌
 mark_none t s n = rw (ne_eqb (suc t) 64 (λ e. n (omega arith)))
 
 then_mark : (x k t s : ℕ) → t + 1 ≡ 64 → run_then x k t s ≡ five 6 x k ++ mark_record s
-unfolding run_then run_record five if◌then◌else◌
+unfolding run_then run_record five when◌then◌else◌
 then_mark x k t s e = rw (eq-eqb (suc t) 64 (omega arith))
 
 then_none : (x k t s : ℕ) → (t + 1 ≡ 64 → ⊥) → run_then x k t s ≡ five 6 x k
-unfolding run_then run_record five two if◌then◌else◌
+unfolding run_then run_record five two when◌then◌else◌
 then_none x k t s n = rw (ne_eqb (suc t) 64 (λ e. n (omega arith)))
 
-begins : (x k t s : ℕ) → run_then x k t s ≡ five 6 x k ++ (if eqb (suc t) 64 then mark_record s else [])
+begins : (x k t s : ℕ) → run_then x k t s ≡ five 6 x k ++ (when eqb (suc t) 64 then mark_record s else [])
 unfolding run_then run_record five
 begins x k t s = refl
 
 module _ (out : List ℕ) (at x k t s : ℕ) (h : Room out at (run_then x k t s)) where
   pub first_room : Room out at (five 6 x k)
-  first_room = room_first out at (five 6 x k) (if eqb (suc t) 64 then mark_record s else []) (subst (Room out at) (begins x k t s) h)
+  first_room = room_first out at (five 6 x k) (when eqb (suc t) 64 then mark_record s else []) (subst (Room out at) (begins x k t s) h)
 
   module _ (r : ℕ) (out' : List ℕ) (g : Wrote out at (five 6 x k) r out') where
     pub after_room : t + 1 ≡ 64 → Room out' r (mark_record s)
@@ -244,8 +244,8 @@ left_by_lem l i x k t y g u o h le e f v =
     left_next l i x k t o h le ∙ ap (λ z. ended x k z t i ++ runs_left l (i + 1) z (grown x k z) (turned x k z t)) (sym e)
     ∙ ap (λ z. ended x k y t i ++ runs_left l (i + 1) y z (turned x k y t)) (sym f) ∙ ap (λ z. ended x k y t i ++ runs_left l (i + 1) y g z) (sym v)
 
-run_long_cases : (s : ℕ) (b : Bool) → suc (suc (suc (suc (suc (length (if b then mark_record s else [])))))) ≡ (if b then 10 else 5)
-unfolding mark_record four if◌then◌else◌
+run_long_cases : (s : ℕ) (b : Bool) → suc (suc (suc (suc (suc (length (when b then mark_record s else [])))))) ≡ (when b then 10 else 5)
+unfolding mark_record four when◌then◌else◌
 run_long_cases s true = refl
 run_long_cases s false = refl
 
@@ -253,8 +253,8 @@ run_long : (x k t s : ℕ) → length (run_then x k t s) ≡ run_bytes t
 unfolding run_then run_bytes run_record two
 run_long x k t s = run_long_cases s (eqb (suc t) 64)
 
-ended_long_cases : (x k t s : ℕ) (b : Bool) → length (if b then [] else run_then x k t s) ≡ (if b then 0 else run_bytes t)
-unfolding if◌then◌else◌
+ended_long_cases : (x k t s : ℕ) (b : Bool) → length (when b then [] else run_then x k t s) ≡ (when b then 0 else run_bytes t)
+unfolding when◌then◌else◌
 ended_long_cases x k t s true = refl
 ended_long_cases x k t s false = run_long x k t s
 

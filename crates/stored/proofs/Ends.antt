@@ -8,7 +8,7 @@ use mathlib.Core.List.{List, ◌++◌}
 use lib.ListN.{length, drop}
 use lib.Dec.{leb}
 use borrow.Author.Tests.{leb-true, leb-false}
-use Rattle.rules.specs.Base.{◌and◌, if◌then◌else◌}
+use Rattle.rules.specs.Base.{◌and◌, when◌then◌else◌}
 use Rattle.rules.specs.Stored.{old_fine, old_ids, runs_of, marks_fit, packed, pack_refusal, pack_outcome, new_fine, new_runs, longest, right_numbers, unpacked, read_refusal, unpack_outcome, given_out}
 use Rattle.file.specs.Written.{written, Wrote}
 use Rattle.stored.specs.Answer.{stored_number, checked_number, CheckedAs}
@@ -39,7 +39,7 @@ no_room t out b e f = sym (given_full t out (leb-false (length t) (length out) (
 
 module _ (f out : List ℕ) (b : Bool) (e : b ≡ old_fine f) where
   old_refused : b ≡ false → pack_refusal f ≡ 22
-  unfolding pack_refusal if◌then◌else◌ ◌and◌
+  unfolding pack_refusal when◌then◌else◌ ◌and◌
   old_refused n = let p : old_fine f ≡ false = sym e ∙ n in rw p
 
   pub pack_malformed : b ≡ false → gives 22 0 out ≡ pack_outcome f out
@@ -48,11 +48,11 @@ module _ (f out : List ℕ) (b : Bool) (e : b ≡ old_fine f) where
 
   module _ (d : Bool) (g : d ≡ marks_fit 0 0 (runs_of (old_ids f))) (n : b ≡ true) where
     marks_refused : d ≡ false → pack_refusal f ≡ 22
-    unfolding pack_refusal if◌then◌else◌ ◌and◌
+    unfolding pack_refusal when◌then◌else◌ ◌and◌
     marks_refused m = let p : old_fine f ≡ true = sym e ∙ n in let q : marks_fit 0 0 (runs_of (old_ids f)) ≡ false = sym g ∙ m in rw (p, q)
 
     old_accepted : d ≡ true → pack_refusal f ≡ 0
-    unfolding pack_refusal if◌then◌else◌ ◌and◌
+    unfolding pack_refusal when◌then◌else◌ ◌and◌
     old_accepted m = let p : old_fine f ≡ true = sym e ∙ n in let q : marks_fit 0 0 (runs_of (old_ids f)) ≡ true = sym g ∙ m in rw (p, q)
 
     pub pack_unmarked : d ≡ false → gives 22 0 out ≡ pack_outcome f out
@@ -80,7 +80,7 @@ number_some WrongNumber e = omega arith
 
 module _ (g : List ℕ) (b : Bool) (e : b ≡ new_fine g) where
   new_refused : b ≡ false → read_refusal g ≡ 22
-  unfolding read_refusal if◌then◌else◌
+  unfolding read_refusal when◌then◌else◌
   new_refused n = let p : new_fine g ≡ false = sym e ∙ n in rw p
 
   pub check_malformed : b ≡ false → CheckedAs g (checked.Refused Malformed)
@@ -88,7 +88,7 @@ module _ (g : List ℕ) (b : Bool) (e : b ≡ new_fine g) where
 
   module _ (n : b ≡ true) (c : Bool) (f : c ≡ longest (new_runs g)) where
     not-longest : c ≡ false → read_refusal g ≡ 23
-    unfolding read_refusal if◌then◌else◌
+    unfolding read_refusal when◌then◌else◌
     not-longest m = let p : new_fine g ≡ true = sym e ∙ n in let q : longest (new_runs g) ≡ false = sym f ∙ m in rw (p, q)
 
     pub check_shorter : c ≡ false → CheckedAs g (checked.Refused NotLongest)
@@ -96,12 +96,12 @@ module _ (g : List ℕ) (b : Bool) (e : b ≡ new_fine g) where
 
     module _ (m : c ≡ true) (d : Bool) (h : d ≡ right_numbers g) where
       wrong_number : d ≡ false → read_refusal g ≡ 25
-      unfolding read_refusal if◌then◌else◌
+      unfolding read_refusal when◌then◌else◌
       wrong_number k =
           let p : new_fine g ≡ true = sym e ∙ n in let q : longest (new_runs g) ≡ true = sym f ∙ m in let r : right_numbers g ≡ false = sym h ∙ k in rw (p, q, r)
 
       no_refusal : d ≡ true → read_refusal g ≡ 0
-      unfolding read_refusal if◌then◌else◌
+      unfolding read_refusal when◌then◌else◌
       no_refusal k =
           let p : new_fine g ≡ true = sym e ∙ n in let q : longest (new_runs g) ≡ true = sym f ∙ m in let r : right_numbers g ≡ true = sym h ∙ k in rw (p, q, r)
 

@@ -8,7 +8,7 @@ use mathlib.Core.List.{List}
 use lib.ListN.{length, get_or, drop}
 use lib.Dec.{eqb, ltb, leb}
 use borrow.Author.Tests.{eq-eqb, ne_eqb, lt-ltb, le-ltb, le-leb, lt-leb}
-use Rattle.rules.specs.Base.{◌and◌, if◌then◌else◌}
+use Rattle.rules.specs.Base.{◌and◌, when◌then◌else◌}
 use Rattle.rules.specs.File.{word}
 use Rattle.rules.specs.Stored.{IdOutcome, four_of, marks_in, mark_at, halving, chosen, spans_before, within, id_at, id_whole, read_refusal, new_fine, new_runs, seek}
 use Rattle.laws.proofs.Basics.{if_ind₂}
@@ -31,27 +31,27 @@ mark_is l k r e =
     e ∙ rw (a, b, c) (omega arith)
 
 pub marks_most : (l : List ℕ) → 4294967295 < length l / 325 → 4294967295 ≡ marks_in l
-unfolding marks_in if◌then◌else◌
+unfolding marks_in when◌then◌else◌
 marks_most l h = rw (lt-ltb 4294967295 (length l / 325) h)
 
 pub marks_all : (l : List ℕ) → length l / 325 ≤ 4294967295 → length l / 325 ≡ marks_in l
-unfolding marks_in if◌then◌else◌
+unfolding marks_in when◌then◌else◌
 marks_all l h = rw (le-ltb 4294967295 (length l / 325) h)
 
 pub low_more : (n span lo mid : ℕ) → n ≤ span → mid + 1 ≡ low_after n span lo mid
-unfolding low_after if◌then◌else◌
+unfolding low_after when◌then◌else◌
 low_more n span lo mid h = rw (le-leb n span h) (omega arith)
 
 pub low_same : (n span lo mid : ℕ) → span < n → lo ≡ low_after n span lo mid
-unfolding low_after if◌then◌else◌
+unfolding low_after when◌then◌else◌
 low_same n span lo mid h = rw (lt-leb n span h)
 
 pub high_same : (n span hi mid : ℕ) → n ≤ span → hi ≡ high_after n span hi mid
-unfolding high_after if◌then◌else◌
+unfolding high_after when◌then◌else◌
 high_same n span hi mid h = rw (le-leb n span h)
 
 pub high_less : (n span hi mid : ℕ) → span < n → mid ≡ high_after n span hi mid
-unfolding high_after if◌then◌else◌
+unfolding high_after when◌then◌else◌
 high_less n span hi mid h = rw (lt-leb n span h)
 
 pub record Halves (l : List ℕ) (span lo hi : ℕ) : Type 0 where
@@ -70,19 +70,19 @@ halves-first l span hi e h g = record {
 }
 
 halving_cases : (k : ℕ) (l : List ℕ) (span lo hi : ℕ) (z : Bool) → leb (mark_at l ((lo + hi) / 2)) span ≡ z
-    → (if z then halving k l span (suc ((lo + hi) / 2)) hi else halving k l span lo ((lo + hi) / 2))
-    ≡ halving k l span (if z then suc ((lo + hi) / 2) else lo) (if z then hi else (lo + hi) / 2)
-unfolding if◌then◌else◌
+    → (when z then halving k l span (suc ((lo + hi) / 2)) hi else halving k l span lo ((lo + hi) / 2))
+    ≡ halving k l span (when z then suc ((lo + hi) / 2) else lo) (when z then hi else (lo + hi) / 2)
+unfolding when◌then◌else◌
 halving_cases k l span lo hi true e = refl
 halving_cases k l span lo hi false e = refl
 
 halving-step : (k : ℕ) (l : List ℕ) (span lo hi : ℕ) → lo < hi
     → halving (suc k) l span lo hi ≡ halving k l span (low_after (mark_at l ((lo + hi) / 2)) span lo ((lo + hi) / 2)) (high_after (mark_at l ((lo + hi) / 2)) span hi ((lo + hi) / 2))
-unfolding halving low_after high_after if◌then◌else◌
+unfolding halving low_after high_after when◌then◌else◌
 halving-step k l span lo hi h = rw (lt-ltb lo hi h) (halving_cases k l span lo hi (leb (mark_at l ((lo + hi) / 2)) span) refl)
 
 halving_stop : (k : ℕ) (l : List ℕ) (span lo hi : ℕ) → hi ≤ lo → halving k l span lo hi ≡ lo
-unfolding halving if◌then◌else◌
+unfolding halving when◌then◌else◌
 halving_stop zero l span lo hi h = refl
 halving_stop (suc k) l span lo hi h = rw (le-ltb lo hi h)
 
@@ -151,25 +151,25 @@ abbrev pub outcome : ℕ → ℕ → ℕ → IdOutcome
 outcome r id p = record { refused = r; id = id; stretch = p }
 
 pub ends_beyond : (l : List ℕ) (i p : ℕ) → get_or l i 0 ≡ 4 → outcome 26 0 p ≡ ends_at l i p
-unfolding ends_at if◌then◌else◌
+unfolding ends_at when◌then◌else◌
 ends_beyond l i p e = rw (eq-eqb (get_or l i 0) 4 e)
 
 pub ends_malformed : (l : List ℕ) (i p : ℕ) → (get_or l i 0 ≡ 4 → ⊥) → outcome 22 0 p ≡ ends_at l i p
-unfolding ends_at if◌then◌else◌
+unfolding ends_at when◌then◌else◌
 ends_malformed l i p e = rw (ne_eqb (get_or l i 0) 4 e)
 
 holds_is : (l : List ℕ) (i s span : ℕ) → holds l i 0 s span ≡ ltb span (s + word l (i + 3))
-unfolding holds if◌then◌else◌
+unfolding holds when◌then◌else◌
 holds_is l i s span = refl
 
 after_is : (l : List ℕ) (i s : ℕ) → spans_after l i 0 s ≡ s + word l (i + 3)
-unfolding spans_after if◌then◌else◌
+unfolding spans_after when◌then◌else◌
 after_is l i s = refl
 
 -- one record of a stretch
 module _ (l : List ℕ) (p c j s span : ℕ) (o : length l % 5 ≡ 1) (h : j < length l / 5) where
   stretch_next : within p (suc c) (drop (5 * j) l) s span
-      ≡ (if is_run l (5 * j) then (if ltb span (s + word l (5 * j + 3)) then outcome 0 (word l (5 * j + 1)) p else within p c (drop (5 * (j + 1)) l) (s + word l (5 * j + 3)) span) else outcome 22 0 p)
+      ≡ (when is_run l (5 * j) then (when ltb span (s + word l (5 * j + 3)) then outcome 0 (word l (5 * j + 1)) p else within p c (drop (5 * (j + 1)) l) (s + word l (5 * j + 3)) span) else outcome 22 0 p)
   unfolding within is_run word
   stretch_next = ap (λ z. within p (suc c) z s span) (drop_record l j o h)
 
@@ -200,27 +200,27 @@ module _ (l : List ℕ) (p before span left j s : ℕ) (w : Within l p before sp
     before_end = omega (arith, w.place)
 
     pub within-other : (b : Bool) → b ≡ is_run l (5 * j) → b ≡ false → outcome 22 0 p ≡ within p 64 (drop (325 * p) l) before span
-    unfolding if◌then◌else◌
+    unfolding when◌then◌else◌
     within-other b e f =
         sym (whole ∙ stretch_next l p (left - 1) j s span o before_end
-        ∙ ap (λ z. if z then (if ltb span (s + word l (5 * j + 3)) then outcome 0 (word l (5 * j + 1)) p else within p (left - 1) (drop (5 * (j + 1)) l) (s + word l (5 * j + 3)) span) else outcome 22 0 p) (sym e ∙ f))
+        ∙ ap (λ z. when z then (when ltb span (s + word l (5 * j + 3)) then outcome 0 (word l (5 * j + 1)) p else within p (left - 1) (drop (5 * (j + 1)) l) (s + word l (5 * j + 3)) span) else outcome 22 0 p) (sym e ∙ f))
 
     module _ (b : Bool) (e : b ≡ is_run l (5 * j)) (f : b ≡ true) (d : Bool) (k : d ≡ holds l (5 * j) 0 s span) where
-      run_here : within p 64 (drop (325 * p) l) before span ≡ (if d then outcome 0 (word l (5 * j + 1)) p else within p (left - 1) (drop (5 * (j + 1)) l) (s + word l (5 * j + 3)) span)
-      unfolding if◌then◌else◌
+      run_here : within p 64 (drop (325 * p) l) before span ≡ (when d then outcome 0 (word l (5 * j + 1)) p else within p (left - 1) (drop (5 * (j + 1)) l) (s + word l (5 * j + 3)) span)
+      unfolding when◌then◌else◌
       run_here =
           whole ∙ stretch_next l p (left - 1) j s span o before_end
-          ∙ ap (λ z. if z then (if ltb span (s + word l (5 * j + 3)) then outcome 0 (word l (5 * j + 1)) p else within p (left - 1) (drop (5 * (j + 1)) l) (s + word l (5 * j + 3)) span) else outcome 22 0 p) (sym e ∙ f)
-          ∙ ap (λ z. if z then outcome 0 (word l (5 * j + 1)) p else within p (left - 1) (drop (5 * (j + 1)) l) (s + word l (5 * j + 3)) span) (sym (holds_is l (5 * j) s span) ∙ sym k)
+          ∙ ap (λ z. when z then (when ltb span (s + word l (5 * j + 3)) then outcome 0 (word l (5 * j + 1)) p else within p (left - 1) (drop (5 * (j + 1)) l) (s + word l (5 * j + 3)) span) else outcome 22 0 p) (sym e ∙ f)
+          ∙ ap (λ z. when z then outcome 0 (word l (5 * j + 1)) p else within p (left - 1) (drop (5 * (j + 1)) l) (s + word l (5 * j + 3)) span) (sym (holds_is l (5 * j) s span) ∙ sym k)
 
       pub within_found : (x : ℕ) → d ≡ true → x ≡ word l (5 * j + 1) → outcome 0 x p ≡ within p 64 (drop (325 * p) l) before span
-      unfolding if◌then◌else◌
-      within_found x q v = ap (λ z. outcome 0 z p) v ∙ sym (run_here ∙ ap (λ z. if z then outcome 0 (word l (5 * j + 1)) p else within p (left - 1) (drop (5 * (j + 1)) l) (s + word l (5 * j + 3)) span) q)
+      unfolding when◌then◌else◌
+      within_found x q v = ap (λ z. outcome 0 z p) v ∙ sym (run_here ∙ ap (λ z. when z then outcome 0 (word l (5 * j + 1)) p else within p (left - 1) (drop (5 * (j + 1)) l) (s + word l (5 * j + 3)) span) q)
 
       pub within_next : (r : ℕ) → d ≡ false → r ≡ spans_after l (5 * j) 0 s → r ≤ s + 65535 → Within l p before span (left - 1) (j + 1) r
-      unfolding if◌then◌else◌
+      unfolding when◌then◌else◌
       within_next r q v u = record {
-        same = run_here ∙ ap (λ z. if z then outcome 0 (word l (5 * j + 1)) p else within p (left - 1) (drop (5 * (j + 1)) l) (s + word l (5 * j + 3)) span) q
+        same = run_here ∙ ap (λ z. when z then outcome 0 (word l (5 * j + 1)) p else within p (left - 1) (drop (5 * (j + 1)) l) (s + word l (5 * j + 3)) span) q
             ∙ ap (λ z. within p (left - 1) (drop (5 * (j + 1)) l) z span) (sym (after_is l (5 * j) s) ∙ sym v);
         place = let b = before_end in omega arith;
         most = omega (arith, w.most);
@@ -236,23 +236,23 @@ within-wrong l p before span left j s w h =
 -- ---------------------------------------------------------------- the entry
 
 pub id_odd : (l : List ℕ) (span : ℕ) → (length l % 5 ≡ 1 → ⊥) → outcome 22 0 0 ≡ id_at l span
-unfolding id_at if◌then◌else◌
+unfolding id_at when◌then◌else◌
 id_odd l span n = rw (ne_eqb (length l % 5) 1 n)
 
 pub id_read : (l : List ℕ) (span p before : ℕ) (r : IdOutcome) → length l % 5 ≡ 1 → p ≡ chosen l span → before ≡ spans_before l p → r ≡ within p 64 (drop (325 * p) l) before span → r ≡ id_at l span
-unfolding id_at if◌then◌else◌
+unfolding id_at when◌then◌else◌
 id_read l span p before r o e f g =
     rw (eq-eqb (length l % 5) 1 o) (g ∙ ap (λ z. within p 64 (drop (325 * p) l) z span) f ∙ ap (λ z. within z 64 (drop (325 * z) l) (spans_before l z) span) e)
 
 pub whole_refused : (l : List ℕ) (span : ℕ) (c : Checked) (x : StoredRefusal) → CheckedAs l c → c ≡ checked.Refused x → outcome (stored_number x) 0 0 ≡ id_whole l span
-unfolding id_whole if◌then◌else◌
+unfolding id_whole when◌then◌else◌
 whole_refused l span c x p e =
     let q : read_refusal l ≡ stored_number x = sym (ap checked_number (sym e) ∙ p.refusal) in
     let n : eqb (read_refusal l) 0 ≡ false = ne_eqb (read_refusal l) 0 (λ z. number_some x (sym q ∙ z)) in
     rw n (ap (λ z. outcome z 0 0) (sym q))
 
 pub whole_found : (l : List ℕ) (span : ℕ) (c : Checked) (r : IdOutcome) → CheckedAs l c → c ≡ checked.Fine → r ≡ seek 0 0 0 (new_runs l) span → r ≡ id_whole l span
-unfolding id_whole if◌then◌else◌
+unfolding id_whole when◌then◌else◌
 whole_found l span c r p e f =
     let q : read_refusal l ≡ 0 = sym p.refusal ∙ ap checked_number e in
     let n : eqb (read_refusal l) 0 ≡ true = eq-eqb (read_refusal l) 0 q in

@@ -8,7 +8,7 @@ use mathlib.Core.List.{List, [], ◌∷◌}
 use lib.ListN.{length, set}
 use lib.Dec.{ltb}
 use borrow.Author.Tests.{eq-eqb, ne_eqb}
-use Rattle.rules.specs.Base.{if◌then◌else◌}
+use Rattle.rules.specs.Base.{when◌then◌else◌}
 use Rattle.rules.specs.File.{word}
 use Rattle.rules.specs.Stored.{IdOutcome, read_refusal, id_at, id_whole}
 use Rattle.forms.proofs.Same.{same_answer}
@@ -23,19 +23,19 @@ use Rattle.stored.proofs.Ends.{number_some}
 use Rattle.stored.proofs.Numbers.{number_same}
 
 pub holds-none : (l : List ℕ) (i t s span : ℕ) → t ≡ 64 → false ≡ holds l i t s span
-unfolding holds if◌then◌else◌
+unfolding holds when◌then◌else◌
 holds-none l i t s span e = rw (eq-eqb t 64 e)
 
 pub holds_test : (l : List ℕ) (i t s span v : ℕ) → (t ≡ 64 → ⊥) → v ≡ word l (i + 3) → ltb span (s + v) ≡ holds l i t s span
-unfolding holds if◌then◌else◌
+unfolding holds when◌then◌else◌
 holds_test l i t s span v n e = rw (ne_eqb t 64 n) (ap (λ z. ltb span (s + z)) e)
 
 pub stretch_more : (t p : ℕ) → t ≡ 64 → p + 1 ≡ stretch_after t p
-unfolding stretch_after if◌then◌else◌
+unfolding stretch_after when◌then◌else◌
 stretch_more t p e = rw (eq-eqb t 64 e) (omega arith)
 
 pub stretch_same : (t p : ℕ) → (t ≡ 64 → ⊥) → p ≡ stretch_after t p
-unfolding stretch_after if◌then◌else◌
+unfolding stretch_after when◌then◌else◌
 stretch_same t p n = rw (ne_eqb t 64 n)
 
 -- ---------------------------------------------------------------- numbers in a list
@@ -67,12 +67,12 @@ module _ (r : IdAnswer) where
   list_found id p l e g = g ∙ sym (ap (λ v. id_numbers (id_outcome v)) e)
 
 pub id_other : (o : IdOutcome) (answer : List ℕ) → (length answer ≡ 3 → ⊥) → leaves_id 3 answer ≡ id_into o answer
-unfolding id_into if◌then◌else◌
+unfolding id_into when◌then◌else◌
 id_other o answer n = rw (ne_eqb (length answer) 3 n)
 
 pub id_done : (o : IdOutcome) (answer₀ : List ℕ) (r : IdAnswer) (k : ℕ) (answer : List ℕ) → length answer₀ ≡ 3 → id_outcome r ≡ o → k ≡ (id_outcome r).refused
     → answer ≡ id_numbers (id_outcome r) → leaves_id k answer ≡ id_into o answer₀
-unfolding id_into if◌then◌else◌
+unfolding id_into when◌then◌else◌
 id_done o answer₀ r k answer e p q a =
     rw (eq-eqb (length answer₀) 3 e) (ap (λ z. leaves_id z answer) q ∙ ap (leaves_id (id_outcome r).refused) a ∙ ap (λ v. leaves_id v.refused (id_numbers v)) p)
 

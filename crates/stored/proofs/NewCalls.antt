@@ -8,7 +8,7 @@ use mathlib.Core.List.{List, [], ◌∷◌, ◌++◌}
 use lib.ListN.{length, get_or, replicate, length-append}
 use lib.Dec.{eqb, ltb, leb}
 use borrow.Author.Tests.{eq-eqb, ne_eqb, ltb-true, lt-ltb, le-leb, leb-true}
-use Rattle.rules.specs.Base.{◌and◌, ◌or◌, if◌then◌else◌}
+use Rattle.rules.specs.Base.{◌and◌, ◌or◌, when◌then◌else◌}
 use Rattle.rules.specs.File.{word}
 use Rattle.rules.specs.Stored.{span_record, unpacked}
 use Rattle.laws.proofs.Basics.{same_test}
@@ -23,43 +23,43 @@ use Rattle.stored.proofs.Fits.{Fits, fits_whole, fits_part, fits_not, Writes, wr
 
 module _ (l : List ℕ) (i t s : ℕ) where
   pub mark_kind : t ≡ 64 → get_or l i 0 ≡ 7 → leb s 4294967295 ≡ record_fine l i t s
-  unfolding record_fine if◌then◌else◌ ◌and◌
+  unfolding record_fine when◌then◌else◌ ◌and◌
   mark_kind e k = rw (eq-eqb t 64 e, eq-eqb (get_or l i 0) 7 k)
 
   pub mark_other : t ≡ 64 → (get_or l i 0 ≡ 7 → ⊥) → false ≡ record_fine l i t s
-  unfolding record_fine if◌then◌else◌ ◌and◌
+  unfolding record_fine when◌then◌else◌ ◌and◌
   mark_other e k = rw (eq-eqb t 64 e, ne_eqb (get_or l i 0) 7 k)
 
   pub run_kind : (v : ℕ) → (t ≡ 64 → ⊥) → get_or l i 0 ≡ 6 → v ≡ word l (i + 3) → ltb 0 v ≡ record_fine l i t s
-  unfolding record_fine if◌then◌else◌ ◌and◌
+  unfolding record_fine when◌then◌else◌ ◌and◌
   run_kind v n e f = rw (ne_eqb t 64 n, eq-eqb (get_or l i 0) 6 e) (ap (ltb 0) f)
 
   pub run-other : (t ≡ 64 → ⊥) → (get_or l i 0 ≡ 6 → ⊥) → false ≡ record_fine l i t s
-  unfolding record_fine if◌then◌else◌ ◌and◌
+  unfolding record_fine when◌then◌else◌ ◌and◌
   run-other n e = rw (ne_eqb t 64 n, ne_eqb (get_or l i 0) 6 e)
 
   pub spans_stay : t ≡ 64 → s ≡ spans_after l i t s
-  unfolding spans_after if◌then◌else◌
+  unfolding spans_after when◌then◌else◌
   spans_stay e = rw (eq-eqb t 64 e)
 
   pub spans_more : (v : ℕ) → (t ≡ 64 → ⊥) → v ≡ word l (i + 3) → s + v ≡ spans_after l i t s
-  unfolding spans_after if◌then◌else◌
+  unfolding spans_after when◌then◌else◌
   spans_more v n e = rw (ne_eqb t 64 n) (ap (λ z. s + z) e)
 
   pub number_is : (v : ℕ) → t ≡ 64 → v ≡ long_word l (i + 1) → eqb v s ≡ number_right l i t s
-  unfolding number_right if◌then◌else◌
+  unfolding number_right when◌then◌else◌
   number_is v e f = rw (eq-eqb t 64 e) (ap (λ z. eqb z s) f)
 
   pub number_none : (t ≡ 64 → ⊥) → true ≡ number_right l i t s
-  unfolding number_right if◌then◌else◌
+  unfolding number_right when◌then◌else◌
   number_none n = rw (ne_eqb t 64 n)
 
 pub after_zero : (t : ℕ) → t ≡ 64 → 0 ≡ runs_after t
-unfolding runs_after if◌then◌else◌
+unfolding runs_after when◌then◌else◌
 after_zero t e = rw (eq-eqb t 64 e)
 
 pub after_more : (t : ℕ) → (t ≡ 64 → ⊥) → t + 1 ≡ runs_after t
-unfolding runs_after if◌then◌else◌
+unfolding runs_after when◌then◌else◌
 after_more t n = rw (ne_eqb t 64 n) (omega arith)
 
 pub long_is : (l : List ℕ) (i a b : ℕ) → a ≡ word l i → b ≡ word l (i + 2) → a + 65536 * b ≡ long_word l i
@@ -67,27 +67,27 @@ unfolding long_word
 long_is l i a b e f = rw (e, f)
 
 pub follows_mark : (l : List ℕ) (i t x k : ℕ) → t ≡ 64 → true ≡ record_follows l i t x k
-unfolding record_follows if◌then◌else◌
+unfolding record_follows when◌then◌else◌
 follows_mark l i t x k e = rw (eq-eqb t 64 e)
 
 pub follows_run : (l : List ℕ) (i t x k y : ℕ) (r : Bool) → (t ≡ 64 → ⊥) → y ≡ word l (i + 1) → r ≡ may_follow x k y → r ≡ record_follows l i t x k
-unfolding record_follows if◌then◌else◌
+unfolding record_follows when◌then◌else◌
 follows_run l i t x k y r n e f = rw (ne_eqb t 64 n) (f ∙ ap (may_follow x k) e)
 
 pub after_mark : (l : List ℕ) (i t x : ℕ) → t ≡ 64 → x ≡ number_after l i t x
-unfolding number_after if◌then◌else◌
+unfolding number_after when◌then◌else◌
 after_mark l i t x e = rw (eq-eqb t 64 e)
 
 pub after_run : (l : List ℕ) (i t x y : ℕ) → (t ≡ 64 → ⊥) → y ≡ word l i → y ≡ number_after l i t x
-unfolding number_after if◌then◌else◌
+unfolding number_after when◌then◌else◌
 after_run l i t x y n e = rw (ne_eqb t 64 n) e
 
 pub bytes_mark : (l : List ℕ) (i t : ℕ) → t ≡ 64 → 0 ≡ spans_bytes l i t
-unfolding spans_bytes if◌then◌else◌
+unfolding spans_bytes when◌then◌else◌
 bytes_mark l i t e = rw (eq-eqb t 64 e)
 
 pub bytes_spans : (l : List ℕ) (i t v : ℕ) → (t ≡ 64 → ⊥) → v ≡ word l (i + 3) → 3 * v ≡ spans_bytes l i t
-unfolding spans_bytes if◌then◌else◌
+unfolding spans_bytes when◌then◌else◌
 bytes_spans l i t v n e = rw (ne_eqb t 64 n) (ap (λ z. 3 * z) e)
 
 pub follow_same : (x k y : ℕ) → x ≡ y → eqb k 65535 ≡ may_follow x k y
@@ -181,11 +181,11 @@ unfolding run_spans
 run-spans-wrote l i x k out at r out' p q h = rw (← p, ← q) h
 
 none-spans : (l : List ℕ) (i t : ℕ) → t ≡ 64 → record_spans l i t ≡ []
-unfolding record_spans if◌then◌else◌
+unfolding record_spans when◌then◌else◌
 none-spans l i t e = rw (eq-eqb t 64 e)
 
 some_spans : (l : List ℕ) (i t : ℕ) → (t ≡ 64 → ⊥) → record_spans l i t ≡ run_spans l i
-unfolding record_spans if◌then◌else◌
+unfolding record_spans when◌then◌else◌
 some_spans l i t n = rw (ne_eqb t 64 n)
 
 pub record_here : (l : List ℕ) (i t : ℕ) (out : List ℕ) (at : ℕ) → t ≡ 64 → Wrote out at (record_spans l i t) at out

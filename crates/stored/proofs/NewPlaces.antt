@@ -8,7 +8,7 @@ use mathlib.Core.List.{List, [], ◌∷◌, ◌++◌, append_assoc}
 use lib.ListN.{length, get_or, drop, replicate}
 use lib.Dec.{eqb, ltb, leb}
 use borrow.Author.Tests.{eqb-false, lt-ltb, le-ltb, leb-true}
-use Rattle.rules.specs.Base.{◌and◌, if◌then◌else◌}
+use Rattle.rules.specs.Base.{◌and◌, when◌then◌else◌}
 use Rattle.rules.specs.File.{word}
 use Rattle.rules.specs.Stored.{Run, four_of, two, span_record, old_bytes, spread, longest_after, longest, new_fine_from, new_fine, new_runs_from, new_runs, right_from, right_numbers, unpacked}
 use Rattle.laws.proofs.Basics.{both, and_no, or_yes, if-ind}
@@ -36,29 +36,29 @@ drop_record l j o h =
 
 module _ (t s k a b c d : ℕ) (rest : List ℕ) where
   fine_five : (z : Bool) → eqb t 64 ≡ z
-      → (if z then (eqb k 7 and leb s 4294967295) and new_fine_from 0 s rest else (eqb k 6 and ltb 0 (c + 256 * d)) and new_fine_from (suc t) (s + (c + 256 * d)) rest)
-      ≡ (if z then eqb k 7 and leb s 4294967295 else eqb k 6 and ltb 0 (c + 256 * d)) and new_fine_from (runs_after t) (if z then s else s + (c + 256 * d)) rest
-  unfolding runs_after if◌then◌else◌
+      → (when z then (eqb k 7 and leb s 4294967295) and new_fine_from 0 s rest else (eqb k 6 and ltb 0 (c + 256 * d)) and new_fine_from (suc t) (s + (c + 256 * d)) rest)
+      ≡ (when z then eqb k 7 and leb s 4294967295 else eqb k 6 and ltb 0 (c + 256 * d)) and new_fine_from (runs_after t) (when z then s else s + (c + 256 * d)) rest
+  unfolding runs_after when◌then◌else◌
   fine_five true e = rw e
   fine_five false e = rw e
 
   right-five : (z : Bool) → eqb t 64 ≡ z
-      → (if z then eqb (four_of a b c d) s and right_from 0 s rest else right_from (suc t) (s + (c + 256 * d)) rest)
-      ≡ (if z then eqb (four_of a b c d) s else true) and right_from (runs_after t) (if z then s else s + (c + 256 * d)) rest
-  unfolding runs_after if◌then◌else◌ ◌and◌
+      → (when z then eqb (four_of a b c d) s and right_from 0 s rest else right_from (suc t) (s + (c + 256 * d)) rest)
+      ≡ (when z then eqb (four_of a b c d) s else true) and right_from (runs_after t) (when z then s else s + (c + 256 * d)) rest
+  unfolding runs_after when◌then◌else◌ ◌and◌
   right-five true e = rw e
   right-five false e = rw e
 
   runs_five : (z : Bool) → eqb t 64 ≡ z
-      → (if z then new_runs_from 0 rest else run (a + 256 * b) (c + 256 * d) ∷ new_runs_from (suc t) rest)
-      ≡ (if z then [] else run (a + 256 * b) (c + 256 * d) ∷ []) ++ new_runs_from (runs_after t) rest
-  unfolding runs_after if◌then◌else◌
+      → (when z then new_runs_from 0 rest else run (a + 256 * b) (c + 256 * d) ∷ new_runs_from (suc t) rest)
+      ≡ (when z then [] else run (a + 256 * b) (c + 256 * d) ∷ []) ++ new_runs_from (runs_after t) rest
+  unfolding runs_after when◌then◌else◌
   runs_five true e = rw e
   runs_five false e = rw e
 
 -- the run in a record, if it is one
 unfoldable pub record_runs : List ℕ → ℕ → ℕ → List Run
-record_runs l i t = if eqb t 64 then [] else run (word l (i + 1)) (word l (i + 3)) ∷ []
+record_runs l i t = when eqb t 64 then [] else run (word l (i + 1)) (word l (i + 3)) ∷ []
 
 module _ (l : List ℕ) (j t : ℕ) (o : length l % 5 ≡ 1) (h : j < length l / 5) where
   pub new_next : (s : ℕ) → new_fine_from t s (drop (5 * j) l) ≡ record_fine l (5 * j) t s and new_fine_from (runs_after t) (spans_after l (5 * j) t s) (drop (5 * (j + 1)) l)
@@ -78,7 +78,7 @@ module _ (l : List ℕ) (j t : ℕ) (o : length l % 5 ≡ 1) (h : j < length l /
   right_next s =
       ap (right_from t s) (drop_record l j o h)
       ∙ right-five t s (get_or l (5 * j) 0) (get_or l (5 * j + 1) 0) (get_or l (5 * j + 1 + 1) 0) (get_or l (5 * j + 3) 0) (get_or l (5 * j + 3 + 1) 0) (drop (5 * (j + 1)) l) (eqb t 64) refl
-      ∙ ap (λ v. (if eqb t 64 then eqb v s else true) and right_from (runs_after t) (if eqb t 64 then s else s + (get_or l (5 * j + 3) 0 + 256 * get_or l (5 * j + 3 + 1) 0)) (drop (5 * (j + 1)) l)) (sym long_is)
+      ∙ ap (λ v. (when eqb t 64 then eqb v s else true) and right_from (runs_after t) (when eqb t 64 then s else s + (get_or l (5 * j + 3) 0 + 256 * get_or l (5 * j + 3 + 1) 0)) (drop (5 * (j + 1)) l)) (sym long_is)
 
   pub runs_next : new_runs_from t (drop (5 * j) l) ≡ record_runs l (5 * j) t ++ new_runs_from (runs_after t) (drop (5 * (j + 1)) l)
   unfolding new_runs_from record_runs word
@@ -119,8 +119,8 @@ and_yes true = refl
 and_yes false = refl
 
 few_cases : (k v t s r : ℕ) → t ≤ 64 → s ≤ 4294967295 + 65535 * t → (z : Bool) → eqb t 64 ≡ z
-    → (if z then eqb k 7 and leb s 4294967295 else eqb k 6 and ltb 0 v) ≡ true → r ≡ (if z then s else s + v) → r ≤ s + 65535 → r ≤ 4294967295 + 65535 * (if z then 0 else suc t)
-unfolding if◌then◌else◌
+    → (when z then eqb k 7 and leb s 4294967295 else eqb k 6 and ltb 0 v) ≡ true → r ≡ (when z then s else s + v) → r ≤ s + 65535 → r ≤ 4294967295 + 65535 * (when z then 0 else suc t)
+unfolding when◌then◌else◌
 few_cases k v t s r h f true e p q w = omega (arith, leb-true s 4294967295 (both (eqb k 7) (leb s 4294967295) p).1)
 few_cases k v t s r h f false e p q w = omega arith
 
@@ -201,9 +201,9 @@ unfolding new_runs
 longest-first l = any_follows (new_runs_from 0 l)
 
 long_cases : (l : List ℕ) (i t x k : ℕ) (rs : List Run) (z : Bool) → eqb t 64 ≡ z
-    → longest_after x k ((if z then [] else run (word l (i + 1)) (word l (i + 3)) ∷ []) ++ rs)
-    ≡ (if z then true else may_follow x k (word l (i + 1))) and longest_after (if z then x else word l (i + 1)) (if z then k else word l (i + 3)) rs
-unfolding longest_after may_follow if◌then◌else◌ ◌and◌
+    → longest_after x k ((when z then [] else run (word l (i + 1)) (word l (i + 3)) ∷ []) ++ rs)
+    ≡ (when z then true else may_follow x k (word l (i + 1))) and longest_after (when z then x else word l (i + 1)) (when z then k else word l (i + 3)) rs
+unfolding longest_after may_follow when◌then◌else◌ ◌and◌
 long_cases l i t x k rs true e = refl
 long_cases l i t x k rs false e = refl
 
@@ -251,8 +251,8 @@ unfolding unpacked new_runs spans_left
 spans-first l = refl
 
 span_cases : (l : List ℕ) (i t : ℕ) (rs : List Run) (z : Bool)
-    → old_bytes (spread ((if z then [] else run (word l (i + 1)) (word l (i + 3)) ∷ []) ++ rs)) ≡ (if z then [] else run_spans l i) ++ old_bytes (spread rs)
-unfolding spread run_spans if◌then◌else◌
+    → old_bytes (spread ((when z then [] else run (word l (i + 1)) (word l (i + 3)) ∷ []) ++ rs)) ≡ (when z then [] else run_spans l i) ++ old_bytes (spread rs)
+unfolding spread run_spans when◌then◌else◌
 span_cases l i t rs true = refl
 span_cases l i t rs false = records_then (replicate (word l (i + 3)) (word l (i + 1))) (spread rs)
 
@@ -269,8 +269,8 @@ unfolding span_records span_record two
 records-length x zero = refl
 records-length x (suc k) = omega (arith, records-length x k)
 
-bytes_cases : (l : List ℕ) (i : ℕ) (z : Bool) → length (if z then [] else run_spans l i) ≡ (if z then 0 else 3 * word l (i + 3))
-unfolding run_spans if◌then◌else◌
+bytes_cases : (l : List ℕ) (i : ℕ) (z : Bool) → length (when z then [] else run_spans l i) ≡ (when z then 0 else 3 * word l (i + 3))
+unfolding run_spans when◌then◌else◌
 bytes_cases l i true = refl
 bytes_cases l i false = records-length (word l (i + 1)) (word l (i + 3))
 

@@ -6,7 +6,7 @@ use mathlib.Core.Path.{◌≡◌, refl, sym, ap, ◌∙◌}
 use mathlib.Core.List.{List, [], ◌∷◌}
 use lib.ListN.{length, set}
 use borrow.Author.Tests.{eq-eqb, ne_eqb}
-use Rattle.rules.specs.Base.{if◌then◌else◌}
+use Rattle.rules.specs.Base.{when◌then◌else◌}
 use Rattle.rules.specs.Stored.{StoredOutcome}
 use Rattle.stored.specs.Answer.{stored_number, stored_refused_by, bytes_in, outcome}
 use Rattle.stored.specs.Into.{IntoOutcome, leaves, stored_into}
@@ -37,12 +37,12 @@ pub list_done : (r : StoredAnswer) (n : ℕ) (l : List ℕ) → r ≡ Done n →
 list_done r n l e q = q ∙ sym (ap (λ v. stored_refused_by v ∷ bytes_in v ∷ []) e)
 
 pub into_other : (o : StoredOutcome) (out answer : List ℕ) → (length answer ≡ 2 → ⊥) → leaves 3 out answer ≡ stored_into o out answer
-unfolding stored_into if◌then◌else◌
+unfolding stored_into when◌then◌else◌
 into_other o out answer n = rw (ne_eqb (length answer) 2 n)
 
 pub into_done : (o : StoredOutcome) (out₀ answer₀ : List ℕ) (r : StoredAnswer) (k : ℕ) (out answer : List ℕ) → length answer₀ ≡ 2 → outcome r out ≡ o
     → k ≡ stored_refused_by r → answer ≡ stored_refused_by r ∷ bytes_in r ∷ [] → leaves k out answer ≡ stored_into o out₀ answer₀
-unfolding stored_into if◌then◌else◌
+unfolding stored_into when◌then◌else◌
 into_done o out₀ answer₀ r k out answer e p q a =
     rw (eq-eqb (length answer₀) 2 e)
     (ap (λ z. leaves z out answer) q ∙ ap (leaves (stored_refused_by r) out) a ∙ ap (λ v. leaves v.refused v.out (v.refused ∷ v.long ∷ [])) p)

@@ -9,7 +9,7 @@ use lib.ListN.{length, get_or, drop, replicate, length-append, length-replicate,
 use lib.Seq.{drop-cons}
 use lib.Dec.{eqb, leb}
 use borrow.Author.Tests.{eqb-true, eqb-false, eq-eqb, le-leb}
-use Rattle.rules.specs.Base.{◌and◌, if◌then◌else◌}
+use Rattle.rules.specs.Base.{◌and◌, when◌then◌else◌}
 use Rattle.rules.specs.File.{word}
 use Rattle.rules.specs.Stored.{Run, old_fine, old_ids, joins, runs_from, runs_of, spread, run_record, mark_record, new_from, new_bytes, marks_fit, packed}
 use Rattle.laws.proofs.Basics.{both, and_both, if-ind}
@@ -106,14 +106,14 @@ unfolding old_ids
 ids_end l i o h g = ap old_ids (drop-last l (3 * i) (omega arith))
 
 run_cases : (x k t s : ℕ) (rs : List Run) (b : Bool) → eqb (suc t) 64 ≡ b
-    → run_record x k ++ (if b then mark_record s ++ new_from 0 s rs else new_from (suc t) s rs) ≡ run_then x k t s ++ new_from (next_run t) s rs
-unfolding run_then next_run if◌then◌else◌
+    → run_record x k ++ (when b then mark_record s ++ new_from 0 s rs else new_from (suc t) s rs) ≡ run_then x k t s ++ new_from (next_run t) s rs
+unfolding run_then next_run when◌then◌else◌
 run_cases x k t s rs true e = rw e (sym (append_assoc (run_record x k) (mark_record s) (new_from 0 s rs)))
 run_cases x k t s rs false e = rw e (sym (append_assoc (run_record x k) [] (new_from (suc t) s rs)))
 
 fits_cases : (t s : ℕ) (rs : List Run) (b : Bool) → eqb (suc t) 64 ≡ b
-    → (if b then leb s 4294967295 and marks_fit 0 s rs else marks_fit (suc t) s rs) ≡ mark_fits t s and marks_fit (next_run t) s rs
-unfolding mark_fits next_run if◌then◌else◌ ◌and◌
+    → (when b then leb s 4294967295 and marks_fit 0 s rs else marks_fit (suc t) s rs) ≡ mark_fits t s and marks_fit (next_run t) s rs
+unfolding mark_fits next_run when◌then◌else◌ ◌and◌
 fits_cases t s rs true e = rw e
 fits_cases t s rs false e = rw e
 
@@ -127,9 +127,9 @@ unfolding marks_fit
 fits_then x k t s rs = fits_cases t (s + k) rs (eqb (suc t) 64) refl
 
 from_cases : (x k y t i : ℕ) (ys : List ℕ) → k ≤ i → (b : Bool) → joins x k y ≡ b
-    → new_from t (i - k) (if b then runs_from x (suc k) ys else run x k ∷ runs_from y 1 ys)
+    → new_from t (i - k) (when b then runs_from x (suc k) ys else run x k ∷ runs_from y 1 ys)
     ≡ ended x k y t i ++ new_from (turned x k y t) (i + 1 - grown x k y) (runs_from y (grown x k y) ys)
-unfolding ended turned grown if◌then◌else◌
+unfolding ended turned grown when◌then◌else◌
 from_cases x k y t i ys le true e =
     let n : i + 1 - suc k ≡ i - k = omega arith in
     rw e (ap (λ z. new_from t (i - k) (runs_from z (suc k) ys)) (joined x k y e).0 ∙ ap (λ z. new_from t z (runs_from y (suc k) ys)) (sym n))
@@ -140,9 +140,9 @@ from_cases x k y t i ys le false e =
     ∙ ap (λ z. run_then x k t i ++ new_from (next_run t) z (runs_from y 1 ys)) m)
 
 fit_cases : (x k y t i : ℕ) (ys : List ℕ) → k ≤ i → (b : Bool) → joins x k y ≡ b
-    → marks_fit t (i - k) (if b then runs_from x (suc k) ys else run x k ∷ runs_from y 1 ys)
+    → marks_fit t (i - k) (when b then runs_from x (suc k) ys else run x k ∷ runs_from y 1 ys)
     ≡ end_fits x k y t i and marks_fit (turned x k y t) (i + 1 - grown x k y) (runs_from y (grown x k y) ys)
-unfolding end_fits turned grown if◌then◌else◌ ◌and◌
+unfolding end_fits turned grown when◌then◌else◌ ◌and◌
 fit_cases x k y t i ys le true e =
     let n : i + 1 - suc k ≡ i - k = omega arith in
     rw e (ap (λ z. marks_fit t (i - k) (runs_from z (suc k) ys)) (joined x k y e).0 ∙ ap (λ z. marks_fit t z (runs_from y (suc k) ys)) (sym n))

@@ -10,7 +10,7 @@ use lib.ListN.{drop_of_length-le, length, get_or, take, drop, length-drop}
 use lib.Seq.{drop-cons, drop-drop, take-length}
 use lib.Dec.{ltb}
 use borrow.Author.Tests.{eq-eqb, ne_eqb, lt-ltb, le-ltb}
-use Rattle.rules.specs.Base.{◌or◌, if◌then◌else◌, any}
+use Rattle.rules.specs.Base.{◌or◌, when◌then◌else◌, any}
 use Rattle.rules.specs.Merge.{place}
 use Rattle.rules.specs.Records.{has}
 use Rattle.laws.proofs.Basics.{any_more, any_past}
@@ -26,18 +26,18 @@ unfolding any ◌or◌
 has-head l v = rw (eq-eqb v v refl)
 
 pub place_other : (x : ℕ) (l : List ℕ) (v : ℕ) → (x ≡ v → ⊥) → place (x ∷ l) v ≡ suc (place l v)
-unfolding place if◌then◌else◌
+unfolding place when◌then◌else◌
 place_other x l v h = rw (ne_eqb x v h)
 
 pub place-first : (x : ℕ) (l : List ℕ) (v : ℕ) → x ≡ v → place (x ∷ l) v ≡ 0
-unfolding place if◌then◌else◌
+unfolding place when◌then◌else◌
 place-first x l v h = rw (eq-eqb x v h)
 
 -- ---- its first place
 
 -- entries without r are passed over
 pub place_past : (k : ℕ) (l : List ℕ) (r : ℕ) → k ≤ length l → has (take k l) r ≡ false → place l r ≡ k + place (drop k l) r
-unfolding place any ◌or◌ if◌then◌else◌
+unfolding place any ◌or◌ when◌then◌else◌
 place_past zero l r h e = omega arith
 place_past (suc k) [] r h e = absurd (omega arith)
 place_past (suc k) (x ∷ l) r h e =
@@ -54,13 +54,13 @@ module _ (l : List ℕ) (r i : ℕ) (e : place l r ≡ i + place (drop i l) r) w
       omega (arith, e, z ∙ ap (λ m. 16 + place m r) (drop-drop 16 i l))
 
   pub place_here : i < length l → get_or l i 0 ≡ r → i ≡ place l r
-  unfolding place if◌then◌else◌
+  unfolding place when◌then◌else◌
   place_here h q =
       let z : place (drop i l) r ≡ 0 = rw (drop-cons l i 0 h, eq-eqb _ _ q) refl in
       omega arith
 
   pub place_next : i < length l → (get_or l i 0 ≡ r → ⊥) → place l r ≡ (i + 1) + place (drop (i + 1) l) r
-  unfolding place if◌then◌else◌
+  unfolding place when◌then◌else◌
   place_next h q =
       let z : place (drop i l) r ≡ suc (place (drop (i + 1) l) r) = rw (drop-cons l i 0 h, ne_eqb (get_or l i 0) r q, add-one i) refl in
       omega arith
@@ -77,7 +77,7 @@ module _ (l : List ℕ) (r i : ℕ) (e : place l r ≡ i + place (drop i l) r) w
       omega (arith, e, q ∙ ap (λ m. place m r) z)
 
 pub place-within : (l : List ℕ) (r : ℕ) → place l r ≤ length l
-unfolding place if◌then◌else◌
+unfolding place when◌then◌else◌
 place-within [] r = omega arith
 place-within (x ∷ l) r = elim (ℕ_discrete x r) [
   | yes q ↦ rw (place-first x l r q) (omega arith)
@@ -86,7 +86,7 @@ place-within (x ∷ l) r = elim (ℕ_discrete x r) [
 
 -- before it stands something else
 pub place_before : (l : List ℕ) (r j : ℕ) → j < place l r → get_or l j 0 ≡ r → ⊥
-unfolding place if◌then◌else◌
+unfolding place when◌then◌else◌
 place_before [] r j h e = omega arith
 place_before (x ∷ l) r zero h e = omega (arith, place-first x l r e)
 place_before (x ∷ l) r (suc j) h e = elim (ℕ_discrete x r) [
@@ -96,7 +96,7 @@ place_before (x ∷ l) r (suc j) h e = elim (ℕ_discrete x r) [
 
 -- and there it stands, if it is there
 pub place-holds : (l : List ℕ) (r : ℕ) → place l r < length l → get_or l (place l r) 0 ≡ r
-unfolding place if◌then◌else◌
+unfolding place when◌then◌else◌
 place-holds [] r h = absurd (omega arith)
 place-holds (x ∷ l) r h = elim (ℕ_discrete x r) [
   | yes q ↦ rw (place-first x l r q) q

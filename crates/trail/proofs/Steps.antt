@@ -9,7 +9,7 @@ use mathlib.Core.List.{List, [], ◌∷◌, ◌++◌, append_assoc}
 use lib.ListN.{length, get_or, set, take, drop, length-append, take-append-drop}
 use lib.Seq.{set_split, length-take-le, take_at, drop_at, drop-drop}
 use borrow.Author.Tests.{eq-eqb, ne_eqb}
-use Rattle.rules.specs.Base.{if◌then◌else◌}
+use Rattle.rules.specs.Base.{when◌then◌else◌}
 use Rattle.rules.specs.Reasons.{Merging, trail}
 use Rattle.trail.specs.Noted.{mergings_from}
 use Rattle.trail.specs.Steps.{left, reached, Follows, Followed}
@@ -17,16 +17,16 @@ use Rattle.trail.specs.Steps.{left, reached, Follows, Followed}
 -- ---------------------------------------------------------------- along a list of merges
 
 left_hit : (x : Merging) (xs : List Merging) (r : ℕ) → x.old ≡ r → (left (x ∷ xs) r ≡ r ∷ left xs x.new) × (reached (x ∷ xs) r ≡ reached xs x.new)
-unfolding left reached if◌then◌else◌
+unfolding left reached when◌then◌else◌
 left_hit x xs r e = (rw (eq-eqb x.old r e), rw (eq-eqb x.old r e))
 
 left_miss : (x : Merging) (xs : List Merging) (r : ℕ) → (x.old ≡ r → ⊥) → (left (x ∷ xs) r ≡ left xs r) × (reached (x ∷ xs) r ≡ reached xs r)
-unfolding left reached if◌then◌else◌
+unfolding left reached when◌then◌else◌
 left_miss x xs r e = (rw (ne_eqb x.old r e), rw (ne_eqb x.old r e))
 
 -- the ids left, and then the id reached
 pub trail_is : (ms : List Merging) (r : ℕ) → trail ms r ≡ left ms r ++ (reached ms r ∷ [])
-unfolding trail left reached if◌then◌else◌
+unfolding trail left reached when◌then◌else◌
 trail_is [] r = refl
 trail_is (x ∷ xs) r = elim (ℕ_discrete x.old r) [
   | yes e ↦ rw (eq-eqb x.old r e) (ap (λ (l : List ℕ). r ∷ l) (trail_is xs x.new))

@@ -9,7 +9,7 @@ use lib.ListN.{length, get_or, take, drop, replicate}
 use lib.Seq.{take_at}
 use lib.Dec.{ltb, eqb}
 use borrow.Author.Tests.{eq-eqb, ne_eqb, eqb-true, eqb-false, ltb-true, lt-ltb, le-ltb, le-leb, lt-leb, not-true, not-false}
-use Rattle.rules.specs.Base.{if◌then◌else◌}
+use Rattle.rules.specs.Base.{when◌then◌else◌}
 use Rattle.rules.specs.Field.{Field, none, spans}
 use Rattle.rules.specs.Refusals.{refusal, region_refusal}
 use Rattle.rules.specs.Growth.{grown, stops}
@@ -38,7 +38,7 @@ module _ (F : Field) (own work : ℕ) (dist : List ℕ) (most s : ℕ) (v : Verd
   first = region_refusal F (length dist ∷ own ∷ []) work dist most
 
   pub explain_refused : (r : Refusal) → v ≡ verdict.Refused r → (k : ℕ) → k ≡ number_of r → k ≡ explain_refusal F own work dist most s
-  unfolding explain_refusal if◌then◌else◌
+  unfolding explain_refusal when◌then◌else◌
   explain_refused r y k q =
       let n : number_of r ≡ first = ap verdict_number (sym y) ∙ e in
       let f : not (eqb first 0) ≡ true = rw (ne_eqb first 0 (λ z. omega (arith, number_pos r))) refl in
@@ -49,11 +49,11 @@ module _ (F : Field) (own work : ℕ) (dist : List ℕ) (most s : ℕ) (v : Verd
     passes = rw (eq-eqb first 0 (sym e ∙ ap verdict_number y)) refl
 
     pub explain_passes : s < spans F → 0 ≡ explain_refusal F own work dist most s
-    unfolding explain_refusal if◌then◌else◌
+    unfolding explain_refusal when◌then◌else◌
     explain_passes h = rw (passes, lt-ltb s (spans F) h)
 
     pub explain_no_span : spans F ≤ s → 14 ≡ explain_refusal F own work dist most s
-    unfolding explain_refusal if◌then◌else◌
+    unfolding explain_refusal when◌then◌else◌
     explain_no_span h = rw (passes, le-ltb s (spans F) h)
 
 -- ---------------------------------------------------------------- the reason
@@ -72,27 +72,27 @@ module _ (F : Field) (dist : List ℕ) (most : ℕ) (z : Sizes) (s : ℕ) where
   number = get_or (formed dense (regions F z.least z.merge (grown F dist most z.border).ids (grown F dist most z.border).next)).ids s 0
 
   pub not-walkable : get_or F.area s 256 ≡ 0 → reason_of F dist most z s ≡ not_walkable
-  unfolding reason_of if◌then◌else◌
+  unfolding reason_of when◌then◌else◌
   not-walkable a = rw (eq-eqb _ _ a)
 
   module _ (a : get_or F.area s 256 ≡ 0 → ⊥) where
     pub painted : 0x8000 ≤ grown_id → reason_of F dist most z s ≡ painted_by (grown_id - 0x8000)
-    unfolding reason_of if◌then◌else◌
+    unfolding reason_of when◌then◌else◌
     painted p = rw (ne_eqb _ _ a, le-leb 0x8000 grown_id p)
 
     module _ (p : grown_id < 0x8000) where
       pub never_reached_lem : grown_id ≡ 0 → reason_of F dist most z s ≡ never_reached
-      unfolding reason_of if◌then◌else◌
+      unfolding reason_of when◌then◌else◌
       never_reached_lem r = rw (ne_eqb _ _ a, lt-leb 0x8000 grown_id p, eq-eqb _ _ r)
 
       module _ (r : grown_id ≡ 0 → ⊥) where
         pub filtered_out_lem : (at kept grown_id).id ≡ 0 → reason_of F dist most z s ≡ filtered_out (gone_with z.least grown_id (length recs) recs) z.least
-        unfolding reason_of if◌then◌else◌
+        unfolding reason_of when◌then◌else◌
         filtered_out_lem k = rw (ne_eqb _ _ a, lt-leb 0x8000 grown_id p, ne_eqb _ _ r, eq-eqb _ _ k)
 
         pub has_room : ((at kept grown_id).id ≡ 0 → ⊥)
             → reason_of F dist most z s ≡ room_reason grown_id (story F dist most z.border s).from (trail (mergings z.merge (suc (length kept)) kept []) grown_id) number
-        unfolding reason_of room_reason if◌then◌else◌
+        unfolding reason_of room_reason when◌then◌else◌
         has_room k = rw (ne_eqb _ _ a, lt-leb 0x8000 grown_id p, ne_eqb _ _ r, ne_eqb _ _ k)
 
 -- the same of the grown ids as the code has them
@@ -161,11 +161,11 @@ module _ (n : ℕ) (y : Story) where
 
   module _ (id a long k : ℕ) (t : List ℕ) (e : long ≡ length t) where
     pub tells_flooded : a ≡ none → with_room 5 0 id long k y (t ++ replicate (n - length t) 0) ≡ explains n (room_reason id a t k) y 0
-    unfolding with_room explains room_reason if◌then◌else◌
+    unfolding with_room explains room_reason when◌then◌else◌
     tells_flooded h = rw (eq-eqb a none h, e) refl
 
     pub tells_expanded : (a ≡ none → ⊥) → with_room 6 a id long k y (t ++ replicate (n - length t) 0) ≡ explains n (room_reason id a t k) y 0
-    unfolding with_room explains room_reason if◌then◌else◌
+    unfolding with_room explains room_reason when◌then◌else◌
     tells_expanded h = rw (ne_eqb a none h, e) refl
 
 -- ---------------------------------------------------------------- the outcome
@@ -210,19 +210,19 @@ module _ (F : Field) (dist : List ℕ) (most : ℕ) (z : Sizes) (s : ℕ) (ws l 
   before = region_refusal F (length dist ∷ length l ∷ []) (length ws) dist most
 
   pub outcome_refused : (k : ℕ) → k ≡ own → (k ≡ 0 → ⊥) → (o : ExplainOutcome) → o ≡ unexplained k ws l → o ≡ explain_outcome F dist most z s ws l
-  unfolding explain_outcome if◌then◌else◌
+  unfolding explain_outcome when◌then◌else◌
   outcome_refused k e h o u =
       let f : not (eqb own 0) ≡ true = rw (ne_eqb own 0 (λ y. h (e ∙ y))) refl in
       rw f (u ∙ rw e refl)
 
   pub outcome-told : (k : ℕ) → k ≡ own → k ≡ 0 → (o : ExplainOutcome) → Explains F dist most z s (length ws) l o → o ≡ explain_outcome F dist most z s ws l
-  unfolding explain_outcome if◌then◌else◌
+  unfolding explain_outcome when◌then◌else◌
   outcome-told k e h o u =
       let f : not (eqb own 0) ≡ false = rw (eq-eqb own 0 (sym e ∙ h)) refl in
       rw f (either (stops F dist most z.border) refl)
     where
       either : (stop : ℕ) → stop ≡ stops F dist most z.border
-          → o ≡ (if not (eqb (stops F dist most z.border) 0) then unexplained (stops F dist most z.border) (replicate (length ws) 0) l
+          → o ≡ (when not (eqb (stops F dist most z.border) 0) then unexplained (stops F dist most z.border) (replicate (length ws) 0) l
           else explains (spans F) (reason_of F dist most z s) (story F dist most z.border s) (length ws))
       either zero p =
           let g : not (eqb (stops F dist most z.border) 0) ≡ false = rw (eq-eqb (stops F dist most z.border) 0 (sym p)) refl in

@@ -7,7 +7,7 @@ use mathlib.Core.Bool.{Bool, true, false}
 use mathlib.Core.List.{List}
 use lib.Dec.{ltb, eqb}
 use borrow.Author.Tests.{lt-ltb, le-ltb, eq-eqb, ne_eqb}
-use Rattle.rules.specs.Base.{◌or◌, if◌then◌else◌, any}
+use Rattle.rules.specs.Base.{◌or◌, when◌then◌else◌, any}
 use Rattle.rules.specs.Field.{Field, spans}
 use Rattle.rules.specs.Refusals.{refusal, too_short, too_far, region_refusal, most_spans}
 use Rattle.checker.specs.Answer.{number_of, verdict_number}
@@ -34,26 +34,26 @@ few_spans F lens v e z = (reached_of F lens (sym e ∙ ap verdict_number z)).cel
 
 module _ (short far : Bool) where
   pub own_seven : short ≡ true → 7 ≡ own_refusal short far
-  unfolding own_refusal if◌then◌else◌
+  unfolding own_refusal when◌then◌else◌
   own_seven e = rw e
 
   pub own_eight : short ≡ false → far ≡ true → 8 ≡ own_refusal short far
-  unfolding own_refusal if◌then◌else◌
+  unfolding own_refusal when◌then◌else◌
   own_eight e f = rw (e, f)
 
   pub own_none : short ≡ false → far ≡ false → 0 ≡ own_refusal short far
-  unfolding own_refusal if◌then◌else◌
+  unfolding own_refusal when◌then◌else◌
   own_none e f = rw (e, f)
 
 -- 7 after 1 to 6 have passed
 pub short_seven : (F : Field) (lens : List ℕ) (work : ℕ) (dist : List ℕ) (most : ℕ) → refusal F lens ≡ 0 → work < 128 * spans F + 4096
     → 7 ≡ region_refusal F lens work dist most
-unfolding region_refusal if◌then◌else◌ too_short
+unfolding region_refusal when◌then◌else◌ too_short
 short_seven F lens work dist most e h = rw (eq-eqb (refusal F lens) 0 e, lt-ltb work (128 * spans F + 4096) h)
 
 module _ (F : Field) (lens : List ℕ) (work : ℕ) (dist : List ℕ) (most : ℕ) (v : Verdict) (e : verdict_number v ≡ refusal F lens) where
   pub first_refused : (r : Refusal) → v ≡ verdict.Refused r → number_of r ≡ region_refusal F lens work dist most
-  unfolding region_refusal if◌then◌else◌
+  unfolding region_refusal when◌then◌else◌
   first_refused r z =
       let n : number_of r ≡ refusal F lens = ap verdict_number (sym z) ∙ e in
       rw (ne_eqb (refusal F lens) 0 (λ k. omega (arith, number_pos r))) n
@@ -64,5 +64,5 @@ module _ (F : Field) (lens : List ℕ) (work : ℕ) (dist : List ℕ) (most : �
 
     pub then_own : (short far : Bool) → short ≡ ltb work (128 * spans F + 4096) → far ≡ too_far dist most → (u : Verdict) → verdict_number u ≡ own_refusal short far
         → verdict_number u ≡ region_refusal F lens work dist most
-    unfolding region_refusal if◌then◌else◌ too_short own_refusal
+    unfolding region_refusal when◌then◌else◌ too_short own_refusal
     then_own short far p q u h = h ∙ rw (none, p, q)

@@ -5,7 +5,7 @@ use native.Mathlib.Omega.{arith}
 use mathlib.Core.Path.{◌≡◌, refl, sym, ap, ◌∙◌}
 use mathlib.Core.List.{List, [], ◌∷◌, map}
 use borrow.Author.Tests.{eq-eqb, ne_eqb, leb-true, leb-false}
-use Rattle.rules.specs.Base.{if◌then◌else◌}
+use Rattle.rules.specs.Base.{when◌then◌else◌}
 use Rattle.rules.specs.Growth.{flagged, first_id}
 use Rattle.rules.specs.Numbering.{Regions}
 use Rattle.laws.proofs.Basics.{if-ind}
@@ -16,11 +16,11 @@ use Rattle.watershed.specs.declared.form.Form.TheVariants.{Dense, Compared}
 
 module _ (b : ℕ) where
   pub first-without : b ≡ 0 → 1 ≡ first_id b
-  unfolding first_id if◌then◌else◌
+  unfolding first_id when◌then◌else◌
   first-without e = rw (eq-eqb b 0 e)
 
   pub first-with : (b ≡ 0 → ⊥) → 5 ≡ first_id b
-  unfolding first_id if◌then◌else◌
+  unfolding first_id when◌then◌else◌
   first-with e = rw (ne_eqb b 0 e)
 
 module _ (d r : ℕ) where

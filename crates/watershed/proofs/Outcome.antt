@@ -8,7 +8,7 @@ use mathlib.Core.List.{List, [], ◌∷◌}
 use lib.ListN.{length}
 use lib.Dec.{eqb}
 use borrow.Author.Tests.{eq-eqb, ne_eqb}
-use Rattle.rules.specs.Base.{if◌then◌else◌}
+use Rattle.rules.specs.Base.{when◌then◌else◌}
 use Rattle.rules.specs.Field.{Field}
 use Rattle.rules.specs.Refusals.{refusal}
 use Rattle.rules.specs.Distance.{raw, greatest, blur}
@@ -29,7 +29,7 @@ use Rattle.watershed.specs.Answer.{refused_by, most_in, Answers}
 
 module _ (F : Field) (l m : List ℕ) (v : Verdict) (e : verdict_number v ≡ refusal F (length l ∷ length m ∷ [])) where
   pub refused_out : (r : Refusal) → v ≡ verdict.Refused r → Answers (distance_outcome F l m) (Refused r) l m
-  unfolding distance_outcome if◌then◌else◌
+  unfolding distance_outcome when◌then◌else◌
   refused_out r z =
       let n : number_of r ≡ refusal F (length l ∷ length m ∷ []) = ap verdict_number (sym z) ∙ e in
       let f : eqb (refusal F (length l ∷ length m ∷ [])) 0 ≡ false = ne_eqb (refusal F (length l ∷ length m ∷ [])) 0 (λ k. omega (arith, number_pos r)) in
@@ -43,7 +43,7 @@ module _ (F : Field) (l m : List ℕ) (v : Verdict) (e : verdict_number v ≡ re
     sound_reached = reached_of F (length l ∷ length m ∷ []) none
 
     pub done_out : (x y : List ℕ) (k : ℕ) → x ≡ raw F → y ≡ blur F x → k ≡ greatest x → Answers (distance_outcome F l m) (Done k) x y
-    unfolding distance_outcome if◌then◌else◌
+    unfolding distance_outcome when◌then◌else◌
     done_out x y k p q g =
         let f : eqb (refusal F (length l ∷ length m ∷ [])) 0 ≡ true = eq-eqb (refusal F (length l ∷ length m ∷ [])) 0 none in
         record { refused = rw f; most = rw (f, ← p) g; raw = rw f p; blurred = rw (f, ← p) q }

@@ -10,7 +10,7 @@ use mathlib.Core.List.{List, [], ◌∷◌}
 use lib.ListN.{length, replicate}
 use lib.Dec.{eqb}
 use borrow.Author.Tests.{eq-eqb, ne_eqb}
-use Rattle.rules.specs.Base.{if◌then◌else◌}
+use Rattle.rules.specs.Base.{when◌then◌else◌}
 use Rattle.rules.specs.Field.{Field, Bytes, spans}
 use Rattle.rules.specs.Refusals.{region_refusal}
 use Rattle.rules.specs.Growth.{first_id, grown, stops}
@@ -56,7 +56,7 @@ admitted_by F dist most ws ids none =
 module _ (F : Field) (dist : List ℕ) (most : ℕ) (ws ids : List ℕ) (v : Verdict)
     (e : verdict_number v ≡ region_refusal F (length dist ∷ length ids ∷ []) (length ws) dist most) where
   pub regions_refused : (form : Form) (z : Sizes) (r : Refusal) → v ≡ verdict.Refused r → AnswersRegions (region_outcome form F dist most z ws ids) (Refused r) ws ids
-  unfolding region_outcome if◌then◌else◌
+  unfolding region_outcome when◌then◌else◌
   regions_refused form z r y =
       let n : number_of r ≡ region_refusal F (length dist ∷ length ids ∷ []) (length ws) dist most = ap verdict_number (sym y) ∙ e in
       let f : not (eqb (region_refusal F (length dist ∷ length ids ∷ []) (length ws) dist most) 0) ≡ true
@@ -80,7 +80,7 @@ module _ (F : Field) (dist : List ℕ) (most : ℕ) (ws ids : List ℕ) (v : Ver
       stop_is o = rw g.stops (⊎_elim (λ (e : stops F dist most z.border ≡ 0). absurd (o (g.stops ∙ e))) (λ e. e) (stop_number F dist most z.border))
 
       pub regions_stopped : (form : Form) (r : Refusal) → number_of r ≡ stop → (stop ≡ 0 → ⊥) → AnswersRegions (region_outcome form F dist most z ws ids) (Refused r) ws' v₁.ids
-      unfolding region_outcome if◌then◌else◌
+      unfolding region_outcome when◌then◌else◌
       regions_stopped form r e o =
           let p : not (eqb (stops F dist most z.border) 0) ≡ true = rw (ne_eqb (stops F dist most z.border) 0 (λ k. o (g.stops ∙ k))) refl in
           record {
@@ -95,7 +95,7 @@ module _ (F : Field) (dist : List ℕ) (most : ℕ) (ws ids : List ℕ) (v : Ver
       -- and what the form makes of it, s, where it is not
       pub regions_done : (form : Form) (k o u : ℕ) (ids' : List ℕ) → stop ≡ 0 → Bytes F → record { ids = ids'; most = k; over = o; cut = u } ≡ shifted form (first_id z.border) v₁
           → AnswersRegions (region_outcome form F dist most z ws ids) (Done k o u) ws' ids'
-      unfolding region_outcome if◌then◌else◌
+      unfolding region_outcome when◌then◌else◌
       regions_done form k o u ids' y bytes s =
           let goes : stops F dist most z.border ≡ 0 = sym g.stops ∙ y in
           let rooms = entry_rooms F (length dist ∷ length ids ∷ []) (length ws) dist most none bytes z.border z.least z.merge goes in

@@ -1,6 +1,6 @@
 -- What `explain_span` gives, as the rules have it, and what its stages hand on.
 use Rattle.std.specs.Prelude.{ℕ, ◌<◌, ◌≡◌, List, [], ◌∷◌, length, get_or, replicate, eqb}
-use Rattle.rules.specs.Base.{if◌then◌else◌}
+use Rattle.rules.specs.Base.{when◌then◌else◌}
 use Rattle.rules.specs.Field.{Field, none, spans}
 use Rattle.rules.specs.Net.{net_of}
 use Rattle.rules.specs.Refusals.{region_refusal}
@@ -68,7 +68,7 @@ with_room reason from id long number y l = record {
 }
 
 unfoldable pub room_reason : ℕ → ℕ → List ℕ → ℕ → Reason
-room_reason r a t k = if eqb a none then flooded r t k else expanded r a t k
+room_reason r a t k = when eqb a none then flooded r t k else expanded r a t k
 
 -- growth is done, and nothing stopped it: the rule's ids and next id, zeros where it worked, the field's net in the table, and span s's story
 pub record Grown (F : Field) (dist : List ℕ) (most border table s next : ℕ) (y : Story) (ids ws : List ℕ) : Type 0 where

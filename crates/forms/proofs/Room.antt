@@ -41,15 +41,15 @@ given_cases P r t out₀ f g h =
 
 -- "24 no room (exactly when the output would exceed the list lent ..)", of a file that is not refused itself
 pub record NoRoom (r : ℕ) (t out₀ : List ℕ) (o : StoredOutcome) : Type 0 where
-  pub when : r ≡ 0 → length out₀ < length t → o.refused ≡ 24
+  pub given : r ≡ 0 → length out₀ < length t → o.refused ≡ 24
   pub only : o.refused ≡ 24 → (r ≡ 24 → ⊥) → (r ≡ 0) × (length out₀ < length t)
 
 pub room_exactly : (r : ℕ) (t out₀ : List ℕ) → NoRoom r t out₀ (given_out r t out₀)
 room_exactly r t out₀ =
     given_cases (NoRoom r t out₀) r t out₀
-    (λ n. record { when = λ e l. absurd (n e); only = λ e f. absurd (f e) })
-    (λ z l. record { when = λ e k. refl; only = λ e f. (z, l) })
-    (λ z l. record { when = λ e k. absurd (omega arith); only = λ e f. absurd (omega arith) })
+    (λ n. record { given = λ e l. absurd (n e); only = λ e f. absurd (f e) })
+    (λ z l. record { given = λ e k. refl; only = λ e f. (z, l) })
+    (λ z l. record { given = λ e k. absurd (omega arith); only = λ e f. absurd (omega arith) })
 
 -- "nothing is written then", and places past the output keep what they held
 pub record Kept (out₀ : List ℕ) (o : StoredOutcome) : Type 0 where

@@ -15,7 +15,7 @@ use Rattle.rules.specs.Refusals.{most_spans}
 use Rattle.laws.proofs.Lengths.{painted-length}
 use Rattle.laws.proofs.Grows.{first_few}
 use Rattle.rooms.proofs.Growing.{painted_grow}
-use Rattle.space.specs.Space.{Frame}
+use Rattle.space.specs.Space.{Frame, Clear}
 use Rattle.space.proofs.Laws.{get_or_before, get_d_after}
 use Rattle.field.specs.Lent.{lent, Reached}
 use Rattle.field.proofs.Passed.{sound_reached}
@@ -122,6 +122,28 @@ module _ (w h : ℕ) (is ks ar cs dist : List ℕ) (b most border : ℕ) (ids ws
   unfolding tells_of story
   rule_story s y q table tb = let e : 2 * turns_for most / 2 ≡ turns_for most = omega arith in rw (tb, q, m, marks₁, r, e)
 
+  pub full : (table next stop : ℕ) (ids₂ ws₂ ws₃ : List ℕ) → table ≡ b → Grew ar dist table most first ids₁ ws₁ next stop ids₂ ws₂ → length ws₃ ≡ length ws₂ → length ws₂ ≡ length ws₁
+      → Clear 0 (length ar) ws₃ → Frame 0 (length ar) ws₂ ws₃ → Full G dist most border b ws next stop ids₂ ws₃
+  full table next stop ids₂ ws₂ ws₃ tb g₀ s₃ s₂ z y =
+      let g : Grew ar dist b most first ids₁ ws₁ next stop ids₂ ws₂ = rw tb at g₀ in
+      record {
+        after = λ x l. get_d_after x y (omega (arith, p.past)) ∙ g.past x (omega (arith, p.past)) ∙ get_d_after x f l;
+        stops = g.stops ∙ rule_stops;
+        ids = λ o. ap (λ (v : Marks). v.ids) (g.marks o) ∙ rule_ids;
+        id = λ o. g.id o ∙ rule_next;
+        clear = λ o. record {
+          blank = λ x l u. elim (dec_lt x (length ar)) [
+            | yes k ↦ z.blank x l k
+            | no k ↦ get_d_after x y (omega arith) ∙ elim (dec_lt x (9 * length ar)) [
+              | yes j ↦ (g.stacks o).blank x (omega arith) j
+              | no j ↦ g.past x (omega arith) ∙ zero₁ x u
+            ]
+          ];
+        };
+        net = λ o. net_same b ar ws₁ ws₃ (omega (arith, p.room, size)) (s₃ ∙ s₂) (λ x l. get_d_after x y (omega (arith, p.past)) ∙ g.past x (omega (arith, p.past))) ∙ m;
+      }
+
+  -- of what is handed on (Settled)
   module _ (table next stop : ℕ) (ids₂ ws₂ : List ℕ) (tb : table ≡ b) (g₀ : Grew ar dist table most first ids₁ ws₁ next stop ids₂ ws₂) (s₂ : length ws₂ ≡ length ws₁)
       (n₂ : length ids₂ ≡ length ids₁) (s : ℕ) (y₂ : Story) (next₃ stop₃ : ℕ) (y₃ : Story) (ids₃ ws₃ : List ℕ) (s₃ : length ws₃ ≡ length ws₂)
       (t : Settled s next stop y₂ ids₂ ws₂ next₃ stop₃ y₃ ids₃ ws₃) where
@@ -162,5 +184,5 @@ module _ (w h : ℕ) (is ks ar cs dist : List ℕ) (b most border : ℕ) (ids ws
           net = net_same b ar ws₁ ws₃ (omega (arith, p.room, size)) (s₃ ∙ s₂) (λ x l. past₃ x (omega (arith, p.past))) ∙ m;
         }
 
-    pub full : Full G dist most border b ws next₃ stop₃ ids₃ ws₃
-    full = record { after = whole.after; stops = whole.stops; ids = whole.ids; id = whole.id; clear = λ _. whole.clear; net = λ _. whole.net }
+    pub full_settled : Full G dist most border b ws next₃ stop₃ ids₃ ws₃
+    full_settled = record { after = whole.after; stops = whole.stops; ids = whole.ids; id = whole.id; clear = λ _. whole.clear; net = λ _. whole.net }

@@ -13,7 +13,7 @@ print_first-requires c = (
     spans₂ = omega (arith, c.read_file.auto.con, c.requires.0.spans₂);
   },
   c.requires.1,
-  file_few _ c.read_file.ensures.few _ _ c.head-1.given.1,
+  file_few _ c.read_file.ensures.few _ _ c.in-Described.is,
 )
 
 pub returns-in-Refused : goal.returns-in-Refused

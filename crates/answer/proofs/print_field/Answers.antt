@@ -8,4 +8,4 @@ returns-in-Refused c = search (rules, ran_refused)
 
 pub returns-in-Done : goal.returns-in-Done
 returns-in-Done c = ran_done _ _ _ _ _ _ c.requires.1.raws c.requires.1.blurs c.requires.1.work c.requires.0.idents c.build_distance_field.result _ _ c.build_distance_field.ensures.fact _
-    c.m-1.given.1 _ _ _ c.print_regions.ensures
+    c.in-Done.is _ _ _ c.print_regions.ensures

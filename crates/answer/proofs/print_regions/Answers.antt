@@ -4,7 +4,7 @@ use borrow.Author.Rules.{rules}
 use Rattle.answer.proofs.print_regions.Goals as goal
 
 pub write_listing-requires : goal.write_listing-requires
-write_listing-requires c = listable _ _ _ _ _ _ _ _ _ _ _ _ _ _ c.build_regions.result _ _ _ c.requires c.build_regions.ensures.fact c.m-1.given.1 c.build_regions.auto.ids
+write_listing-requires c = listable _ _ _ _ _ _ _ _ _ _ _ _ _ _ c.build_regions.result _ _ _ c.requires c.build_regions.ensures.fact c.in-Done.is c.build_regions.auto.ids
 
 pub returns-in-Refused : goal.returns-in-Refused
 returns-in-Refused c = search (rules, second_refused)

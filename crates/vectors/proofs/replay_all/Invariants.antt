@@ -1,5 +1,4 @@
 -- The turns left fall; nothing else is to be kept.
-use borrow.Author.Rules.{rules}
 use Rattle.vectors.proofs.replay_all.Given as goal
 
 abbrev pub invariant-loop-turns : goal.invariant-loop-turns

@@ -1,7 +1,6 @@
 -- The part of the buffer that is lent is as long as the file, which fits.
 use lib.ListN.{length-take}
 use native.Mathlib.Omega.{arith}
-use borrow.Author.Rules.{rules}
 use Rattle.vectors.proofs.replay_next.Goals as goal
 
 pub slice_bounds-print_next-end : goal.slice_bounds-print_next-end

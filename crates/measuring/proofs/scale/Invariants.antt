@@ -1,5 +1,5 @@
 -- The loop's invariant: the number has at most three places. The measure is the text left.
-use Rattle.std.proofs.Common.{◌-◌, ◌≤◌, length, arith, rules}
+use Rattle.std.proofs.Common.{◌-◌, ◌≤◌, length}
 use Rattle.measuring.proofs.scale.Given as goal
 
 abbrev pub invariant-loop-i : goal.invariant-loop-i

@@ -2,7 +2,6 @@
 use Prim.Native.Nat.{ℕ, ◌*◌, ◌≤◌}
 use native.Mathlib.Nat.{le_trans, mul-le-mul_left}
 use native.Mathlib.Omega.{arith}
-use borrow.Author.Rules.{rules}
 use Rattle.asking.proofs.place.cell_of.Goals as goal
 
 product : (z w : ℕ) → z ≤ 65535 → w ≤ 65535 → z * w ≤ 4294836225

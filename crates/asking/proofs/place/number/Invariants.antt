@@ -1,8 +1,6 @@
 -- The loop's invariant: the number has at most five places. The measure is the text left.
 use Prim.Native.Nat.{◌≤◌, ◌-◌}
 use lib.ListN.{length}
-use borrow.Author.Rules.{rules}
-use native.Mathlib.Omega.{arith}
 use Rattle.asking.proofs.place.number.Given as goal
 
 abbrev pub invariant-loop-i : goal.invariant-loop-i

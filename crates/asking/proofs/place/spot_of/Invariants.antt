@@ -1,7 +1,6 @@
 -- The loop's invariant: c is a cell, or the end. The measure is the cells left.
 use Prim.Native.Nat.{◌≤◌, ◌-◌}
 use lib.ListN.{length}
-use borrow.Author.Rules.{rules}
 use Rattle.asking.proofs.place.spot_of.Given as goal
 
 abbrev pub invariant-loop-c : goal.invariant-loop-c

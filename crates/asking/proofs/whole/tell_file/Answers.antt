@@ -1,5 +1,4 @@
 -- What a file describes fits the lists, whose lengths the reading keeps.
-use native.Mathlib.Omega.{arith}
 use borrow.Author.Rules.{rules}
 use Prim.Native.Nat.{ℕ}
 use mathlib.Core.Path.{◌≡◌, subst}

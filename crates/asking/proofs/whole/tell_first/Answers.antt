@@ -1,7 +1,6 @@
 -- The parts that are lent on are as long as the header says, since the lists are long enough for any file.
 use lib.ListN.{length-take}
 use native.Mathlib.Omega.{arith}
-use borrow.Author.Rules.{rules}
 use Rattle.asking.proofs.whole.tell_first.Goals as goal
 
 pub slice_bounds-tell_field-end : goal.slice_bounds-tell_field-end

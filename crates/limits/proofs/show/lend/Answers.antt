@@ -1,7 +1,6 @@
 -- The parts that are lent are as long as asked, since the lists are.
 use lib.ListN.{length-take}
 use native.Mathlib.Omega.{arith}
-use borrow.Author.Rules.{rules}
 use Rattle.limits.proofs.show.lend.Goals as goal
 
 pub slice_bounds-call-end-2 : goal.slice_bounds-call-end-2

@@ -1,5 +1,5 @@
 -- The two tests say that x is above -1 and below 2 ^ 64, by the bits of each number, which are one value with what the call asks.
-use Rattle.std.proofs.Common.{T, sym, subst, rules}
+use Rattle.std.proofs.Common.{T, sym, subst}
 use lib.Ieee.{of_bits, neg}
 use Rattle.measuring.proofs.print.whole_part_or_zero.Goals as goal
 

@@ -1,5 +1,5 @@
 -- What a file describes fits the lists, whose lengths the reading keeps.
-use Rattle.std.proofs.Common.{◌≡◌, ℕ, subst, arith, rules}
+use Rattle.std.proofs.Common.{◌≡◌, ℕ, subst, rules}
 use Rattle.file.specs.Reads.{Few}
 use Rattle.file.specs.declared.read.Header.{Header}
 use Rattle.file.specs.declared.read.FileReading.{FileReading}

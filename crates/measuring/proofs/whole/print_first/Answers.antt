@@ -1,5 +1,5 @@
 -- The parts that are lent on are as long as the header says, since the lists are long enough for any file.
-use Rattle.std.proofs.Common.{arith, length-take, rules}
+use Rattle.std.proofs.Common.{arith, length-take}
 use Rattle.measuring.proofs.whole.print_first.Goals as goal
 
 pub slice_bounds-print_field-end : goal.slice_bounds-print_field-end

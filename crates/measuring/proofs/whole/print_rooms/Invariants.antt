@@ -1,5 +1,5 @@
 -- The ids left fall by one at each turn.
-use Rattle.std.proofs.Common.{◌-◌, ◌≤◌, arith, rules}
+use Rattle.std.proofs.Common.{◌-◌, ◌≤◌}
 use Rattle.measuring.proofs.whole.print_rooms.Given as goal
 
 abbrev pub invariant-loop-id : goal.invariant-loop-id

@@ -1,6 +1,5 @@
 use lib.ListN.{length-take}
 use native.Mathlib.Omega.{arith}
-use borrow.Author.Rules.{rules}
 use Rattle.storing.proofs.whole.print_first_runs.Goals as goal
 
 pub slice_bounds-print_runs-end : goal.slice_bounds-print_runs-end

@@ -1,6 +1,5 @@
 use lib.ListN.{length-take}
 use native.Mathlib.Omega.{arith}
-use borrow.Author.Rules.{rules}
 use Rattle.storing.proofs.whole.print_some.Goals as goal
 
 pub slice_bounds-write_all-end : goal.slice_bounds-write_all-end

@@ -52,7 +52,7 @@ fn argument(rt: &impl Env, k: usize) -> u32 {
 }
 
 fn main(rt: HostRuntime) -> Result<()> {
-    if arg_count(&rt) != 4 {
+    if arg_count(&rt, 5) != 4 {
         return eprintln!(rt; "usage: asking X Z LAYER <FILE");
     }
     let asked = Asked {

@@ -54,15 +54,17 @@ pub fn read_first<R: Read>(from: &mut R, buf: &mut [u8]) -> Result<usize>
     Ok(n)
 }
 
-// How many arguments the program was started with, its own name among them.
-pub fn arg_count(rt: &impl Env) -> usize {
+// How many arguments the program was started with, its own name among them; where there are more than `most`, `most`.
+pub fn arg_count(rt: &impl Env, most: usize) -> usize
+    ensures { result ≤ most }
+{
     let mut none = [0u8; 0];
-    for k in 0..usize::MAX {
+    for k in 0..most {
         if let Err(FillError::NotPresent) = rt.arg(k, &mut none) {
             return k;
         }
     }
-    usize::MAX
+    most
 }
 
 const INVALID: i32 = 22;
@@ -129,7 +131,8 @@ mod tests {
     fn tells_errors(rt: HostRuntime) -> Result<()> {
         assert!(rt; reason("File name too long (os error 36)") == "File name too long");
         let mut path = buffer();
-        assert!(rt; 0 < arg_count(&rt));
+        assert!(rt; 0 < arg_count(&rt, 4));
+        assert_eq!(rt; arg_count(&rt, 0), 0);
         match arg(&rt, 1000, &mut path) {
             Ok(_) => assert!(rt; false),
             Err(e) => fail(&rt, "argument 1000", &e)?,

@@ -55,7 +55,7 @@ fn print_named(rt: &(impl Env + Files + Print + Eprint + Alloc)) -> Result<()> {
 }
 
 fn main(rt: HostRuntime) -> Result<()> {
-    let n = arg_count(&rt);
+    let n = arg_count(&rt, 3);
     if n < 2 {
         return print_file(&rt, &mut rt.stdin(), "standard input");
     }

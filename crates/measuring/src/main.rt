@@ -57,7 +57,7 @@ fn print_input(rt: &(impl Print + Eprint + Alloc), from: &mut impl Read, k: u16)
 }
 
 fn main(rt: HostRuntime) -> Result<()> {
-    if arg_count(&rt) != 2 {
+    if arg_count(&rt, 3) != 2 {
         return eprintln!(rt; "usage: measuring K <FILE");
     }
     let mut text = buffer();

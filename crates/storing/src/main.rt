@@ -45,7 +45,7 @@ fn read_input(rt: &(impl Env + Print + Eprint + Alloc), from: &mut impl Read) ->
 }
 
 fn main(rt: HostRuntime) -> Result<()> {
-    let n = arg_count(&rt);
+    let n = arg_count(&rt, 3);
     if n == 1 {
         return store_input(&rt, &mut rt.stdin());
     }

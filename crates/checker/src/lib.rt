@@ -11,10 +11,12 @@ ghost use Rattle.std.specs.Prelude.{◌≡◌, [], ◌∷◌, not, ◌+◌, ◌�
 ghost use Rattle.rules.specs.Refusals.{refusal, wrong_length, most_spans};
 ghost use Rattle.field.specs.Lent.{lent};
 ghost use Rattle.checker.specs.Answer.{number_of, verdict_number};
+ghost use Rattle.field.specs.Seen.{seen};
 
 use crate::cells::cells_ok;
 use crate::links::links_ok;
 use crate::reach::reach_ok;
+use field::lent::Heightfield;
 
 // The table of refusals of documents 01 and 02. The last four are the region entry's.
 #[derive(Clone, Copy)]
@@ -62,82 +64,65 @@ const MOST_CELLS_A_SIDE: usize = 256;
 const MOST_SPANS: usize = 65000;
 
 // The lists are as long as w, h and the number of spans say; a and b are the lengths of the entry's own two.
-fn lengths_ok(
-    w: usize,
-    h: usize,
-    index: &[u32],
-    count: &[u8],
-    area: &[u8],
-    con: &[u8],
-    a: usize,
-    b: usize,
-) -> bool
-    requires { (w ≤ 256) × (h ≤ 256) × (length area.now ≤ most_spans) }
-    ensures { let F = lent w h index.now count.now area.now con.now in
+fn lengths_ok(field: &Heightfield, a: usize, b: usize) -> bool
+    requires { let F = seen field.now in
+        (F.w ≤ 256) × (F.h ≤ 256) × (length F.area ≤ most_spans) }
+    ensures { let F = seen field.now in
         result ≡ not (wrong_length F (a ∷ b ∷ [])) }
 {
-    if index.len() != w * h {
+    if field.index.len() != field.w * field.h {
         return false;
     }
-    if count.len() != w * h {
+    if field.count.len() != field.w * field.h {
         return false;
     }
-    if con.len() != 4 * area.len() {
+    if field.con.len() != 4 * field.area.len() {
         return false;
     }
-    if a != area.len() {
+    if a != field.area.len() {
         return false;
     }
-    b == area.len()
+    b == field.area.len()
 }
 
 // The first of refusals 1 to 6 that applies; a and b are the lengths of the entry's own two lists.
-pub fn check(
-    w: usize,
-    h: usize,
-    index: &[u32],
-    count: &[u8],
-    area: &[u8],
-    con: &[u8],
-    a: usize,
-    b: usize,
-) -> Verdict
-    ensures { let F = lent w h index.now count.now area.now con.now in
+pub fn check(field: &Heightfield, a: usize, b: usize) -> Verdict
+    ensures { let F = seen field.now in
         verdict_number result ≡ refusal F (a ∷ b ∷ []) }
 {
-    if MOST_CELLS_A_SIDE < w {
+    if MOST_CELLS_A_SIDE < field.w {
         return Verdict::Refused(Refusal::TooWide);
     }
-    if MOST_CELLS_A_SIDE < h {
+    if MOST_CELLS_A_SIDE < field.h {
         return Verdict::Refused(Refusal::TooWide);
     }
-    if MOST_SPANS < area.len() {
+    if MOST_SPANS < field.area.len() {
         return Verdict::Refused(Refusal::TooMany);
     }
-    if lengths_ok(w, h, index, count, area, con, a, b) {} else {
+    if lengths_ok(field, a, b) {} else {
         return Verdict::Refused(Refusal::WrongLength);
     }
-    if cells_ok(index, count, area.len()) {} else {
+    if cells_ok(field.index, field.count, field.area.len()) {} else {
         return Verdict::Refused(Refusal::WrongCells);
     }
-    if links_ok(w, h, index, count, area, con) {
+    if links_ok(field) {
         return Verdict::Sound;
     }
     // One of 5 and 6 applies: a walk of its own tells which.
-    if reach_ok(w, h, index, count, area, con) {} else {
+    if reach_ok(field) {} else {
         return Verdict::Refused(Refusal::WrongReach);
     }
     Verdict::Refused(Refusal::WrongBack)
 }
 
 // 3 for a list of another length than an entry asks, or 1 or 2 where that applies; the list itself is not lent here.
-pub fn wrong_length(w: usize, h: usize, index: &[u32], count: &[u8], area: &[u8], con: &[u8]) -> u16
-    ensures { let F = lent w h index.now count.now area.now con.now in
-        let n = length area.now in
+pub fn wrong_length(field: &Heightfield) -> u16
+    ensures { let F = seen field.now in
+        let n = length F.area in
         result ≡ refusal F ((n + 1) ∷ (n + 1) ∷ []) }
 {
-    let n = area.len() + 1;
-    match check(w, h, index, count, area, con, n, n) {
+    let n = field.area.len() + 1;
+    match check(field, n, n) {
         Verdict::Refused(r) => refusal_number(r),
         Verdict::Sound => 0,
     }

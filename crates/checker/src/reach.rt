@@ -4,7 +4,9 @@ ghost use Rattle.rules.specs.Base.{every};
 ghost use Rattle.rules.specs.Field.{spans, leaves};
 ghost use Rattle.field.specs.Lent.{lent, Celled};
 ghost use Rattle.checker.specs.Links.{names, names_at, reach_at, in_cell};
+ghost use Rattle.field.specs.Seen.{seen};
 
+use field::lent::Heightfield;
 use field::place::{Layer, NO_LAYER, SpanIx, cell_across, connections};
 use field::read::{at8, at32};
 
@@ -54,24 +56,17 @@ fn span_ok(w: usize, h: usize, count: &[u8], c: usize, cons: [u8; 4]) -> bool
 }
 
 // The spans of cell c.
-fn cell_ok(
-    w: usize,
-    h: usize,
-    index: &[u32],
-    count: &[u8],
-    area: &[u8],
-    con: &[u8],
-    c: usize,
-) -> bool
-    requires { Celled (lent w h index.now count.now area.now con.now) × (c < length count.now) }
-    ensures { let F = lent w h index.now count.now area.now con.now in
+fn cell_ok(field: &Heightfield, c: usize) -> bool
+    requires { let F = seen field.now in
+        Celled F × (c < length F.count) }
+    ensures { let F = seen field.now in
         result ≡ in_cell F (reach_at F) c }
 {
-    let i = at32(index, c);
-    let k = at8(count, c);
+    let i = at32(field.index, c);
+    let k = at8(field.count, c);
     for j in 0..k {
-        let cons = connections(con, SpanIx(i + j));
-        if span_ok(w, h, count, c, cons) {} else {
+        let cons = connections(field.con, SpanIx(i + j));
+        if span_ok(field.w, field.h, field.count, c, cons) {} else {
             return false;
         }
     }
@@ -79,20 +74,13 @@ fn cell_ok(
 }
 
 // Every span.
-pub(crate) fn reach_ok(
-    w: usize,
-    h: usize,
-    index: &[u32],
-    count: &[u8],
-    area: &[u8],
-    con: &[u8],
-) -> bool
-    requires { Celled (lent w h index.now count.now area.now con.now) }
-    ensures { let F = lent w h index.now count.now area.now con.now in
+pub(crate) fn reach_ok(field: &Heightfield) -> bool
+    requires { Celled (seen field.now) }
+    ensures { let F = seen field.now in
         result ≡ every (spans F) (reach_at F) }
 {
     for c in 0..count.len() {
-        if cell_ok(w, h, index, count, area, con, c) {} else {
+        if cell_ok(field, c) {} else {
             return false;
         }
     }

@@ -6,8 +6,10 @@ ghost use Rattle.field.specs.Lent.{lent, Reached, Spot, cons_at};
 ghost use Rattle.rules.specs.Rows.{over_cell, blur_to, blur_row};
 ghost use Rattle.distance.specs.Walk.{columns_up, cells_of};
 ghost use Rattle.distance.specs.Value.{Sized};
+ghost use Rattle.field.specs.Seen.{seen};
 
 use field::block::{block_of, is_empty};
+use field::lent::Heightfield;
 use field::place::{NO_LAYER, Place, SpanIx, connections, follow};
 use field::read::{at8, at16, at32};
 
@@ -85,123 +87,70 @@ fn blur_span(w: usize, index: &[u32], con: &[u8], raw: &[u16], p: Place) -> u16
 }
 
 // The spans of cell c.
-fn blur_cell(
-    w: usize,
-    h: usize,
-    index: &[u32],
-    count: &[u8],
-    area: &[u8],
-    con: &[u8],
-    raw: &[u16],
-    blurred: &mut [u16],
-    c: usize,
-)
-    requires { let F = lent w h index.now count.now area.now con.now in
-        Reached F × (length raw.now ≡ length area.now) × (length blurred.old ≡ length area.now) × (c < length count.now) }
-    ensures { let F = lent w h index.now count.now area.now con.now in
+fn blur_cell(field: &Heightfield, raw: &[u16], blurred: &mut [u16], c: usize)
+    requires { let F = seen field.now in
+        Reached F × (length raw.now ≡ length F.area) × (length blurred.old ≡ length F.area) × (c < length F.count) }
+    ensures { let F = seen field.now in
         blurred.new ≡ over_cell F (blur_to F raw.now) c blurred.old }
 {
-    let i = at32(index, c);
-    let k = at8(count, c);
+    let i = at32(field.index, c);
+    let k = at8(field.count, c);
     for j in 0..k {
         let s = i + j;
         let p = Place {
             cell: c,
             span: SpanIx(s),
         };
-        blurred[s] = blur_span(w, index, con, raw, p);
+        blurred[s] = blur_span(field.w, field.index, field.con, raw, p);
     }
 }
 
 // The k columns of row y from x on.
-fn blur_columns(
-    w: usize,
-    h: usize,
-    index: &[u32],
-    count: &[u8],
-    area: &[u8],
-    con: &[u8],
-    raw: &[u16],
-    blurred: &mut [u16],
-    x: usize,
-    k: usize,
-    y: usize,
-)
-    requires { let F = lent w h index.now count.now area.now con.now in
-        Reached F × (length raw.now ≡ length area.now) × (length blurred.old ≡ length area.now) × (x + k ≤ w) × (y < h) }
-    ensures { let F = lent w h index.now count.now area.now con.now in
+fn blur_columns(field: &Heightfield, raw: &[u16], blurred: &mut [u16], x: usize, k: usize, y: usize)
+    requires { let F = seen field.now in
+        Reached F × (length raw.now ≡ length F.area) × (length blurred.old ≡ length F.area) × (x + k ≤ F.w) × (y < F.h) }
+    ensures { let F = seen field.now in
         blurred.new ≡ columns_up F (blur_to F raw.now) y x k blurred.old }
 {
-    let first = w * y + x;
+    let first = field.w * y + x;
     for j in 0..k {
-        blur_cell(w, h, index, count, area, con, raw, blurred, first + j);
+        blur_cell(field, raw, blurred, first + j);
     }
 }
 
 // The same, a block without spans at once.
-fn blur_block(
-    w: usize,
-    h: usize,
-    index: &[u32],
-    count: &[u8],
-    area: &[u8],
-    con: &[u8],
-    raw: &[u16],
-    blurred: &mut [u16],
-    x: usize,
-    k: usize,
-    y: usize,
-)
-    requires { let F = lent w h index.now count.now area.now con.now in
-        Reached F × (length raw.now ≡ length area.now) × (length blurred.old ≡ length area.now) × (x + k ≤ w) × (y < h) }
-    ensures { let F = lent w h index.now count.now area.now con.now in
+fn blur_block(field: &Heightfield, raw: &[u16], blurred: &mut [u16], x: usize, k: usize, y: usize)
+    requires { let F = seen field.now in
+        Reached F × (length raw.now ≡ length F.area) × (length blurred.old ≡ length F.area) × (x + k ≤ F.w) × (y < F.h) }
+    ensures { let F = seen field.now in
         blurred.new ≡ columns_up F (blur_to F raw.now) y x k blurred.old }
 {
-    if is_empty(count, w * y + x, k) {
+    if is_empty(field.count, field.w * y + x, k) {
         return;
     }
-    blur_columns(w, h, index, count, area, con, raw, blurred, x, k, y);
+    blur_columns(field, raw, blurred, x, k, y);
 }
 
 // Row y, block by block.
-pub fn blur_row(
-    w: usize,
-    h: usize,
-    index: &[u32],
-    count: &[u8],
-    area: &[u8],
-    con: &[u8],
-    raw: &[u16],
-    blurred: &mut [u16],
-    y: usize,
-)
-    requires { let F = lent w h index.now count.now area.now con.now in
-        Reached F × (length raw.now ≡ length area.now) × (length blurred.old ≡ length area.now) × (y < h) }
-    ensures { let F = lent w h index.now count.now area.now con.now in
+pub fn blur_row(field: &Heightfield, raw: &[u16], blurred: &mut [u16], y: usize)
+    requires { let F = seen field.now in
+        Reached F × (length raw.now ≡ length F.area) × (length blurred.old ≡ length F.area) × (y < F.h) }
+    ensures { let F = seen field.now in
         blurred.new ≡ blur_row F raw.now y blurred.old }
 {
     let mut x: usize = 0;
-    while x < w {
-        let k = block_of(w - x);
-        blur_block(w, h, index, count, area, con, raw, blurred, x, k, y);
+    while x < field.w {
+        let k = block_of(field.w - x);
+        blur_block(field, raw, blurred, x, k, y);
         x += k;
     }
 }
 
 // All spans; before it the list of the blurred values has the cell of each.
-pub fn box_blur(
-    w: usize,
-    h: usize,
-    index: &[u32],
-    count: &[u8],
-    area: &[u8],
-    con: &[u8],
-    raw: &[u16],
-    blurred: &mut [u16],
-)
-    requires { let F = lent w h index.now count.now area.now con.now in
-        Reached F × (length raw.now ≡ length area.now) × (blurred.old ≡ cells_of F) }
-    ensures { let F = lent w h index.now count.now area.now con.now in
+pub fn box_blur(field: &Heightfield, raw: &[u16], blurred: &mut [u16])
+    requires { let F = seen field.now in
+        Reached F × (length raw.now ≡ length F.area) × (blurred.old ≡ cells_of F) }
+    ensures { let F = seen field.now in
         blurred.new ≡ rules.blur F raw.now }
 {
     for s in 0..area.len() {
@@ -209,6 +158,6 @@ pub fn box_blur(
             cell: at16(blurred, s),
             span: SpanIx(s),
         };
-        blurred[s] = blur_span(w, index, con, raw, p);
+        blurred[s] = blur_span(field.w, field.index, field.con, raw, p);
     }
 }

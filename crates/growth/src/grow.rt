@@ -7,9 +7,11 @@ ghost use Rattle.net.specs.Table.{net_at};
 ghost use Rattle.flood.specs.Stories.{story_of};
 ghost use Rattle.growth.specs.Turns.{SectionsFor, Between, begun};
 ghost use Rattle.growth.specs.Grow.{turns_for, tells_of, Grew, Poised, Settled, Full, Whole};
+ghost use Rattle.field.specs.Seen.{seen};
 
 use crate::turns::{GOES_ON, Growth, TOO_FAR, turns};
 use expand::expand::expand_last;
+use field::lent::Heightfield;
 use flood::story::{Story, begins};
 use net::Sections;
 use net::fill::fill_neighbours;
@@ -96,12 +98,7 @@ fn settle(ids: &mut [u16], ws: &mut [u16], g: Growth, watched: u16) -> Growth
 
 // From ids 0 to the grown ids, and the table of neighbours at its place; with the story of the watched span, if there is one (NOBODY where not).
 pub fn grow(
-    w: usize,
-    h: usize,
-    index: &[u32],
-    count: &[u8],
-    area: &[u8],
-    con: &[u8],
+    field: &Heightfield,
     dist: &[u16],
     ids: &mut [u16],
     ws: &mut [u16],
@@ -110,23 +107,32 @@ pub fn grow(
     border_size: u16,
     watched: u16,
 ) -> Growth
-    requires { Poised w h index.now count.now area.now con.now table ids.old ws.old × (length dist.now ≡ length area.now) }
-    ensures fact { let F = lent w h index.now count.now area.now con.now in
+    requires { let F = seen field.now in
+        Poised F.w F.h F.index F.count F.area F.con table ids.old ws.old × (length dist.now ≡ length F.area) }
+    ensures fact { let F = seen field.now in
         let ws₀ = ws.old in
         Full F dist.now max_distance border_size table ws₀ result.next result.stop ids.new ws.new }
-    ensures story_value { let F = lent w h index.now count.now area.now con.now in
+    ensures story_value { let F = seen field.now in
         result.stop ≡ 0 → story_of result.story ≡ story F dist.now max_distance border_size watched }
-    ensures whole { let F = lent w h index.now count.now area.now con.now in
+    ensures whole { let F = seen field.now in
         let ws₀ = ws.old in
         Whole F dist.now max_distance border_size table ws₀ result.next result.stop ids.new ws.new }
     ensures untold { (result.stop ≡ 0 → ⊥) → story_of result.story ≡ begins watched }
 {
-    let n = area.len();
-    let first = paint_border(w, h, index, count, area, ids, border_size);
-    fill_neighbours(w, h, index, count, area, con, ws, table);
+    let n = field.area.len();
+    let first = paint_border(
+        field.w,
+        field.h,
+        field.index,
+        field.count,
+        field.area,
+        ids,
+        border_size,
+    );
+    fill_neighbours(field, ws, table);
     let g = grow_painted(
-        area,
-        con,
+        field.area,
+        field.con,
         dist,
         ids,
         ws,

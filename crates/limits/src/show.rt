@@ -1,5 +1,8 @@
 // A call of the entry, and what it gave.
+ghost use Rattle.field.specs.Seen.{seen};
+
 use checker::refusal_number;
+use field::lent::Heightfield;
 use std::io::Result;
 use watershed::{DistanceAnswer, build_distance_field};
 
@@ -52,18 +55,8 @@ pub(crate) fn list(rt: &impl Print, name: &str, l: &[u16]) -> Result<()> {
 }
 
 // A call, its answer, and the two lists after it.
-fn call(
-    rt: &impl Print,
-    w: u16,
-    h: u16,
-    index: &[u32],
-    count: &[u8],
-    area: &[u8],
-    con: &[u8],
-    raw: &mut [u16],
-    blurred: &mut [u16],
-) -> Result<()> {
-    let r = build_distance_field(w, h, index, count, area, con, raw, blurred);
+fn call(rt: &impl Print, field: &Heightfield, raw: &mut [u16], blurred: &mut [u16]) -> Result<()> {
+    let r = build_distance_field(field, raw, blurred);
     answer(rt, r)?;
     list(rt, "raw", raw)?;
     list(rt, "blurred", blurred)
@@ -72,12 +65,7 @@ fn call(
 // A call that is lent the first m numbers of a and the first n of b.
 fn lend(
     rt: &impl Print,
-    w: u16,
-    h: u16,
-    index: &[u32],
-    count: &[u8],
-    area: &[u8],
-    con: &[u8],
+    field: &Heightfield,
     a: &mut [u16],
     b: &mut [u16],
     m: usize,
@@ -89,26 +77,19 @@ fn lend(
     if b.len() < n {
         return Ok(());
     }
-    call(rt, w, h, index, count, area, con, &mut a[..m], &mut b[..n])
+    call(rt, field, &mut a[..m], &mut b[..n])
 }
 
 // A call that is lent lists of so many 7s for the distances, at most 65,001.
 pub(crate) fn run(
     rt: &impl Print,
     name: &str,
-    w: u16,
-    h: u16,
-    index: &[u32],
-    count: &[u8],
-    area: &[u8],
-    con: &[u8],
+    field: &Heightfield,
     raws: usize,
     blurs: usize,
 ) -> Result<()> {
     print!(rt; "{name}: ")?;
     let mut a = [7u16; 65001];
     let mut b = [7u16; 65001];
-    lend(
-        rt, w, h, index, count, area, con, &mut a, &mut b, raws, blurs,
-    )
+    lend(rt, field, &mut a, &mut b, raws, blurs)
 }

@@ -2,9 +2,11 @@
 ghost use Rattle.std.specs.Prelude.{◌≤◌, length};
 ghost use Rattle.file.specs.Reads.{Few, Lists};
 ghost use Rattle.file.specs.declared.read.FileReading.TheVariants.{Described};
+ghost use Rattle.field.specs.Seen.{seen};
 
 use crate::print::{print_refused, print_room};
 use checker::refusal_number;
+use field::lent::Heightfield;
 use file::read::{FileReading, Header, file_number, read_file};
 use sizes::{RoomAnswer, measure_room};
 use std::io::Result;
@@ -33,22 +35,11 @@ fn print_answer(rt: &impl Print, id: u16, a: RoomAnswer) -> Result<bool> {
 }
 
 // Ids 1 to most, up to one that is refused.
-fn print_rooms(
-    rt: &impl Print,
-    w: u16,
-    h: u16,
-    index: &[u32],
-    count: &[u8],
-    area: &[u8],
-    con: &[u8],
-    ids: &[u16],
-    most: u16,
-    k: u16,
-) -> Result<()> {
+fn print_rooms(rt: &impl Print, field: &Heightfield, ids: &[u16], most: u16, k: u16) -> Result<()> {
     let mut id: u16 = 0;
     while id < most {
         id += 1;
-        let a = measure_room(w, h, index, count, area, con, ids, most, k, id);
+        let a = measure_room(field, ids, most, k, id);
         if print_answer(rt, id, a)? {} else {
             return Ok(());
         }

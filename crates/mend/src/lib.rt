@@ -9,10 +9,12 @@ ghost use Rattle.rules.specs.Mend.{stays, mend_outcome};
 ghost use Rattle.field.specs.Lent.{lent, Celled};
 ghost use Rattle.mend.specs.Walk.{state, ground, noted, step, walk, Ready};
 ghost use Rattle.mend.specs.Answer.{outcome, past_cells, before_links};
+ghost use Rattle.field.specs.Seen.{seen};
 
 use checker::links::side_ok;
 use checker::reach::leaves_grid;
 use checker::{Refusal, Verdict, check};
+use field::lent::Heightfield;
 use field::place::{Layer, NO_LAYER, SpanIx};
 use field::read::{at8, at32};
 
@@ -35,25 +37,17 @@ fn note(changes: &mut [u16], k: usize, s: usize, d: usize, old: u8)
 }
 
 // Connection old, in direction d, of the span in layer j of cell c stays.
-fn link_stays(
-    w: usize,
-    h: usize,
-    index: &[u32],
-    count: &[u8],
-    area: &[u8],
-    con: &[u8],
-    c: usize,
-    j: Layer,
-    old: Layer,
-    d: usize,
-) -> bool
-    requires celled { Celled (lent w h index.now count.now area.now con.now) × (j.0 < get_or count.now c 0) × (d < 4) }
-    requires value { old.0 ≡ get_or con.now (4 * (get_or index.now c 0 + j.0) + d) 0 }
-    ensures { result
-        ≡ stays (lent w h index.now count.now area.now con.now) (get_or index.now c 0 + j.0) d }
+fn link_stays(field: &Heightfield, c: usize, j: Layer, old: Layer, d: usize) -> bool
+    requires celled { let F = seen field.now in
+        Celled F × (j.0 < get_or F.count c 0) × (d < 4) }
+    requires value { let F = seen field.now in
+        old.0 ≡ get_or F.con (4 * (get_or F.index c 0 + j.0) + d) 0 }
+    ensures { let F = seen field.now in
+        result
+        ≡ stays F (get_or F.index c 0 + j.0) d }
 {
-    let inside = !leaves_grid(w, h, c, d);
-    side_ok(w, h, index, count, area, con, c, j, old, d, inside)
+    let inside = !leaves_grid(field.w, field.h, c, d);
+    side_ok(field, c, j, old, d, inside)
 }
 
 // The connection in direction d of span s, in layer j of cell c; k changes were found before it.

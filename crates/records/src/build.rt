@@ -5,10 +5,12 @@ ghost use Rattle.field.specs.Lent.{lent};
 ghost use Rattle.table.specs.Map.{records_end};
 ghost use Rattle.records.specs.Stock.{Given, Blank, Built};
 ghost use Rattle.records.specs.Build.{spans_at, Standing, Added, Entering, Entered, Knowing, KnowingFrom};
+ghost use Rattle.field.specs.Seen.{seen};
 
 use crate::cell::{Spans, look_back};
 use crate::fresh::renew;
 use crate::grow::{Plan, add_cell, add_contour};
+use field::lent::Heightfield;
 use field::place::{Layer, SpanIx};
 use field::read::{at8, at32};
 use region::RegionId;
@@ -146,21 +148,10 @@ fn add_cell_at(
 }
 
 // The records 0 to next of the regions of ids, in a workspace of zeros up to their end, with the table of neighbours past it.
-pub fn build_records(
-    w: usize,
-    h: usize,
-    index: &[u32],
-    count: &[u8],
-    area: &[u8],
-    con: &[u8],
-    ids: &[u16],
-    ws: &mut [u16],
-    table: usize,
-    next: usize,
-)
-    requires given { Given (lent w h index.now count.now area.now con.now) ids.now table ws.old }
+pub fn build_records(field: &Heightfield, ids: &[u16], ws: &mut [u16], table: usize, next: usize)
+    requires given { Given (seen field.now) ids.now table ws.old }
     requires blank { Blank ids.now (next + 1) ws.old × (records_end (next + 1) (length ids.now) ≤ table) }
-    ensures { let F = lent w h index.now count.now area.now con.now in
+    ensures { let F = seen field.now in
         Built F ids.now next ws.old ws.new }
 {
     let plan = Plan {
@@ -172,7 +163,17 @@ pub fn build_records(
         top: 0,
         last: Spans { from: 0, size: 0 },
     };
-    for c in 0..w * h {
-        t = add_cell_at(index, count, area, con, ids, ws, plan, c, t);
+    for c in 0..w * field.h {
+        t = add_cell_at(
+            field.index,
+            field.count,
+            field.area,
+            field.con,
+            ids,
+            ws,
+            plan,
+            c,
+            t,
+        );
     }
 }

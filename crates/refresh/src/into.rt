@@ -3,9 +3,11 @@ ghost use Rattle.std.specs.Prelude.{◌≡◌, [], ◌∷◌, length};
 ghost use Rattle.field.specs.Lent.{lent};
 ghost use Rattle.refresh.specs.Answer.{rect, refresh_refused_by, refresh_given};
 ghost use Rattle.refresh.specs.Into.{numbers_of, GivesInto};
+ghost use Rattle.field.specs.Seen.{seen};
 
 use crate::{RefreshAnswer, refresh_distance_field};
 use checker::{refusal_number, wrong_length};
+use field::lent::Heightfield;
 
 // How many numbers an answer has.
 const NUMBERS: usize = 8;
@@ -62,12 +64,7 @@ fn put(to: &mut [u16], r: RefreshAnswer) -> u16
 
 // As `refresh_distance_field`, with the answer's numbers in a list of eight.
 pub fn refresh_into(
-    w: u16,
-    h: u16,
-    index: &[u32],
-    count: &[u8],
-    area: &[u8],
-    con: &[u8],
+    field: &Heightfield,
     x0: u16,
     z0: u16,
     x1: u16,
@@ -77,15 +74,13 @@ pub fn refresh_into(
     blurred: &mut [u16],
     answer: &mut [u16],
 ) -> u16
-    ensures { let F = lent w h index.now count.now area.now con.now in
+    ensures { let F = seen field.now in
         GivesInto F (rect x0 z0 x1 z1) pass1.old raw.old blurred.old answer.old
         result pass1.new raw.new blurred.new answer.new }
 {
     if answer.len() != NUMBERS {
-        return wrong_length(w as usize, h as usize, index, count, area, con);
+        return wrong_length(field);
     }
-    let r = refresh_distance_field(
-        w, h, index, count, area, con, x0, z0, x1, z1, pass1, raw, blurred,
-    );
+    let r = refresh_distance_field(field, x0, z0, x1, z1, pass1, raw, blurred);
     put(answer, r)
 }

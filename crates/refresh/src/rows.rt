@@ -2,7 +2,9 @@
 ghost use Rattle.std.specs.Prelude.{◌≡◌, ◌+◌, ◌<◌, ◌≤◌, length};
 ghost use Rattle.field.specs.Lent.{lent, Sound};
 ghost use Rattle.refresh.specs.Part.{FirstCell, LastCell, RowPart, part_to, same_part};
+ghost use Rattle.field.specs.Seen.{seen};
 
+use field::lent::Heightfield;
 use field::read::{at8, at32};
 
 // Spans from number `from` on, up to number `to`, which is not among them.
@@ -41,28 +43,21 @@ fn last_cell(count: &[u8], c: usize, w: usize) -> usize
 }
 
 // The spans of row y.
-pub(crate) fn row_part(
-    w: usize,
-    h: usize,
-    index: &[u32],
-    count: &[u8],
-    area: &[u8],
-    con: &[u8],
-    y: usize,
-) -> Part
-    requires { Sound (lent w h index.now count.now area.now con.now) × (y < h) }
-    ensures { RowPart (lent w h index.now count.now area.now con.now) y result.from result.to }
+pub(crate) fn row_part(field: &Heightfield, y: usize) -> Part
+    requires { let F = seen field.now in
+        Sound F × (y < F.h) }
+    ensures { RowPart (seen field.now) y result.from result.to }
 {
-    let c = w * y;
-    let a = first_cell(count, c, w);
-    let z = last_cell(count, c, w);
+    let c = field.w * y;
+    let a = first_cell(field.count, c, field.w);
+    let z = last_cell(field.count, c, field.w);
     if z == 0 {
         return Part { from: 0, to: 0 };
     }
     let last = c + z - 1;
     Part {
-        from: at32(index, c + a),
-        to: at32(index, last) + at8(count, last),
+        from: at32(field.index, c + a),
+        to: at32(field.index, last) + at8(field.count, last),
     }
 }
 

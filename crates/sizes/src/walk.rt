@@ -4,7 +4,9 @@ ghost use Rattle.rules.specs.Base.{upto};
 ghost use Rattle.rules.specs.Sizes.{nothing, added, extent};
 ghost use Rattle.field.specs.Lent.{lent, Celled};
 ghost use Rattle.sizes.specs.Walk.{extent_at, note_at};
+ghost use Rattle.field.specs.Seen.{seen};
 
+use field::lent::Heightfield;
 use field::read::at8;
 
 // What is known of an id after some of its spans: its first span's area, and its edges in cells.
@@ -112,29 +114,21 @@ fn walk_cell(
 }
 
 // All spans of a field whose cells are in order.
-pub fn walk_cells(
-    w: usize,
-    h: usize,
-    index: &[u32],
-    count: &[u8],
-    area: &[u8],
-    con: &[u8],
-    ids: &[u16],
-    id: u16,
-) -> Extent
-    requires { Celled (lent w h index.now count.now area.now con.now) × (length ids.now ≡ length area.now) }
-    ensures { let F = lent w h index.now count.now area.now con.now in
+pub fn walk_cells(field: &Heightfield, ids: &[u16], id: u16) -> Extent
+    requires { let F = seen field.now in
+        Celled F × (length ids.now ≡ length F.area) }
+    ensures { let F = seen field.now in
         (extent_at result ≡ extent F ids.now id) × (result.count ≤ 65000) }
 {
-    let cells = w * h;
+    let cells = field.w * field.h;
     let mut seen = no_extent();
     let mut first: usize = 0;
     let mut c: usize = 0;
     while c < cells {
-        let spans = at8(count, c);
-        let x = (c % w) as u32;
-        let z = (c / w) as u32;
-        seen = walk_cell(area, ids, id, first, spans, x, z, seen);
+        let spans = at8(field.count, c);
+        let x = (c % field.w) as u32;
+        let z = (c / field.w) as u32;
+        seen = walk_cell(field.area, ids, id, first, spans, x, z, seen);
         first += spans;
         c += 1;
     }

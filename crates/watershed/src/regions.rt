@@ -16,9 +16,11 @@ ghost use Rattle.checker.specs.Answer.{number_of, verdict_number};
 ghost use Rattle.watershed.specs.Answer.{AnswersRegions, GivesRooms};
 ghost use Rattle.watershed.specs.Form.{form_of};
 ghost use Rattle.watershed.specs.Stages.{Admitted, Raised, Readied, Finds, own_refusal, table_at};
+ghost use Rattle.field.specs.Seen.{seen};
 
 use crate::form::{Form, give_form};
 use checker::{Refusal, Verdict, check};
+use field::lent::Heightfield;
 use flood::story::NOBODY;
 use growth::grow::{GROWTH_ROOM, grow};
 use growth::turns::{GOES_ON, Growth, IDS_RUN_OUT};
@@ -62,24 +64,19 @@ fn own_refusal(short: bool, far: bool) -> Verdict
 
 // The first of refusals 1 to 8 that applies; work and own are the lengths of the workspace and of the list of ids.
 pub(crate) fn check_regions(
-    w: usize,
-    h: usize,
-    index: &[u32],
-    count: &[u8],
-    area: &[u8],
-    con: &[u8],
+    field: &Heightfield,
     dist: &[u16],
     max_distance: u16,
     work: usize,
     own: usize,
 ) -> Verdict
-    ensures { let F = lent w h index.now count.now area.now con.now in
+    ensures { let F = seen field.now in
         verdict_number result ≡ region_refusal F (length dist.now ∷ own ∷ []) work dist.now max_distance }
 {
-    match check(w, h, index, count, area, con, dist.len(), own) {
+    match check(field, dist.len(), own) {
         Verdict::Refused(r) => Verdict::Refused(r),
         Verdict::Sound => {
-            let short = work < 128 * area.len() + 4096;
+            let short = work < 128 * field.area.len() + 4096;
             let far = too_far(dist, max_distance);
             own_refusal(short, far)
         }
@@ -101,12 +98,7 @@ fn put_back(ws: &[u16], kept: usize, ids: &mut [u16])
 // Growth from the ids of a field that is not refused. They stand past the table of neighbours until it is done, and are put back where it is stopped.
 // With the story of the watched span, if there is one (NOBODY where not).
 pub(crate) fn grow_regions(
-    w: usize,
-    h: usize,
-    index: &[u32],
-    count: &[u8],
-    area: &[u8],
-    con: &[u8],
+    field: &Heightfield,
     dist: &[u16],
     max_distance: u16,
     border_size: u16,
@@ -115,26 +107,22 @@ pub(crate) fn grow_regions(
     table: usize,
     watched: u16,
 ) -> Growth
-    requires { Admitted (lent w h index.now count.now area.now con.now) dist.now ws.old ids.old
-        × (table ≡ table_at (length area.now)) }
-    ensures fact { let F = lent w h index.now count.now area.now con.now in
+    requires { let F = seen field.now in
+        Admitted F dist.now ws.old ids.old
+        × (table ≡ table_at (length F.area)) }
+    ensures fact { let F = seen field.now in
         let ids₀ = ids.old in
         Raised F dist.now max_distance border_size table ids₀ result.next result.stop ids.new ws.new }
-    ensures story_value { let F = lent w h index.now count.now area.now con.now in
+    ensures story_value { let F = seen field.now in
         result.stop ≡ 0 → story_of result.story ≡ story F dist.now max_distance border_size watched }
 {
-    let n = area.len();
+    let n = field.area.len();
     let kept = table + 4 * n;
     copy_part(ids, ws, kept);
     clear(ids);
     clear_part(ws, 0, GROWTH_ROOM * n);
     let g = grow(
-        w,
-        h,
-        index,
-        count,
-        area,
-        con,
+        field,
         dist,
         ids,
         ws,
@@ -182,12 +170,7 @@ pub struct Found {
 
 // The regions of a field that is not refused. The table of neighbours stands past the most that the records take.
 fn find_regions(
-    w: usize,
-    h: usize,
-    index: &[u32],
-    count: &[u8],
-    area: &[u8],
-    con: &[u8],
+    field: &Heightfield,
     dist: &[u16],
     max_distance: u16,
     border_size: u16,
@@ -196,24 +179,19 @@ fn find_regions(
     ws: &mut [u16],
     ids: &mut [u16],
 ) -> Found
-    requires { Admitted (lent w h index.now count.now area.now con.now) dist.now ws.old ids.old }
-    ensures fact { (let F = lent w h index.now count.now area.now con.now in
+    requires { Admitted (seen field.now) dist.now ws.old ids.old }
+    ensures fact { (let F = seen field.now in
         let z : Sizes = record { border = border_size; least = min_region_area; merge = merge_region_area } in
         let v = result.regions in
         let found : rules.Regions = record { ids = ids.new; most = v.max_region; over = v.overlaps; cut = v.cut } in
         Finds F dist.now max_distance z ids.old result.stop found) }
     ensures ws_after { ws.new ≡ replicate (length ws.old) 0 }
-    ensures bytes { Bytes (lent w h index.now count.now area.now con.now) }
+    ensures bytes { Bytes (seen field.now) }
 {
-    let n = area.len();
+    let n = field.area.len();
     let table = records_end(n + MORE_RECORDS, n);
     let g = grow_regions(
-        w,
-        h,
-        index,
-        count,
-        area,
-        con,
+        field,
         dist,
         max_distance,
         border_size,
@@ -235,7 +213,7 @@ fn find_regions(
     }
     let next = g.next as usize;
     ready_records(ws, next + 1, n);
-    build_records(w, h, index, count, area, con, ids, ws, table, next);
+    build_records(field, ids, ws, table, next);
     let r = merge_and_filter_regions(ws, ids, next + 1, n, min_region_area, merge_region_area);
     wipe(ws);
     Found {
@@ -247,12 +225,7 @@ fn find_regions(
 // Ids of the regions of any lists, in either form: a field that is refused leaves ids and workspace as they were.
 fn build_form(
     form: Form,
-    w: u16,
-    h: u16,
-    index: &[u32],
-    count: &[u8],
-    area: &[u8],
-    con: &[u8],
+    field: &Heightfield,
     dist: &[u16],
     max_distance: u16,
     border_size: u16,
@@ -261,36 +234,18 @@ fn build_form(
     workspace: &mut [u16],
     ids: &mut [u16],
 ) -> RegionAnswer
-    ensures fact { (let F = lent w h index.now count.now area.now con.now in
+    ensures fact { (let F = seen field.now in
         let z : Sizes = record { border = border_size; least = min_region_area; merge = merge_region_area } in
         let o = region_outcome (form_of form) F dist.now max_distance z workspace.old ids.old in
         AnswersRegions o result workspace.new ids.new) }
-    ensures rooms { let F = lent w h index.now count.now area.now con.now in
+    ensures rooms { let F = seen field.now in
         GivesRooms (form_of form) F border_size result ids.new }
 {
-    let width = w as usize;
-    let height = h as usize;
-    match check_regions(
-        width,
-        height,
-        index,
-        count,
-        area,
-        con,
-        dist,
-        max_distance,
-        workspace.len(),
-        ids.len(),
-    ) {
+    match check_regions(field, dist, max_distance, workspace.len(), ids.len()) {
         Verdict::Refused(r) => RegionAnswer::Refused(r),
         Verdict::Sound => {
             let f = find_regions(
-                width,
-                height,
-                index,
-                count,
-                area,
-                con,
+                field,
                 dist,
                 max_distance,
                 border_size,
@@ -310,12 +265,7 @@ fn build_form(
 
 // The dense form: the ids in use are 1 to max_region.
 pub fn build_regions(
-    w: u16,
-    h: u16,
-    index: &[u32],
-    count: &[u8],
-    area: &[u8],
-    con: &[u8],
+    field: &Heightfield,
     dist: &[u16],
     max_distance: u16,
     border_size: u16,
@@ -324,21 +274,16 @@ pub fn build_regions(
     workspace: &mut [u16],
     ids: &mut [u16],
 ) -> RegionAnswer
-    ensures fact { (let F = lent w h index.now count.now area.now con.now in
+    ensures fact { (let F = seen field.now in
         let z : Sizes = record { border = border_size; least = min_region_area; merge = merge_region_area } in
         let o = region_outcome dense F dist.now max_distance z workspace.old ids.old in
         AnswersRegions o result workspace.new ids.new) }
-    ensures rooms { let F = lent w h index.now count.now area.now con.now in
+    ensures rooms { let F = seen field.now in
         GivesRooms dense F border_size result ids.new }
 {
     build_form(
         Form::Dense,
-        w,
-        h,
-        index,
-        count,
-        area,
-        con,
+        field,
         dist,
         max_distance,
         border_size,
@@ -351,12 +296,7 @@ pub fn build_regions(
 
 // The compared form: the numbers of the Rust.
 pub fn build_regions_compared(
-    w: u16,
-    h: u16,
-    index: &[u32],
-    count: &[u8],
-    area: &[u8],
-    con: &[u8],
+    field: &Heightfield,
     dist: &[u16],
     max_distance: u16,
     border_size: u16,
@@ -365,21 +305,16 @@ pub fn build_regions_compared(
     workspace: &mut [u16],
     ids: &mut [u16],
 ) -> RegionAnswer
-    ensures fact { (let F = lent w h index.now count.now area.now con.now in
+    ensures fact { (let F = seen field.now in
         let z : Sizes = record { border = border_size; least = min_region_area; merge = merge_region_area } in
         let o = region_outcome compared F dist.now max_distance z workspace.old ids.old in
         AnswersRegions o result workspace.new ids.new) }
-    ensures rooms { let F = lent w h index.now count.now area.now con.now in
+    ensures rooms { let F = seen field.now in
         GivesRooms compared F border_size result ids.new }
 {
     build_form(
         Form::Compared,
-        w,
-        h,
-        index,
-        count,
-        area,
-        con,
+        field,
         dist,
         max_distance,
         border_size,

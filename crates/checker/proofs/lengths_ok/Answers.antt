@@ -9,7 +9,7 @@ use borrow.Author.Rules.{rules}
 use Rattle.checker.proofs.lengths_ok.Goals as goal
 
 pub overflow_mul-w : goal.overflow_mul-w
-overflow_mul-w c = omega (arith, product_small c.args.w c.args.h (omega arith) (omega arith))
+overflow_mul-w c = omega (arith, product_small c.args.field.w c.args.field.h (omega arith) (omega arith))
 
 pub returns-then-index-w : goal.returns-then-index-w
 unfolding wrong_length ◌and◌ every

@@ -3,12 +3,12 @@ use Prim.Native.Nat.{◌≤◌, ◌-◌}
 use mathlib.Core.Path.{◌≡◌}
 use mathlib.Core.Bool.{true}
 use Rattle.rules.specs.Base.{every}
-use Rattle.field.specs.Lent.{lent}
+use Rattle.field.specs.Seen.{seen}
 use Rattle.checker.specs.Links.{half_at, in_row}
 use Rattle.checker.proofs.links.rows_ok.Given as goal
 
 abbrev pub invariant-loop-z : goal.invariant-loop-z
-invariant-loop-z l = (l.z ≤ l.h) × (every l.z (in_row (lent l.w l.h l.index l.count l.area l.con) (half_at (lent l.w l.h l.index l.count l.area l.con))) ≡ true)
+invariant-loop-z l = (l.z ≤ l.field.h) × (every l.z (in_row (seen l.field) (half_at (seen l.field))) ≡ true)
 
 abbrev pub decreases-loop-z : goal.decreases-loop-z
-decreases-loop-z l = l.h - l.z
+decreases-loop-z l = l.field.h - l.z

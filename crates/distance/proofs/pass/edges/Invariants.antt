@@ -3,13 +3,13 @@ use Prim.Native.Nat.{◌≤◌, ◌-◌}
 use mathlib.Core.Path.{◌≡◌}
 use lib.ListN.{length}
 use Rattle.rules.specs.Rows.{from_start}
-use Rattle.field.specs.Lent.{lent}
+use Rattle.field.specs.Seen.{seen}
 use Rattle.distance.specs.Value.{PassedTo}
 use Rattle.distance.specs.Walk.{spans_up}
 use Rattle.distance.proofs.pass.edges.Given as goal
 
 abbrev pub invariant-loop-k : goal.invariant-loop-k
-invariant-loop-k l = (l.s ≤ l.k) × (l.k ≤ length l.area) × (l.raw ≡ spans_up (from_start (lent l.w l.h l.index l.count l.area l.con)) l.s (l.k - l.s) l.initial.raw) × PassedTo (lent l.w l.h l.index l.count l.area l.con) l.k l.raw
+invariant-loop-k l = (l.s ≤ l.k) × (l.k ≤ length l.field.area.now) × (l.raw ≡ spans_up (from_start (seen l.field)) l.s (l.k - l.s) l.initial.raw) × PassedTo (seen l.field) l.k l.raw
 
 abbrev pub decreases-loop-k : goal.decreases-loop-k
-decreases-loop-k l = length l.area - l.k
+decreases-loop-k l = length l.field.area.now - l.k

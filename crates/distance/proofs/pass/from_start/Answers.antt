@@ -16,4 +16,4 @@ from_inside-requires c = record {
 }
 
 pub returns : goal.returns
-returns c = from_edge _ _ _ _ _ _ _ _ _ c.requires.fact.0 c.requires.fact.1 _ c.connections-cons.ensures _ c.surrounded.ensures c.if-surrounded.false (λ r. omega (arith, c.type_inv.area r))
+returns c = from_edge _ _ _ _ _ _ _ _ _ c.requires.fact.0 c.requires.fact.1 _ c.connections-cons.ensures _ c.surrounded.ensures c.if-surrounded.false (λ r. omega (arith, c.type_inv.field.area.now r))

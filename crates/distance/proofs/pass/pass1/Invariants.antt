@@ -4,13 +4,13 @@ use Prim.Native.Nat.{◌≤◌, ◌-◌}
 use mathlib.Core.Path.{◌≡◌}
 use lib.ListN.{length}
 use Rattle.rules.specs.Rows.{from_start}
-use Rattle.field.specs.Lent.{lent}
+use Rattle.field.specs.Seen.{seen}
 use Rattle.distance.specs.Value.{Goes, PassedTo}
 use Rattle.distance.specs.Walk.{spans_up}
 use Rattle.distance.proofs.pass.pass1.Given as goal
 
 abbrev pub invariant-loop-r : goal.invariant-loop-r
-invariant-loop-r l = (l.initial.r.at ≤ l.r.at) × (l.raw ≡ spans_up (from_start (lent l.w l.h l.index l.count l.area l.con)) l.initial.r.at (l.r.at - l.initial.r.at) l.initial.raw) × PassedTo (lent l.w l.h l.index l.count l.area l.con) l.r.at l.raw × Goes (length l.area) l.con l.r.at l.r.more
+invariant-loop-r l = (l.initial.r.at ≤ l.r.at) × (l.raw ≡ spans_up (from_start (seen l.field)) l.initial.r.at (l.r.at - l.initial.r.at) l.initial.raw) × PassedTo (seen l.field) l.r.at l.raw × Goes (length l.field.area.now) l.field.con.now l.r.at l.r.more
 
 abbrev pub decreases-loop-r : goal.decreases-loop-r
-decreases-loop-r l = length l.area - l.r.at
+decreases-loop-r l = length l.field.area.now - l.r.at

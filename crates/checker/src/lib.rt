@@ -18,43 +18,28 @@ use crate::links::links_ok;
 use crate::reach::reach_ok;
 use field::lent::Heightfield;
 
-// The table of refusals of documents 01 and 02. The last four are the region entry's.
+// The refusals of a field, with their numbers. The last four are the region entry's.
 #[derive(Clone, Copy)]
 pub enum Refusal {
-    TooWide,
-    TooMany,
-    WrongLength,
-    WrongCells,
-    WrongReach,
-    WrongBack,
-    TooShort,
-    TooFar,
-    NoIds,
-    NoSum,
+    TooWide = 1,
+    TooMany = 2,
+    WrongLength = 3,
+    WrongCells = 4,
+    WrongReach = 5,
+    WrongBack = 6,
+    TooShort = 7,
+    TooFar = 8,
+    NoIds = 12,
+    NoSum = 13,
 }
 
-// The number of a refusal.
-pub fn refusal_number(r: Refusal) -> u16
-    ensures { result ≡ number_of r }
-{
-    match r {
-        Refusal::TooWide => 1,
-        Refusal::TooMany => 2,
-        Refusal::WrongLength => 3,
-        Refusal::WrongCells => 4,
-        Refusal::WrongReach => 5,
-        Refusal::WrongBack => 6,
-        Refusal::TooShort => 7,
-        Refusal::TooFar => 8,
-        Refusal::NoIds => 12,
-        Refusal::NoSum => 13,
+impl Refusal {
+    // The number that C gets.
+    pub fn number(self) -> u16
+        ensures { result ≡ number_of self }
+    {
+        self as u16
     }
-}
-
-#[derive(Clone, Copy)]
-pub enum Verdict {
-    Sound,
-    Refused(Refusal),
 }
 
 // The most cells of a field's width and of its height.
@@ -86,33 +71,33 @@ fn lengths_ok(field: &Heightfield, a: usize, b: usize) -> bool
 }
 
 // The first of refusals 1 to 6 that applies; a and b are the lengths of the entry's own two lists.
-pub fn check(field: &Heightfield, a: usize, b: usize) -> Verdict
+pub fn check(field: &Heightfield, a: usize, b: usize) -> Result<(), Refusal>
     ensures { let F = seen field.now in
         verdict_number result ≡ refusal F (a ∷ b ∷ []) }
 {
     if MOST_CELLS_A_SIDE < field.w {
-        return Verdict::Refused(Refusal::TooWide);
+        return Err(Refusal::TooWide);
     }
     if MOST_CELLS_A_SIDE < field.h {
-        return Verdict::Refused(Refusal::TooWide);
+        return Err(Refusal::TooWide);
     }
     if MOST_SPANS < field.area.len() {
-        return Verdict::Refused(Refusal::TooMany);
+        return Err(Refusal::TooMany);
     }
-    if lengths_ok(field, a, b) {} else {
-        return Verdict::Refused(Refusal::WrongLength);
+    if !lengths_ok(field, a, b) {
+        return Err(Refusal::WrongLength);
     }
-    if cells_ok(field.index, field.count, field.area.len()) {} else {
-        return Verdict::Refused(Refusal::WrongCells);
+    if !cells_ok(field.index, field.count, field.area.len()) {
+        return Err(Refusal::WrongCells);
     }
     if links_ok(field) {
-        return Verdict::Sound;
+        return Ok(());
     }
     // One of 5 and 6 applies: a walk of its own tells which.
-    if reach_ok(field) {} else {
-        return Verdict::Refused(Refusal::WrongReach);
+    if !reach_ok(field) {
+        return Err(Refusal::WrongReach);
     }
-    Verdict::Refused(Refusal::WrongBack)
+    Err(Refusal::WrongBack)
 }
 
 // 3 for a list of another length than an entry asks, or 1 or 2 where that applies; the list itself is not lent here.
@@ -123,7 +108,7 @@ pub fn wrong_length(field: &Heightfield) -> u16
 {
     let n = field.area.len() + 1;
     match check(field, n, n) {
-        Verdict::Refused(r) => refusal_number(r),
-        Verdict::Sound => 0,
+        Err(r) => r.number(),
+        Ok(()) => 0,
     }
 }

@@ -186,7 +186,7 @@ fn rows_ok(field: &Heightfield) -> bool
     ensures { let F = seen field.now in
         result ≡ every (spans F) (half_at F) }
 {
-    for z in 0..h {
+    for z in 0..field.h {
         if row_ok(field, z) {} else {
             return false;
         }

@@ -79,7 +79,7 @@ pub(crate) fn reach_ok(field: &Heightfield) -> bool
     ensures { let F = seen field.now in
         result ≡ every (spans F) (reach_at F) }
 {
-    for c in 0..count.len() {
+    for c in 0..field.count.len() {
         if cell_ok(field, c) {} else {
             return false;
         }

@@ -153,7 +153,7 @@ pub fn box_blur(field: &Heightfield, raw: &[u16], blurred: &mut [u16])
     ensures { let F = seen field.now in
         blurred.new ≡ rules.blur F raw.now }
 {
-    for s in 0..area.len() {
+    for s in 0..field.area.len() {
         let p = Place {
             cell: at16(blurred, s),
             span: SpanIx(s),

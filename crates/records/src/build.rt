@@ -163,7 +163,7 @@ pub fn build_records(field: &Heightfield, ids: &[u16], ws: &mut [u16], table: us
         top: 0,
         last: Spans { from: 0, size: 0 },
     };
-    for c in 0..w * field.h {
+    for c in 0..field.w * field.h {
         t = add_cell_at(
             field.index,
             field.count,

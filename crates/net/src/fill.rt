@@ -10,7 +10,6 @@ ghost use Rattle.field.specs.Seen.{seen};
 use field::block::{block_of, is_empty};
 use field::lent::Heightfield;
 use field::place::{NO_LAYER, SpanIx, connections, follow};
-use field::read::{at8, at32};
 
 // What the table has where a span has no neighbour: NO_SPAN in 16 bits.
 const NO_NEIGHBOUR: u16 = 65535;
@@ -50,8 +49,8 @@ fn fill_cell(field: &Heightfield, ws: &mut [u16], table: usize, c: usize)
     ensures { let F = seen field.now in
         ws.new ≡ filled F table (get_or F.index c 0) (get_or F.count c 0) ws.old }
 {
-    let first = at32(field.index, c);
-    let spans = at8(field.count, c);
+    let first = field.index[c] as usize;
+    let spans = field.count[c] as usize;
     for j in 0..spans {
         fill_span(field, ws, table, c, first + j);
     }

@@ -20,7 +20,7 @@ returns-in-Refused c = record {
 }
 
 pub returns-in-Sound : goal.returns-in-Sound
-returns-in-Sound c = let bytes : (i : ℕ) → get_or c.args.area.now i 0 < 256 = λ i. omega (arith, c.type_inv.field.area.now i) in
+returns-in-Sound c = let bytes : (i : ℕ) → get_or c.args.field.now.area.now i 0 < 256 = λ i. omega (arith, c.type_inv.field.area.now i) in
     record {
       fact = search (rules, done_out);
       meaning = search (rules, done_means, bytes);

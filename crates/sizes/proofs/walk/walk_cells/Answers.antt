@@ -12,21 +12,21 @@ pub at8-spans-requires : goal.at8-spans-requires
 at8-spans-requires c = omega (arith, c.loop-c-test.true, c.requires.0.counted)
 
 pub nonzero_rem-x : goal.nonzero_rem-x
-nonzero_rem-x c = omega (arith, wide_pos c.args.field.w c.args.field.h c.loop-c.c c.loop-c-test.true)
+nonzero_rem-x c = omega (arith, wide_pos c.args.field.now.w c.args.field.now.h c.loop-c.c c.loop-c-test.true)
 
 pub overflow_cast-x : goal.overflow_cast-x
-overflow_cast-x c = omega (arith, c.loop-c-test.true, c.requires.0.grid, rest_le c.loop-c.c c.args.field.w)
+overflow_cast-x c = omega (arith, c.loop-c-test.true, c.requires.0.grid, rest_le c.loop-c.c c.args.field.now.w)
 
 pub nonzero_div-z : goal.nonzero_div-z
-nonzero_div-z c = omega (arith, wide_pos c.args.field.w c.args.field.h c.loop-c.c c.loop-c-test.true)
+nonzero_div-z c = omega (arith, wide_pos c.args.field.now.w c.args.field.now.h c.loop-c.c c.loop-c-test.true)
 
 pub overflow_cast-z : goal.overflow_cast-z
-overflow_cast-z c = omega (arith, c.loop-c-test.true, c.requires.0.grid, part_le c.loop-c.c c.args.field.w)
+overflow_cast-z c = omega (arith, c.loop-c-test.true, c.requires.0.grid, part_le c.loop-c.c c.args.field.now.w)
 
 pub walk_cell-seen-requires : goal.walk_cell-seen-requires
 walk_cell-seen-requires c = record {
   spans_in_bounds = (walked_fits _ _ _ _ _ _ _ _ c.requires.0 _ _ _ c.loop-c.invariant c.loop-c-test.true _ c.at8-spans.ensures.0, c.requires.1, c.requires.0.few);
-  count_le_first = (c.loop-c.invariant.low, omega (arith, c.loop-c-test.true, c.requires.0.grid, rest_le c.loop-c.c c.args.field.w), omega (arith, c.loop-c-test.true, c.requires.0.grid, part_le c.loop-c.c c.args.field.w));
+  count_le_first = (c.loop-c.invariant.low, omega (arith, c.loop-c-test.true, c.requires.0.grid, rest_le c.loop-c.c c.args.field.now.w), omega (arith, c.loop-c-test.true, c.requires.0.grid, part_le c.loop-c.c c.args.field.now.w));
 }
 
 pub overflow_add-first : goal.overflow_add-first

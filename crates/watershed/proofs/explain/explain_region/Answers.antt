@@ -11,65 +11,65 @@ use Rattle.watershed.proofs.ExplainLaws.{no_room_told, room_told, tells_filtered
 use Rattle.watershed.proofs.explain.explain_region.Goals as goal
 
 pub links_past-end-requires : goal.links_past-end-requires
-links_past-end-requires c = let bytes : (j : ℕ) → get_or c.args.area.now j 0 < 256 = λ j. omega (arith, c.type_inv.field.area.now j) in
+links_past-end-requires c = let bytes : (j : ℕ) → get_or c.args.field.now.area.now j 0 < 256 = λ j. omega (arith, c.type_inv.field.area.now j) in
     let n = short _ _ _ _ _ _ _ _ _ _ _ _ _ _ _ c.requires.0 bytes in
     (omega (arith, n), n)
 
 pub bounds-ids-span : goal.bounds-ids-span
-bounds-ids-span c = let bytes : (j : ℕ) → get_or c.args.area.now j 0 < 256 = λ j. omega (arith, c.type_inv.field.area.now j) in
+bounds-ids-span c = let bytes : (j : ℕ) → get_or c.args.field.now.area.now j 0 < 256 = λ j. omega (arith, c.type_inv.field.area.now j) in
     omega (arith, c.requires.0.span, sized _ _ _ _ _ _ _ _ _ _ _ _ _ _ _ c.requires.0 bytes)
 
 pub overflow_add-next : goal.overflow_add-next
-overflow_add-next c = let bytes : (j : ℕ) → get_or c.args.area.now j 0 < 256 = λ j. omega (arith, c.type_inv.field.area.now j) in
+overflow_add-next c = let bytes : (j : ℕ) → get_or c.args.field.now.area.now j 0 < 256 = λ j. omega (arith, c.type_inv.field.area.now j) in
     omega (arith, (can_ready_part _ _ _ _ _ _ _ _ _ _ _ _ _ _ _ c.requires.0 bytes).0)
 
 pub ready_records-requires : goal.ready_records-requires
-ready_records-requires c = let bytes : (j : ℕ) → get_or c.args.area.now j 0 < 256 = λ j. omega (arith, c.type_inv.field.area.now j) in
+ready_records-requires c = let bytes : (j : ℕ) → get_or c.args.field.now.area.now j 0 < 256 = λ j. omega (arith, c.type_inv.field.area.now j) in
     can_ready_part _ _ _ _ _ _ _ _ _ _ _ _ _ _ _ c.requires.0 bytes
 
 pub build_in-requires : goal.build_in-requires
-build_in-requires c = let bytes : (j : ℕ) → get_or c.args.area.now j 0 < 256 = λ j. omega (arith, c.type_inv.field.area.now j) in
+build_in-requires c = let bytes : (j : ℕ) → get_or c.args.field.now.area.now j 0 < 256 = λ j. omega (arith, c.type_inv.field.area.now j) in
     (omega (arith, past_room _ _ _ _ _ _ _ _ _ _ _ _ _ _ _ c.requires.0 bytes _ c.links_past-end.ensures _ c.ready_records.auto.ws c.ready_records.ensures), part_given _ _ _ _ _ _ _ _ _ _ _ _ _ _ _ c.requires.0 bytes _ c.links_past-end.ensures _ c.ready_records.auto.ws c.ready_records.ensures, part-blank _ _ _ _ _ _ _ _ _ _ _ _ _ _ _ c.requires.0 bytes _ c.links_past-end.ensures _ c.ready_records.auto.ws c.ready_records.ensures, part_fits _ _ _ _ _ _ _ _ _ _ _ _ _ _ _ c.requires.0 bytes)
 
 pub merge_and_filter_told-t-requires : goal.merge_and_filter_told-t-requires
-merge_and_filter_told-t-requires c = let bytes : (j : ℕ) → get_or c.args.area.now j 0 < 256 = λ j. omega (arith, c.type_inv.field.area.now j) in
+merge_and_filter_told-t-requires c = let bytes : (j : ℕ) → get_or c.args.field.now.area.now j 0 < 256 = λ j. omega (arith, c.type_inv.field.area.now j) in
     (omega (arith, past_room _ _ _ _ _ _ _ _ _ _ _ _ _ _ _ c.requires.0 bytes _ c.links_past-end.ensures _ c.ready_records.auto.ws c.ready_records.ensures, c.build_in.auto.ws), part_ready _ _ _ _ _ _ _ _ _ _ _ _ _ _ _ c.requires.0 bytes _ c.links_past-end.ensures _ c.ready_records.auto.ws c.ready_records.ensures _ c.build_in.auto.ws c.build_in.ensures, id_below _ _ _ _ _ _ _ _ _ _ _ _ _ _ _ c.requires.0 bytes c.requires.1.plain)
 
 pub overflow_cast-t : goal.overflow_cast-t
-overflow_cast-t c = let bytes : (j : ℕ) → get_or c.args.area.now j 0 < 256 = λ j. omega (arith, c.type_inv.field.area.now j) in
+overflow_cast-t c = let bytes : (j : ℕ) → get_or c.args.field.now.area.now j 0 < 256 = λ j. omega (arith, c.type_inv.field.area.now j) in
     omega (arith, group_small _ _ _ _ _ _ _ _ _ _ _ _ _ _ _ c.requires.0 bytes _ c.links_past-end.ensures _ c.ready_records.auto.ws c.ready_records.ensures _ c.build_in.auto.ws c.build_in.ensures _ _ _ _ _ _ _ _ refl c.merge_and_filter_told-t.ensures, c.ranges.min_region_area)
 
 pub shape_of-ws-then-t-eq0 : goal.shape_of-ws-then-t-eq0
 shape_of-ws-then-t-eq0 c = c.merge_and_filter_told-t.auto.ws ∙ c.build_in.auto.ws ∙ c.ready_records.auto.ws
 
 pub returns-then-t-eq0 : goal.returns-then-t-eq0
-returns-then-t-eq0 c = let bytes : (j : ℕ) → get_or c.args.area.now j 0 < 256 = λ j. omega (arith, c.type_inv.field.area.now j) in
+returns-then-t-eq0 c = let bytes : (j : ℕ) → get_or c.args.field.now.area.now j 0 < 256 = λ j. omega (arith, c.type_inv.field.area.now j) in
     no_room_told _ _ _ _ _ _ _ _ c.without_room.ensures c.clear.ensures (c.merge_and_filter_told-t.auto.ids ∙ sized _ _ _ _ _ _ _ _ _ _ _ _ _ _ _ c.requires.0 bytes) (tells_filtered_out _ _ _ _)
     (filtered_out_at _ _ _ _ _ _ c.requires.0.grew c.requires.0.span c.requires.1 _ _ (told_id _ _ _ _ _ _ _ _ _ _ _ _ _ _ _ c.requires.0 bytes _ c.links_past-end.ensures _ c.ready_records.auto.ws c.ready_records.ensures _ c.build_in.auto.ws c.build_in.ensures _ _ _ _ _ _ _ _ refl c.merge_and_filter_told-t.ensures) c.if-t-eq0.true (told_group _ _ _ _ _ _ _ _ _ _ _ _ _ _ _ c.requires.0 bytes _ c.links_past-end.ensures _ c.ready_records.auto.ws c.ready_records.ensures _ c.build_in.auto.ws c.build_in.ensures _ _ _ _ _ _ _ _ refl c.merge_and_filter_told-t.ensures))
 
 pub offset_bounds-ids-span-2 : goal.offset_bounds-ids-span-2
-offset_bounds-ids-span-2 c = let bytes : (j : ℕ) → get_or c.args.area.now j 0 < 256 = λ j. omega (arith, c.type_inv.field.area.now j) in
+offset_bounds-ids-span-2 c = let bytes : (j : ℕ) → get_or c.args.field.now.area.now j 0 < 256 = λ j. omega (arith, c.type_inv.field.area.now j) in
     omega (arith, c.requires.0.span, short _ _ _ _ _ _ _ _ _ _ _ _ _ _ _ c.requires.0 bytes)
 
 pub bounds-ids-span-2 : goal.bounds-ids-span-2
-bounds-ids-span-2 c = let bytes : (j : ℕ) → get_or c.args.area.now j 0 < 256 = λ j. omega (arith, c.type_inv.field.area.now j) in
+bounds-ids-span-2 c = let bytes : (j : ℕ) → get_or c.args.field.now.area.now j 0 < 256 = λ j. omega (arith, c.type_inv.field.area.now j) in
     omega (arith, c.requires.0.span, sized _ _ _ _ _ _ _ _ _ _ _ _ _ _ _ c.requires.0 bytes, c.merge_and_filter_told-t.auto.ids)
 
 pub lay_trail-long-requires : goal.lay_trail-long-requires
-lay_trail-long-requires c = let bytes : (j : ℕ) → get_or c.args.area.now j 0 < 256 = λ j. omega (arith, c.type_inv.field.area.now j) in (
+lay_trail-long-requires c = let bytes : (j : ℕ) → get_or c.args.field.now.area.now j 0 < 256 = λ j. omega (arith, c.type_inv.field.area.now j) in (
   omega (arith, noted_room _ _ _ _ _ _ _ _ _ _ _ _ _ _ _ c.requires.0 bytes _ c.links_past-end.ensures _ c.ready_records.auto.ws c.ready_records.ensures _ c.build_in.auto.ws c.build_in.ensures _ _ _ _ _ _ _ _ refl c.merge_and_filter_told-t.ensures, c.merge_and_filter_told-t.auto.ws, c.build_in.auto.ws),
   omega (arith, laid_room _ _ _ _ _ _ _ _ _ _ _ _ _ _ _ c.requires.0 bytes _ c.links_past-end.ensures _ c.ready_records.auto.ws c.ready_records.ensures _ c.build_in.auto.ws c.build_in.ensures _ _ _ _ _ _ _ _ refl c.merge_and_filter_told-t.ensures c.if-t-eq0.false, c.merge_and_filter_told-t.auto.ids, sized _ _ _ _ _ _ _ _ _ _ _ _ _ _ _ c.requires.0 bytes),
 )
 
 pub in_room-requires : goal.in_room-requires
-in_room-requires c = let bytes : (j : ℕ) → get_or c.args.area.now j 0 < 256 = λ j. omega (arith, c.type_inv.field.area.now j) in
+in_room-requires c = let bytes : (j : ℕ) → get_or c.args.field.now.area.now j 0 < 256 = λ j. omega (arith, c.type_inv.field.area.now j) in
     omega (arith, c.lay_trail-long.ensures.0, laid_room _ _ _ _ _ _ _ _ _ _ _ _ _ _ _ c.requires.0 bytes _ c.links_past-end.ensures _ c.ready_records.auto.ws c.ready_records.ensures _ c.build_in.auto.ws c.build_in.ensures _ _ _ _ _ _ _ _ refl c.merge_and_filter_told-t.ensures c.if-t-eq0.false, short _ _ _ _ _ _ _ _ _ _ _ _ _ _ _ c.requires.0 bytes)
 
 pub shape_of-ws : goal.shape_of-ws
 shape_of-ws c = c.merge_and_filter_told-t.auto.ws ∙ c.build_in.auto.ws ∙ c.ready_records.auto.ws
 
 pub returns : goal.returns
-returns c = let bytes : (j : ℕ) → get_or c.args.area.now j 0 < 256 = λ j. omega (arith, c.type_inv.field.area.now j) in
+returns c = let bytes : (j : ℕ) → get_or c.args.field.now.area.now j 0 < 256 = λ j. omega (arith, c.type_inv.field.area.now j) in
     let d = c.less.ensures ∙ ap (λ (f : ℕ). f - 1) c.first_id.ensures in
     let t = trail (mergings_from c.merge_and_filter_told-t.new.ws c.links_past-end.result c.merge_and_filter_told-t.result.merges)
     (get_or c.args.ids.now c.args.span 0) in

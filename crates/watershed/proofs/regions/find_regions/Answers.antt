@@ -14,7 +14,7 @@ pub grow_regions-g-requires : goal.grow_regions-g-requires
 grow_regions-g-requires c = (c.requires, c.records_end-table.ensures)
 
 pub returns-then-g-ne-GOES_ON : goal.returns-then-g-ne-GOES_ON
-returns-then-g-ne-GOES_ON c = let bytes : (j : ℕ) → get_or c.args.area.now j 0 < 256 = λ j. omega (arith, c.type_inv.field.area.now j) in
+returns-then-g-ne-GOES_ON c = let bytes : (j : ℕ) → get_or c.args.field.now.area.now j 0 < 256 = λ j. omega (arith, c.type_inv.field.area.now j) in
     record {
       fact = finds_stop _ _ _ _ _ _ _ _ _ _ c.grow_regions-g.ensures.fact c.if-g-ne-GOES_ON.true _ refl;
       ws_after = c.wipe.ensures ∙ ap (λ (l : ℕ). replicate l 0) c.grow_regions-g.auto.ws;
@@ -22,25 +22,25 @@ returns-then-g-ne-GOES_ON c = let bytes : (j : ℕ) → get_or c.args.area.now j
     }
 
 pub ready_records-requires : goal.ready_records-requires
-ready_records-requires c = let bytes : (j : ℕ) → get_or c.args.area.now j 0 < 256 = λ j. omega (arith, c.type_inv.field.area.now j) in
+ready_records-requires c = let bytes : (j : ℕ) → get_or c.args.field.now.area.now j 0 < 256 = λ j. omega (arith, c.type_inv.field.area.now j) in
     can_ready _ _ _ _ _ _ _ _ _ c.requires _ c.records_end-table.ensures bytes _ _ _ _ _ _ c.grow_regions-g.ensures.fact c.if-g-ne-GOES_ON.false c.grow_regions-g.auto.ws
 
 pub build_records-requires : goal.build_records-requires
-build_records-requires c = let bytes : (j : ℕ) → get_or c.args.area.now j 0 < 256 = λ j. omega (arith, c.type_inv.field.area.now j) in
+build_records-requires c = let bytes : (j : ℕ) → get_or c.args.field.now.area.now j 0 < 256 = λ j. omega (arith, c.type_inv.field.area.now j) in
     record {
       given = given _ _ _ _ _ _ _ _ _ c.requires _ c.records_end-table.ensures bytes _ _ _ _ _ _ c.grow_regions-g.ensures.fact c.if-g-ne-GOES_ON.false c.grow_regions-g.auto.ws _ c.ready_records.auto.ws c.ready_records.ensures;
       blank = (blank _ _ _ _ _ _ _ _ _ c.requires _ c.records_end-table.ensures bytes _ _ _ _ _ _ c.grow_regions-g.ensures.fact c.if-g-ne-GOES_ON.false c.grow_regions-g.auto.ws _ c.ready_records.auto.ws c.ready_records.ensures, fits _ _ _ _ _ _ _ _ _ c.requires _ c.records_end-table.ensures bytes _ _ _ _ _ _ c.grow_regions-g.ensures.fact c.if-g-ne-GOES_ON.false c.grow_regions-g.auto.ws);
     }
 
 pub merge_and_filter_regions-r-requires : goal.merge_and_filter_regions-r-requires
-merge_and_filter_regions-r-requires c = let bytes : (j : ℕ) → get_or c.args.area.now j 0 < 256 = λ j. omega (arith, c.type_inv.field.area.now j) in
+merge_and_filter_regions-r-requires c = let bytes : (j : ℕ) → get_or c.args.field.now.area.now j 0 < 256 = λ j. omega (arith, c.type_inv.field.area.now j) in
     ready _ _ _ _ _ _ _ _ _ c.requires _ c.records_end-table.ensures bytes _ _ _ _ _ _ c.grow_regions-g.ensures.fact c.if-g-ne-GOES_ON.false c.grow_regions-g.auto.ws _ c.ready_records.auto.ws c.ready_records.ensures _ c.build_records.ensures
 
 pub shape_of-ws : goal.shape_of-ws
 shape_of-ws c = c.wipe-2.auto.ws ∙ c.merge_and_filter_regions-r.auto.ws ∙ c.build_records.ensures.size ∙ c.ready_records.auto.ws ∙ c.grow_regions-g.auto.ws
 
 pub returns : goal.returns
-returns c = let bytes : (j : ℕ) → get_or c.args.area.now j 0 < 256 = λ j. omega (arith, c.type_inv.field.area.now j) in
+returns c = let bytes : (j : ℕ) → get_or c.args.field.now.area.now j 0 < 256 = λ j. omega (arith, c.type_inv.field.area.now j) in
     let size = c.merge_and_filter_regions-r.auto.ws ∙ c.build_records.ensures.size ∙ c.ready_records.auto.ws ∙ c.grow_regions-g.auto.ws in
     record {
       fact = finds-regions _ _ _ _ _ _ _ _ _ _ c.grow_regions-g.ensures.fact c.if-g-ne-GOES_ON.false _ (whole _ _ _ _ _ _ _ _ _ c.requires _ c.records_end-table.ensures bytes _ _ _ _ _ _ c.grow_regions-g.ensures.fact c.if-g-ne-GOES_ON.false c.grow_regions-g.auto.ws _ c.ready_records.auto.ws c.ready_records.ensures _ c.build_records.ensures _ _ _ c.merge_and_filter_regions-r.ensures);

@@ -147,12 +147,11 @@ fn from_start(field: &Heightfield, raw: &[u16], p: Place) -> u16
     ensures { let F = seen field.now in
         result ≡ least_from F (rules.start_at F p.span.0) 0 3 3 2 p.span.0 raw.now }
 {
-    let s = p.span;
-    let cons = connections(field.con, s);
-    if surrounded(cons) {
-        return from_inside(field, raw, p);
+    let cons = connections(field.con, p.span);
+    if !surrounded(cons) {
+        return 0;
     }
-    0
+    from_inside(field, raw, p)
 }
 
 // The start and pass 1 over the spans of the cell in column x of row y.

@@ -16,7 +16,7 @@ pub returns-then-surrounded : goal.returns-then-surrounded
 returns-then-surrounded c = (search rules, search rules, search rules, goes_on _ _ _ _ _ c.connections-cons.ensures c.surrounded.ensures c.if-surrounded.true c.loop-k-test.true)
 
 pub loop-k-preserved : goal.loop-k-preserved
-loop-k-preserved c = (search rules, search rules, edge_run _ _ _ _ _ _ _ _ c.requires.0 c.loop-k.invariant.3 c.loop-k-test.true _ c.connections-cons.ensures _ c.surrounded.ensures c.if-surrounded.false (λ r. omega (arith, c.type_inv.field.area.now r)) _ _ c.loop-k.invariant.0 c.loop-k.invariant.2, edge_go _ _ _ _ _ _ _ _ c.requires.0 c.loop-k.invariant.3 c.loop-k-test.true _ c.connections-cons.ensures _ c.surrounded.ensures c.if-surrounded.false (λ r. omega (arith, c.type_inv.field.area.now r)))
+loop-k-preserved c = (search rules, search rules, edge_run _ _ _ _ _ _ _ _ c.requires.0 c.loop-k.invariant.3 c.loop-k-test.true _ c.connections-cons.ensures _ c.surrounded.ensures c.if-surrounded.false c.args.field.now.codes _ _ c.loop-k.invariant.0 c.loop-k.invariant.2, edge_go _ _ _ _ _ _ _ _ c.requires.0 c.loop-k.invariant.3 c.loop-k-test.true _ c.connections-cons.ensures _ c.surrounded.ensures c.if-surrounded.false c.args.field.now.codes)
 
 pub returns : goal.returns
 returns c = (search rules, search rules, search rules, goes_off _ _ _ c.loop-k.invariant.1 c.loop-k-test.false)

@@ -12,8 +12,8 @@ pub from_inside-requires : goal.from_inside-requires
 from_inside-requires c = record {
   fact = search rules;
   room = search rules;
-  span_value = ringed-at _ _ _ c.connections-cons.ensures _ c.surrounded.ensures c.if-surrounded.true;
+  span_value = ringed-at _ _ _ c.connections-cons.ensures _ c.surrounded.ensures c.if-not-surrounded.false;
 }
 
-pub returns : goal.returns
-returns c = from_edge _ _ _ _ _ _ _ _ _ c.requires.fact.0 c.requires.fact.1 _ c.connections-cons.ensures _ c.surrounded.ensures c.if-surrounded.false (λ r. omega (arith, c.type_inv.field.area.now r))
+pub returns-then-not-surrounded : goal.returns-then-not-surrounded
+returns-then-not-surrounded c = from_edge _ _ _ _ _ _ _ _ _ c.requires.fact.0 c.requires.fact.1 _ c.connections-cons.ensures _ c.surrounded.ensures c.if-not-surrounded.true c.args.field.now.codes

@@ -29,7 +29,7 @@ bounds-raw-s c = omega (arith, c.loop-r.invariant.2.size, c.loop-r.invariant.3.t
 
 pub edges-r-requires-in-loop-r : goal.edges-r-requires-in-loop-r
 edges-r-requires-in-loop-r c = let st = cell_stands _ _ _ _ _ c.requires.2 (c.loop-r.invariant.3.there c.loop-r-test.true) refl c.at16.ensures.0 in
-    (search rules, omega (arith, st.span), flat_go _ c.requires.0 _ _ _ c.loop-r.invariant.2 st (λ i. omega (arith, c.type_inv.field.area.now i)) _ c.from_inside.ensures)
+    (search rules, omega (arith, st.span), flat_go _ c.requires.0 _ _ _ c.loop-r.invariant.2 st c.args.field.now.codes _ c.from_inside.ensures)
 
 pub loop-r-preserved : goal.loop-r-preserved
 loop-r-preserved c = let st = cell_stands _ _ _ _ _ c.requires.2 (c.loop-r.invariant.3.there c.loop-r-test.true) refl c.at16.ensures.0 in

@@ -32,7 +32,7 @@ pub bounds-raw-s : goal.bounds-raw-s
 bounds-raw-s c = search (rules, passing_in)
 
 pub loop-j-preserved : goal.loop-j-preserved
-loop-j-preserved c = (search rules, search rules, start_go _ _ _ _ _ _ _ _ _ _ _ c.requires.0 c.at32-i.ensures.0 c.at8-k.ensures.0 c.loop-j-test.true _ _ c.loop-j.invariant.1 c.requires.1 c.loop-j.invariant.3 _ c.from_start.ensures _ c.loop-j.invariant.2, passing_go _ _ _ _ _ _ _ _ _ _ _ c.requires.0 c.at32-i.ensures.0 c.at8-k.ensures.0 c.loop-j-test.true _ _ c.loop-j.invariant.1 c.requires.1 c.loop-j.invariant.3 _ c.from_start.ensures, layers_go _ _ _ _ _ _ _ _ _ _ _ c.requires.0 c.at32-i.ensures.0 c.at8-k.ensures.0 c.loop-j-test.true _ _ c.loop-j.invariant.1 c.requires.1 c.loop-j.invariant.3 _ c.from_start.ensures (λ r. omega (arith, c.type_inv.field.area.now r)) c.loop-j.invariant.4)
+loop-j-preserved c = (search rules, search rules, start_go _ _ _ _ _ _ _ _ _ _ _ c.requires.0 c.at32-i.ensures.0 c.at8-k.ensures.0 c.loop-j-test.true _ _ c.loop-j.invariant.1 c.requires.1 c.loop-j.invariant.3 _ c.from_start.ensures _ c.loop-j.invariant.2, passing_go _ _ _ _ _ _ _ _ _ _ _ c.requires.0 c.at32-i.ensures.0 c.at8-k.ensures.0 c.loop-j-test.true _ _ c.loop-j.invariant.1 c.requires.1 c.loop-j.invariant.3 _ c.from_start.ensures, layers_go _ _ _ _ _ _ _ _ _ _ _ c.requires.0 c.at32-i.ensures.0 c.at8-k.ensures.0 c.loop-j-test.true _ _ c.loop-j.invariant.1 c.requires.1 c.loop-j.invariant.3 _ c.from_start.ensures c.args.field.now.codes c.loop-j.invariant.4)
 
 pub returns : goal.returns
 returns c = (search (rules, cell-end), search (rules, passing_end))

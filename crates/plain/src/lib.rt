@@ -14,36 +14,25 @@ ghost use Rattle.plain.specs.Answer.{outcome, GivesPlainRooms};
 ghost use Rattle.field.specs.Seen.{seen};
 
 use crate::fill::number_rooms;
-use checker::{Refusal, Verdict, check};
+use checker::{Refusal, check};
 use field::lent::Heightfield;
 use net::fill::fill_neighbours;
 use paint::paint_border;
 use space::{clear, copy, copy_part};
 
-// What the entry gives: the refusal, or max_region.
-#[derive(Clone, Copy)]
-pub enum RoomsAnswer {
-    Refused(Refusal),
-    Done(u16),
-}
-
 // Ids of rooms are below the flag.
 const MOST_ROOMS: u16 = 32767;
 
 // The first of refusals 1 to 7 that applies; work and own are the lengths of the workspace and of the list of ids.
-fn check_rooms(field: &Heightfield, work: usize, own: usize) -> Verdict
+fn check_rooms(field: &Heightfield, work: usize, own: usize) -> Result<(), Refusal>
     ensures { let F = seen field.now in
         verdict_number result ≡ rooms_refusal F (own ∷ []) work }
 {
-    match check(field, own, own) {
-        Verdict::Refused(r) => Verdict::Refused(r),
-        Verdict::Sound => {
-            if work < 128 * field.area.len() + 4096 {
-                return Verdict::Refused(Refusal::TooShort);
-            }
-            Verdict::Sound
-        }
+    check(field, own, own)?;
+    if work < 128 * field.area.len() + 4096 {
+        return Err(Refusal::TooShort);
     }
+    Ok(())
 }
 
 // The ids that stand in the workspace from kept on are put back.
@@ -89,21 +78,17 @@ pub fn build_rooms(
     border_size: u16,
     workspace: &mut [u16],
     ids: &mut [u16],
-) -> RoomsAnswer
+) -> Result<u16, Refusal>
     ensures ids_after { let F = seen field.now in
         outcome result workspace.new ids.new ≡ rooms_outcome F border_size workspace.old ids.old }
     ensures rooms { let F = seen field.now in
         GivesPlainRooms F border_size result ids.new }
 {
-    match check_rooms(field, workspace.len(), ids.len()) {
-        Verdict::Refused(r) => RoomsAnswer::Refused(r),
-        Verdict::Sound => {
-            let most = find_rooms(field, border_size, workspace, ids);
-            clear(workspace);
-            if MOST_ROOMS < most {
-                return RoomsAnswer::Refused(Refusal::NoIds);
-            }
-            RoomsAnswer::Done(most)
-        }
+    check_rooms(field, workspace.len(), ids.len())?;
+    let most = find_rooms(field, border_size, workspace, ids);
+    clear(workspace);
+    if MOST_ROOMS < most {
+        return Err(Refusal::NoIds);
     }
+    Ok(most)
 }

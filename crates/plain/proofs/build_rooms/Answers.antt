@@ -11,23 +11,23 @@ use Rattle.plain.proofs.Calls.{lent_bytes, call_gives-plain_rooms, refused_no_ro
 use Rattle.plain.proofs.build_rooms.Goals as goal
 
 pub find_rooms-most-requires : goal.find_rooms-most-requires
-find_rooms-most-requires c = rooms_admitted _ _ _ _ c.in-Sound.ensures refl
+find_rooms-most-requires c = rooms_admitted _ _ _ _ c.check_rooms.ensures c.in_ok-check_rooms.is
 
 pub returns-then-most-gt-MOST_ROOMS : goal.returns-then-most-gt-MOST_ROOMS
 returns-then-most-gt-MOST_ROOMS c = record {
-  ids_after = rooms_run_out _ _ c.args.workspace.now c.args.ids.now _ c.in-Sound.ensures refl _ _ c.find_rooms-most.ensures _
+  ids_after = rooms_run_out _ _ c.args.workspace.now c.args.ids.now _ c.check_rooms.ensures c.in_ok-check_rooms.is _ _ c.find_rooms-most.ensures _
       (c.clear.ensures ∙ ap (λ (n : ℕ). replicate n 0) c.find_rooms-most.auto.ws) c.if-most-gt-MOST_ROOMS.true;
   rooms = refused_no_rooms _ _ _ _;
 }
 
-pub returns-in-Refused : goal.returns-in-Refused
-returns-in-Refused c = record {
+pub returns-in_err-check_rooms : goal.returns-in_err-check_rooms
+returns-in_err-check_rooms c = record {
   ids_after = search (rules, rooms_refused);
   rooms = search (rules, refused_no_rooms);
 }
 
-pub returns-else-most-gt-MOST_ROOMS : goal.returns-else-most-gt-MOST_ROOMS
-returns-else-most-gt-MOST_ROOMS c = let done = rooms_done _ _ c.args.workspace.now c.args.ids.now _ c.in-Sound.ensures refl _ _ c.find_rooms-most.ensures _
+pub returns : goal.returns
+returns c = let done = rooms_done _ _ c.args.workspace.now c.args.ids.now _ c.check_rooms.ensures c.in_ok-check_rooms.is _ _ c.find_rooms-most.ensures _
     (c.clear.ensures ∙ ap (λ (n : ℕ). replicate n 0) c.find_rooms-most.auto.ws) c.if-most-gt-MOST_ROOMS.false in
     record {
       ids_after = done;

@@ -28,8 +28,8 @@ loop-top-init c = let room : length c.args.area.now ≤ length c.args.ws.now = o
     running_start _ _ _ _ _ _ (held_kept _ _ _ _ c.requires.0 (simp length-set) (start_past _ c.args.ws.now _ _ _ c.requires.1 c.requires.2 room))
     (start_filling _ c.args.ws.now _ _ _ c.requires.1 c.requires.2 room)
 
-pub at16-c-requires : goal.at16-c-requires
-at16-c-requires c = omega (arith, c.loop-top-test.true, top_in _ _ _ _ _ _ _ _ _ c.loop-top.invariant, c.loop-top.invariant.held.past, c.loop-top.invariant.held.room)
+pub bounds-ws-top : goal.bounds-ws-top
+bounds-ws-top c = omega (arith, c.loop-top-test.true, top_in _ _ _ _ _ _ _ _ _ c.loop-top.invariant, c.loop-top.invariant.held.past, c.loop-top.invariant.held.room)
 
 pub join_all-top-requires : goal.join_all-top-requires
 join_all-top-requires c = let byte : get_or c.args.area.now c.args.from.0 0 < 256 = omega (arith, c.type_inv.area c.args.from.0) in

@@ -14,7 +14,7 @@ use Rattle.rules.specs.Refusals.{too_wide, too_many, wrong_length, wrong_cells, 
 use Rattle.rules.specs.Plain.{most_rooms, plain_rooms, rooms_refusal, RoomsOutcome, rooms_outcome}
 use Rattle.laws.proofs.Basics.{if-ind, get_d_any}
 use Rattle.field.specs.Lent.{lent}
-use Rattle.std.specs.Prelude.{Result, Ok, Err}
+use Rattle.std.specs.Prelude.{Result, Err}
 use Rattle.plain.specs.PlainRooms.{PlainRooms}
 use Rattle.plain.specs.Answer.{rooms_refused_by, outcome, GivesPlainRooms}
 use Rattle.checker.specs.declared.Refusal.{Refusal}

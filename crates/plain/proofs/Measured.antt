@@ -14,7 +14,8 @@ use Rattle.rules.specs.Refusals.{refusal}
 use Rattle.rules.specs.Plain.{rooms_refusal, RoomsOutcome, rooms_outcome}
 use Rattle.laws.proofs.Basics.{if-ind, nonzero_in}
 use Rattle.extents.proofs.Finished.{Finished, Measured, finished_measured, sound_none}
-use Rattle.std.specs.Prelude.{Result, Ok, Err}
+use Rattle.std.specs.Prelude.{Result}
+use Rattle.checker.specs.declared.Refusal.{Refusal}
 use Rattle.plain.specs.PlainRooms.{PlainRooms}
 use Rattle.plain.specs.Answer.{rooms_refused_by, rooms_most_in, outcome, GivesPlainRooms}
 use Rattle.plain.proofs.Checks.{rooms_accepted}

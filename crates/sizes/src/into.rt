@@ -7,8 +7,8 @@ ghost use Rattle.sizes.specs.Into.{sizes_of, numbers_of, GivesInto};
 ghost use Rattle.field.specs.Seen.{seen};
 
 use crate::metres::Room;
-use crate::{RoomAnswer, measure_room};
-use checker::{refusal_number, wrong_length};
+use crate::{SizeRefusal, measure_room};
+use checker::wrong_length;
 use field::lent::Heightfield;
 
 // How many sizes a record has, and how many numbers beside them.
@@ -64,25 +64,17 @@ fn put_room(sizes: &mut [f64], numbers: &mut [u16], m: Room)
 }
 
 // The values of an answer; the refusal is given too.
-fn put(sizes: &mut [f64], numbers: &mut [u16], r: RoomAnswer) -> u16
+fn put(sizes: &mut [f64], numbers: &mut [u16], r: Result<Room, SizeRefusal>) -> u16
     requires { (length sizes.old ≡ 5) × (length numbers.old ≡ 3) }
     ensures { (result ≡ measure_refused_by r) × (sizes.new ≡ sizes_of (room_in r)) × (numbers.new ≡ numbers_of (outcome r)) }
 {
     match r {
-        RoomAnswer::Refused(x) => {
-            let k = refusal_number(x);
+        Err(e) => {
+            let k = e.number();
             put_refused(sizes, numbers, k);
             k
         }
-        RoomAnswer::WrongScale => {
-            put_refused(sizes, numbers, 9);
-            9
-        }
-        RoomAnswer::WrongIds => {
-            put_refused(sizes, numbers, 10);
-            10
-        }
-        RoomAnswer::Measured(m) => {
+        Ok(m) => {
             put_room(sizes, numbers, m);
             0
         }

@@ -5,5 +5,5 @@ use Rattle.load.proofs.bytes.byte_in.Goals as goal
 pub returns-then-is_going : goal.returns-then-is_going
 returns-then-is_going c = search byte_going
 
-pub returns : goal.returns
-returns c = search byte_over
+pub returns-else-is_going : goal.returns-else-is_going
+returns-else-is_going c = search byte_over

@@ -7,5 +7,5 @@ pub returns-then-l-eq-END : goal.returns-then-l-eq-END
 unfolding closed
 returns-then-l-eq-END c = search end_read
 
-pub returns : goal.returns
-returns c = search end_cut
+pub returns-else-l-eq-END : goal.returns-else-l-eq-END
+returns-else-l-eq-END c = search end_cut

@@ -5,5 +5,5 @@ use Rattle.load.proofs.bytes.headed.Goals as goal
 pub returns-then-l-product : goal.returns-then-l-product
 returns-then-l-product c = search headed-over
 
-pub returns : goal.returns
-returns c = search headed_fits
+pub returns-else-l-product : goal.returns-else-l-product
+returns-else-l-product c = search headed_fits

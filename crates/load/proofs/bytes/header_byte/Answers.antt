@@ -5,5 +5,5 @@ use Rattle.load.proofs.bytes.header_byte.Goals as goal
 pub returns-then-l-lt9 : goal.returns-then-l-lt9
 returns-then-l-lt9 c = search header_on
 
-pub returns : goal.returns
-returns c = search header-last
+pub returns-else-l-lt9 : goal.returns-else-l-lt9
+returns-else-l-lt9 c = search header-last

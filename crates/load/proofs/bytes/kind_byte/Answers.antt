@@ -5,5 +5,5 @@ use Rattle.load.proofs.bytes.kind_byte.Goals as goal
 pub returns-then-kind-wanted : goal.returns-then-kind-wanted
 returns-then-kind-wanted c = search kind_right
 
-pub returns : goal.returns
-returns c = search kind_wrong
+pub returns-else-kind-wanted : goal.returns-else-kind-wanted
+returns-else-kind-wanted c = search kind_wrong

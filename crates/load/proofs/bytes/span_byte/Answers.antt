@@ -1,10 +1,13 @@
 -- `bytes::span_byte` meets its contract: the first byte is the area, the others are connections.
 -- Its promise holds for any cells, which it is not lent.
+use mathlib.Core.Path.{◌∙◌}
 use Rattle.load.proofs.Ways.{span_area, span_con}
 use Rattle.load.proofs.bytes.span_byte.Goals as goal
-
-pub returns-then-l-eq0 : goal.returns-then-l-eq0
-returns-then-l-eq0 c = search span_area
+use Rattle.load.proofs.bytes.span_byte.Goals.{then-l-eq0, else-l-eq0}
 
 pub returns : goal.returns
-returns c = search span_con
+returns c =
+    elim c.if-l-eq0.branch [
+      | then-l-eq0 w ↦ span_area _ _ _ _ _ _ _ w.if-l-eq0.true c.span_on.ensures (w.area-is ∙ w.put.ensures) w.con-is
+      | else-l-eq0 w ↦ span_con _ _ _ _ _ _ _ w.if-l-eq0.false c.span_on.ensures w.area-is (w.con-is ∙ w.put-else-l-eq0.ensures)
+    ]

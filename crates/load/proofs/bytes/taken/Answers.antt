@@ -4,17 +4,17 @@ use Rattle.load.proofs.Ways.{taken_kind, taken-header, taken-cell, taken-span, t
 use borrow.Author.Rules.{rules}
 use Rattle.load.proofs.bytes.taken.Goals as goal
 
-pub returns-then-kind-eq-NONE : goal.returns-then-kind-eq-NONE
-returns-then-kind-eq-NONE c = search taken_kind
+pub returns-in-0 : goal.returns-in-0
+returns-in-0 c = search taken_kind
 
-pub returns-then-kind-eq-HEADER : goal.returns-then-kind-eq-HEADER
-returns-then-kind-eq-HEADER c = search taken-header
+pub returns-in-1 : goal.returns-in-1
+returns-in-1 c = search (rules, taken-header)
 
-pub returns-then-kind-eq-CELL : goal.returns-then-kind-eq-CELL
-returns-then-kind-eq-CELL c = taken-cell _ _ _ _ _ _ _ (search rules) (search rules) (search rules) (c.cell_byte.ensures _ _)
+pub returns-in-2 : goal.returns-in-2
+returns-in-2 c = taken-cell _ _ _ _ _ _ _ (search rules) (search rules) (search rules) (c.cell_byte.ensures _ _)
 
-pub returns-then-kind-eq-SPAN : goal.returns-then-kind-eq-SPAN
-returns-then-kind-eq-SPAN c = taken-span _ _ _ _ _ _ _ (search rules) (search rules) (search rules) (search rules) (c.span_byte.ensures _ _)
+pub returns-in-3 : goal.returns-in-3
+returns-in-3 c = taken-span _ _ _ _ _ _ _ (search rules) (search rules) (search rules) (search rules) (c.span_byte.ensures _ _)
 
-pub returns : goal.returns
-returns c = search taken-after
+pub returns-in_default : goal.returns-in_default
+returns-in_default c = search taken-after

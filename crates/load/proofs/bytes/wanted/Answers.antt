@@ -12,5 +12,5 @@ returns-then-l-gt0 c = search wants_span
 pub returns-then-l-product : goal.returns-then-l-product
 returns-then-l-product c = search wants_cell
 
-pub returns : goal.returns
-returns c = search wants_end
+pub returns-else-l-product : goal.returns-else-l-product
+returns-else-l-product c = search wants_end

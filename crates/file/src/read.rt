@@ -93,13 +93,11 @@ fn reading(l: Loader) -> FileReading
     requires { l.refusal ≡ 0 → Short l }
     ensures { result ≡ reading_in l }
 {
-    if l.refusal == 0 {
-        return FileReading::Described(header_of(l), l.spans as usize);
+    match l.refusal {
+        0 => FileReading::Described(header_of(l), l.spans as usize),
+        21 => FileReading::Refused(FileRefusal::TooLarge),
+        _ => FileReading::Refused(FileRefusal::Malformed),
     }
-    if l.refusal == 21 {
-        return FileReading::Refused(FileRefusal::TooLarge);
-    }
-    FileReading::Refused(FileRefusal::Malformed)
 }
 
 // A file's field into the lent lists.
@@ -114,17 +112,17 @@ pub fn read_file(
     ensures { Reads bytes.now index.old count.old area.old con.old
         result index.new count.new area.new con.new }
 {
-    let l = load_whole(bytes, index, count, area, con);
-    reading(l)
+    reading(load_whole(bytes, index, count, area, con))
 }
 
 fn place_in(l: Loader) -> FilePlace
     ensures { result ≡ place_in l }
 {
     if l.refusal == 0 {
-        return FilePlace::Nowhere;
+        FilePlace::Nowhere
+    } else {
+        FilePlace::At(l.position)
     }
-    FilePlace::At(l.position)
 }
 
 // The place where a file is refused; the lists are room for the field.
@@ -138,8 +136,7 @@ fn place_with(
     requires { Lists index.old count.old area.old con.old }
     ensures { result ≡ place_by (read_file_at 1024 200 bytes.now) }
 {
-    let l = load_whole(bytes, index, count, area, con);
-    place_in(l)
+    place_in(load_whole(bytes, index, count, area, con))
 }
 
 // The same, with room of its own.

@@ -5,4 +5,4 @@ use native.Mathlib.Omega.{arith}
 use Rattle.file.proofs.read.place_with.Goals as goal
 
 pub returns : goal.returns
-returns c = whole_place _ _ _ _ _ _ _ _ _ _ c.load_whole-l.ensures c.requires (λ i. omega (arith, c.type_inv.bytes i)) _ c.place_in.ensures
+returns c = whole_place _ _ _ _ _ _ _ _ _ _ c.load_whole.ensures c.requires (λ i. omega (arith, c.type_inv.bytes i)) _ c.place_in.ensures

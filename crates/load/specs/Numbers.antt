@@ -4,6 +4,8 @@ use Rattle.rules.specs.Base.{when◌then◌else◌}
 use Rattle.rules.specs.Load as rule
 use Rattle.load.specs.declared.Loader.{Loader}
 use Rattle.load.specs.declared.TooShort.{TooShort}
+use Rattle.load.specs.declared.bytes.Refusal.{Refusal}
+use Rattle.load.specs.declared.bytes.Refusal.TheVariants.{Malformed, TooLarge}
 
 -- the numbers, one by one
 abbrev pub loader_of : Loader → rule.Loader
@@ -30,6 +32,11 @@ loader_of l = record {
 -- with the lists that it is lent
 abbrev pub loading : Loader → List ℕ → List ℕ → List ℕ → List ℕ → rule.Loading
 loading l index count area con = record { loader = loader_of l; index = index; count = count; area = area; con = con }
+
+-- the number of a file's refusal
+abbrev pub number_of : Refusal → ℕ
+number_of Malformed = 20
+number_of TooLarge = 21
 
 -- the refusal of a call itself
 abbrev pub piece_refused_by : Result Loader TooShort → ℕ

@@ -2,14 +2,16 @@
 ghost use Rattle.std.specs.Prelude.{◌≡◌, List, ℕ, ◌*◌, ◌<◌, set};
 ghost use Rattle.rules.specs.Load.{refusing, onward, counted, wanted, kind_byte, number_with, sized, headed, header_byte, cell_on, cell_byte};
 ghost use Rattle.rules.specs.Load.{span_on, span_byte, taken, byte_in, feed};
-ghost use Rattle.load.specs.Numbers.{loader_of, loading, ended_by};
+ghost use Rattle.load.specs.Numbers.{loader_of, loading, ended_by, number_of};
 
 use crate::Loader;
 
-// The refusals of a file.
-const MALFORMED: u32 = 20;
-
-const TOO_LARGE: u32 = 21;
+// The refusals of a file, with their numbers.
+#[derive(Clone, Copy, PartialEq, Eq)]
+enum Refusal {
+    Malformed = 20,
+    TooLarge = 21,
+}
 
 // The kinds of record. They are numbers, since a caller in C hands in a loader of any numbers, and what is none of these is refused.
 const NONE: u32 = 0;
@@ -21,74 +23,6 @@ const CELL: u32 = 2;
 const SPAN: u32 = 3;
 
 const END: u32 = 4;
-
-fn refusing(n: u32, p: u32, l: Loader) -> Loader
-    ensures { loader_of result ≡ refusing n p (loader_of l) }
-{
-    Loader {
-        refusal: n,
-        position: p,
-        ..l
-    }
-}
-
-// A byte more was received: the record under way, where it began, and the bytes of its body so far.
-fn onward(kind: u32, start: u32, got: u32, l: Loader) -> Loader
-    ensures { loader_of result ≡ onward kind start got (loader_of l) }
-{
-    Loader {
-        kind,
-        start,
-        got,
-        received: l.received.saturating_add(1),
-        ..l
-    }
-}
-
-fn counted(cells: u32, spans: u32, due: u32, l: Loader) -> Loader
-    ensures { loader_of result ≡ counted cells spans due (loader_of l) }
-{
-    Loader {
-        cells,
-        spans,
-        due,
-        ..l
-    }
-}
-
-// w·h.
-fn product(w: u32, h: u32) -> usize
-    ensures { result ≡ w * h }
-{
-    w as usize * h as usize
-}
-
-// The kind that is in place.
-fn wanted(l: Loader) -> u32
-    ensures { result ≡ wanted (loader_of l) }
-{
-    if l.received == 0 {
-        HEADER
-    } else if 0 < l.due {
-        SPAN
-    } else if (l.cells as usize) < product(l.w, l.h) {
-        CELL
-    } else {
-        END
-    }
-}
-
-// "unknown kind, record out of place".
-fn kind_byte(l: Loader, b: u8) -> Loader
-    ensures { loader_of result ≡ kind_byte (loader_of l) b }
-{
-    let kind = b as u32;
-    if kind == wanted(l) {
-        onward(kind, l.received, 0, l)
-    } else {
-        refusing(MALFORMED, l.received, l)
-    }
-}
 
 // "numbers little-endian": a number of the header whose bytes are i and i + 1 of the body.
 fn number_with(i: u32, got: u32, old: u32, b: u8) -> u32
@@ -104,41 +38,6 @@ fn number_with(i: u32, got: u32, old: u32, b: u8) -> u32
     }
 }
 
-fn sized(l: Loader, b: u8) -> Loader
-    ensures { loader_of result ≡ sized (loader_of l) b }
-{
-    Loader {
-        w: number_with(0, l.got, l.w, b),
-        h: number_with(2, l.got, l.h, b),
-        border: number_with(4, l.got, l.border, b),
-        least: number_with(6, l.got, l.least, b),
-        merge: number_with(8, l.got, l.merge, b),
-        ..l
-    }
-}
-
-// "over 1,024 cells (at the header)": the limit is the loader's.
-fn headed(l: Loader) -> Loader
-    ensures { loader_of result ≡ headed (loader_of l) }
-{
-    if (l.most_cells as usize) < product(l.w, l.h) {
-        refusing(TOO_LARGE, l.start, l)
-    } else {
-        onward(NONE, l.start, 0, l)
-    }
-}
-
-fn header_byte(l: Loader, b: u8) -> Loader
-    ensures { loader_of result ≡ header_byte (loader_of l) b }
-{
-    let m = sized(l, b);
-    if l.got < 9 {
-        onward(HEADER, l.start, l.got + 1, m)
-    } else {
-        headed(m)
-    }
-}
-
 // A store past the list's end writes nothing.
 fn put<T: Copy>(list: &mut [T], i: usize, v: T)
     ensures { list.new ≡ set list.old i v }
@@ -148,90 +47,206 @@ fn put<T: Copy>(list: &mut [T], i: usize, v: T)
     }
 }
 
-fn cell_on(l: Loader, b: u8) -> Loader
-    ensures { loader_of result ≡ cell_on (loader_of l) b }
-{
-    onward(
-        NONE,
-        l.start,
-        0,
-        counted(l.cells.saturating_add(1), l.spans, b as u32, l),
-    )
-}
-
-// "200 spans (at the cell that passes it)": the limit is the loader's.
-fn cell_byte(l: Loader, b: u8, index: &mut [u32], count: &mut [u8]) -> Loader
-    ensures { (area con : List ℕ) → loading result index.new count.new area con
-        ≡ cell_byte (loading l index.old count.old area con) b }
-{
-    if (l.most_spans as usize) < l.spans as usize + b as usize {
-        return refusing(TOO_LARGE, l.start, l);
+impl Loader {
+    fn refusing(self, refusal: Refusal, position: u32) -> Loader
+        ensures { loader_of result ≡ refusing (number_of refusal) position (loader_of self) }
+    {
+        Loader {
+            refusal: refusal as u32,
+            position,
+            ..self
+        }
     }
-    put(index, l.cells as usize, l.spans);
-    put(count, l.cells as usize, b);
-    cell_on(l, b)
-}
 
-fn span_on(l: Loader) -> Loader
-    ensures { loader_of result ≡ span_on (loader_of l) }
-{
-    if l.got < 4 {
-        return onward(SPAN, l.start, l.got + 1, l);
+    // A byte more was received: the record under way, where it began, and the bytes of its body so far.
+    fn onward(self, kind: u32, start: u32, got: u32) -> Loader
+        ensures { loader_of result ≡ onward kind start got (loader_of self) }
+    {
+        Loader {
+            kind,
+            start,
+            got,
+            received: self.received.saturating_add(1),
+            ..self
+        }
     }
-    let m = counted(l.cells, l.spans.saturating_add(1), l.due.saturating_sub(1), l);
-    onward(NONE, l.start, 0, m)
-}
 
-// The span's area, or one of its connections.
-fn span_byte(l: Loader, b: u8, area: &mut [u8], con: &mut [u8]) -> Loader
-    ensures { (index count : List ℕ) → loading result index count area.new con.new
-        ≡ span_byte (loading l index count area.old con.old) b }
-{
-    if l.got == 0 {
-        put(area, l.spans as usize, b);
-    } else {
-        put(con, 4 * l.spans as usize + (l.got as usize - 1), b);
+    fn counted(self, cells: u32, spans: u32, due: u32) -> Loader
+        ensures { loader_of result ≡ counted cells spans due (loader_of self) }
+    {
+        Loader {
+            cells,
+            spans,
+            due,
+            ..self
+        }
     }
-    span_on(l)
-}
 
-// A byte, by the record under way.
-fn taken(
-    l: Loader,
-    b: u8,
-    index: &mut [u32],
-    count: &mut [u8],
-    area: &mut [u8],
-    con: &mut [u8],
-) -> Loader
-    ensures { loading result index.new count.new area.new con.new
-        ≡ taken (loading l index.old count.old area.old con.old) b }
-{
-    match l.kind {
-        NONE => kind_byte(l, b),
-        HEADER => header_byte(l, b),
-        CELL => cell_byte(l, b, index, count),
-        SPAN => span_byte(l, b, area, con),
-        _ => refusing(MALFORMED, l.received, l),
+    // How many cells the header says: w·h.
+    fn grid(self) -> usize
+        ensures { result ≡ self.w * self.h }
+    {
+        self.w as usize * self.h as usize
     }
-}
 
-// "After a refusal or a declared end every further call .. changes nothing."
-fn byte_in(
-    l: Loader,
-    b: u8,
-    index: &mut [u32],
-    count: &mut [u8],
-    area: &mut [u8],
-    con: &mut [u8],
-) -> Loader
-    ensures { loading result index.new count.new area.new con.new
-        ≡ byte_in (loading l index.old count.old area.old con.old) b }
-{
-    if l.is_going() {
-        taken(l, b, index, count, area, con)
-    } else {
-        l
+    // The kind that is in place.
+    fn wanted(self) -> u32
+        ensures { result ≡ wanted (loader_of self) }
+    {
+        if self.received == 0 {
+            HEADER
+        } else if 0 < self.due {
+            SPAN
+        } else if (self.cells as usize) < self.grid() {
+            CELL
+        } else {
+            END
+        }
+    }
+
+    // "unknown kind, record out of place".
+    fn kind_byte(self, b: u8) -> Loader
+        ensures { loader_of result ≡ kind_byte (loader_of self) b }
+    {
+        let kind = b as u32;
+        if kind == self.wanted() {
+            self.onward(kind, self.received, 0)
+        } else {
+            self.refusing(Refusal::Malformed, self.received)
+        }
+    }
+
+    fn sized(self, b: u8) -> Loader
+        ensures { loader_of result ≡ sized (loader_of self) b }
+    {
+        Loader {
+            w: number_with(0, self.got, self.w, b),
+            h: number_with(2, self.got, self.h, b),
+            border: number_with(4, self.got, self.border, b),
+            least: number_with(6, self.got, self.least, b),
+            merge: number_with(8, self.got, self.merge, b),
+            ..self
+        }
+    }
+
+    // "over 1,024 cells (at the header)": the limit is the loader's.
+    fn headed(self) -> Loader
+        ensures { loader_of result ≡ headed (loader_of self) }
+    {
+        if (self.most_cells as usize) < self.grid() {
+            self.refusing(Refusal::TooLarge, self.start)
+        } else {
+            self.onward(NONE, self.start, 0)
+        }
+    }
+
+    fn header_byte(self, b: u8) -> Loader
+        ensures { loader_of result ≡ header_byte (loader_of self) b }
+    {
+        let m = self.sized(b);
+        if self.got < 9 {
+            m.onward(HEADER, self.start, self.got + 1)
+        } else {
+            m.headed()
+        }
+    }
+
+    fn cell_on(self, b: u8) -> Loader
+        ensures { loader_of result ≡ cell_on (loader_of self) b }
+    {
+        let m = self.counted(self.cells.saturating_add(1), self.spans, b as u32);
+        m.onward(NONE, self.start, 0)
+    }
+
+    // "200 spans (at the cell that passes it)": the limit is the loader's.
+    fn cell_byte(self, b: u8, index: &mut [u32], count: &mut [u8]) -> Loader
+        ensures { (area con : List ℕ) → loading result index.new count.new area con
+            ≡ cell_byte (loading self index.old count.old area con) b }
+    {
+        if (self.most_spans as usize) < self.spans as usize + b as usize {
+            return self.refusing(Refusal::TooLarge, self.start);
+        }
+        put(index, self.cells as usize, self.spans);
+        put(count, self.cells as usize, b);
+        self.cell_on(b)
+    }
+
+    fn span_on(self) -> Loader
+        ensures { loader_of result ≡ span_on (loader_of self) }
+    {
+        if self.got < 4 {
+            return self.onward(SPAN, self.start, self.got + 1);
+        }
+        let m = self.counted(
+            self.cells,
+            self.spans.saturating_add(1),
+            self.due.saturating_sub(1),
+        );
+        m.onward(NONE, self.start, 0)
+    }
+
+    // The span's area, or one of its connections.
+    fn span_byte(self, b: u8, area: &mut [u8], con: &mut [u8]) -> Loader
+        ensures { (index count : List ℕ) → loading result index count area.new con.new
+            ≡ span_byte (loading self index count area.old con.old) b }
+    {
+        if self.got == 0 {
+            put(area, self.spans as usize, b);
+        } else {
+            put(con, 4 * self.spans as usize + (self.got as usize - 1), b);
+        }
+        self.span_on()
+    }
+
+    // A byte, by the record under way.
+    fn taken(
+        self,
+        b: u8,
+        index: &mut [u32],
+        count: &mut [u8],
+        area: &mut [u8],
+        con: &mut [u8],
+    ) -> Loader
+        ensures { loading result index.new count.new area.new con.new
+            ≡ taken (loading self index.old count.old area.old con.old) b }
+    {
+        match self.kind {
+            NONE => self.kind_byte(b),
+            HEADER => self.header_byte(b),
+            CELL => self.cell_byte(b, index, count),
+            SPAN => self.span_byte(b, area, con),
+            _ => self.refusing(Refusal::Malformed, self.received),
+        }
+    }
+
+    // "After a refusal or a declared end every further call .. changes nothing."
+    fn byte_in(
+        self,
+        b: u8,
+        index: &mut [u32],
+        count: &mut [u8],
+        area: &mut [u8],
+        con: &mut [u8],
+    ) -> Loader
+        ensures { loading result index.new count.new area.new con.new
+            ≡ byte_in (loading self index.old count.old area.old con.old) b }
+    {
+        if self.is_going() {
+            self.taken(b, index, count, area, con)
+        } else {
+            self
+        }
+    }
+
+    // The end, of a loader that is going: it has read the end record, or the file is cut short.
+    pub(crate) fn ended(self) -> Loader
+        ensures { loader_of result ≡ ended_by (loader_of self) }
+    {
+        if self.kind == END {
+            Loader { ended: 1, ..self }
+        } else {
+            self.refusing(Refusal::Malformed, self.received)
+        }
     }
 }
 
@@ -249,18 +264,7 @@ pub fn feed(
 {
     let mut m = l;
     for &b in piece {
-        m = byte_in(m, b, index, count, area, con);
+        m = m.byte_in(b, index, count, area, con);
     }
     m
-}
-
-// The end, of a loader that is going: it has read the end record, or the file is cut short.
-pub(crate) fn ended(l: Loader) -> Loader
-    ensures { loader_of result ≡ ended_by (loader_of l) }
-{
-    if l.kind == END {
-        Loader { ended: 1, ..l }
-    } else {
-        refusing(MALFORMED, l.received, l)
-    }
 }

@@ -14,7 +14,7 @@ use crate::bytes::feed;
 // The numbers of a loader: the limits of refusal 21; the kind of the record under way (0: none), the bytes of its body so far and the place of its kind
 // byte; the bytes received; the header's numbers; the cells and spans so far and the spans of the last cell that are still to come; the refusal and its
 // position; and whether the end was declared.
-#[derive(Clone, Copy)]
+#[derive(Clone, Copy, Default)]
 pub struct Loader {
     pub most_cells: u32,
     pub most_spans: u32,
@@ -46,21 +46,7 @@ pub fn load_begin(most_cells: u32, most_spans: u32) -> Loader
     Loader {
         most_cells,
         most_spans,
-        kind: 0,
-        got: 0,
-        start: 0,
-        received: 0,
-        w: 0,
-        h: 0,
-        border: 0,
-        least: 0,
-        merge: 0,
-        cells: 0,
-        spans: 0,
-        due: 0,
-        refusal: 0,
-        position: 0,
-        ended: 0,
+        ..Loader::default()
     }
 }
 
@@ -78,7 +64,10 @@ impl Loader {
     {
         let cells = self.most_cells as usize;
         let spans = self.most_spans as usize;
-        cells <= index.len() && cells <= count.len() && spans <= area.len() && 4 * spans <= con.len()
+        cells <= index.len()
+            && cells <= count.len()
+            && spans <= area.len()
+            && 4 * spans <= con.len()
     }
 }
 
@@ -105,5 +94,5 @@ pub fn load_piece(
 pub fn load_end(l: Loader) -> Loader
     ensures { loader_of result ≡ load_end (loader_of l) }
 {
-    if l.is_going() { bytes::ended(l) } else { l }
+    if l.is_going() { l.ended() } else { l }
 }

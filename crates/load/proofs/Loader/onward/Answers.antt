@@ -1,9 +1,9 @@
--- `bytes::onward` meets its contract: four numbers are set, the others stay.
+-- `Loader::onward` meets its contract: four numbers are set, the others stay.
 use Rattle.load.proofs.Ways.{saturates}
 use Rattle.rules.specs.Load.{onward}
 use native.Mathlib.Omega.{arith}
 use mathlib.Core.Path.{refl}
-use Rattle.load.proofs.bytes.onward.Goals as goal
+use Rattle.load.proofs.Loader.onward.Goals as goal
 
 pub returns : goal.returns
 unfolding onward

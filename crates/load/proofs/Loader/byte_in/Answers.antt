@@ -1,6 +1,6 @@
--- `bytes::byte_in` meets its contract: a loader that is not going stays as it is.
+-- `Loader::byte_in` meets its contract: a loader that is not going stays as it is.
 use Rattle.load.proofs.Ways.{byte_going, byte_over}
-use Rattle.load.proofs.bytes.byte_in.Goals as goal
+use Rattle.load.proofs.Loader.byte_in.Goals as goal
 
 pub returns-then-is_going : goal.returns-then-is_going
 returns-then-is_going c = search byte_going

@@ -1,7 +1,7 @@
--- `bytes::sized` meets its contract: each of the five numbers is the rule's.
+-- `Loader::sized` meets its contract: each of the five numbers is the rule's.
 use Rattle.rules.specs.Load.{sized}
 use mathlib.Core.Path.{refl}
-use Rattle.load.proofs.bytes.sized.Goals as goal
+use Rattle.load.proofs.Loader.sized.Goals as goal
 
 pub returns : goal.returns
 unfolding sized

@@ -1,8 +1,8 @@
--- `bytes::taken` meets its contract: the kind of the record under way decides which function takes the byte.
+-- `Loader::taken` meets its contract: the kind of the record under way decides which function takes the byte.
 -- What `cell_byte` and `span_byte` promise for any other lists is taken at those that are lent.
 use Rattle.load.proofs.Ways.{taken_kind, taken-header, taken-cell, taken-span, taken-after}
 use borrow.Author.Rules.{rules}
-use Rattle.load.proofs.bytes.taken.Goals as goal
+use Rattle.load.proofs.Loader.taken.Goals as goal
 
 pub returns-in-0 : goal.returns-in-0
 returns-in-0 c = search taken_kind

@@ -1,7 +1,7 @@
--- `bytes::refusing` meets its contract: two numbers are set, the others stay.
+-- `Loader::refusing` meets its contract: two numbers are set, the others stay.
 use Rattle.rules.specs.Load.{refusing}
 use borrow.Author.Rules.{rules}
-use Rattle.load.proofs.bytes.refusing.Goals as goal
+use Rattle.load.proofs.Loader.refusing.Goals as goal
 
 pub returns : goal.returns
 unfolding refusing

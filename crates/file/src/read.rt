@@ -6,21 +6,18 @@ ghost use Rattle.file.specs.Reads.{file_number, Lists, Reads, Whole, Short, head
 use load::bytes::feed;
 use load::{Loader, load_begin, load_end};
 
-// Document 01's refusals of a file.
+// Document 01's refusals of a file, with its numbers.
 #[derive(Clone, Copy)]
 pub enum FileRefusal {
-    Malformed,
-    TooLarge,
+    Malformed = 20,
+    TooLarge = 21,
 }
 
 // Document 01's number of a file's refusal.
 pub fn file_number(r: FileRefusal) -> u16
     ensures { result ≡ file_number r }
 {
-    match r {
-        FileRefusal::Malformed => 20,
-        FileRefusal::TooLarge => 21,
-    }
+    r as u16
 }
 
 // The numbers of a file's header.
@@ -125,21 +122,7 @@ fn place_in(l: Loader) -> FilePlace
     }
 }
 
-// The place where a file is refused; the lists are room for the field.
-fn place_with(
-    bytes: &[u8],
-    index: &mut [u32],
-    count: &mut [u8],
-    area: &mut [u8],
-    con: &mut [u8],
-) -> FilePlace
-    requires { Lists index.old count.old area.old con.old }
-    ensures { result ≡ place_by (read_file_at 1024 200 bytes.now) }
-{
-    place_in(load_whole(bytes, index, count, area, con))
-}
-
-// The same, with room of its own.
+// The place where a file is refused.
 pub fn place(bytes: &[u8]) -> FilePlace
     ensures { result ≡ place_by (read_file_at 1024 200 bytes.now) }
 {
@@ -147,5 +130,6 @@ pub fn place(bytes: &[u8]) -> FilePlace
     let mut count = [0u8; 1024];
     let mut area = [0u8; 200];
     let mut con = [0u8; 800];
-    place_with(bytes, &mut index, &mut count, &mut area, &mut con)
+    let l = load_whole(bytes, &mut index, &mut count, &mut area, &mut con);
+    place_in(l)
 }

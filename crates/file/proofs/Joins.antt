@@ -3,11 +3,7 @@
 use Prim.Native.Nat.{ℕ, zero, suc, ◌+◌, ◌-◌, ◌*◌, ◌≤◌, ◌<◌}
 use native.Mathlib.Omega.{arith}
 use native.Mathlib.Numerals.{add-one}
-use native.Mathlib.Nat.{mul_comm}
 use native.Mathlib.Decide.{ℕ_discrete}
-use lib.Arith.{digits_lt}
-use mir.Val.{Fits}
-use mir.Syntax.{w64}
 use mathlib.Core.Path.{◌≡◌, refl, sym, ap, subst, ◌∙◌}
 use mathlib.Core.List.{List, [], ◌∷◌, ◌++◌, append_assoc, append-nil}
 use lib.ListN.{length, get_or, length-append, length-take, length-drop}
@@ -17,7 +13,7 @@ use borrow.Author.Tests.{eq-eqb, ne_eqb}
 use Rattle.rules.specs.Base.{when◌then◌else◌, tab}
 use Rattle.rules.specs.Listing.{decimal, joined, cell_text, row_text, rows_text}
 use Rattle.file.specs.Written.{written, Room, Wrote}
-use Rattle.file.specs.Shown.{led, leader, leds, layers_text, layer_text, cell_at, shown, Inside, Filled}
+use Rattle.file.specs.Shown.{led, leader, leds, layers_text, layer_text, cell_at, shown, Inside}
 use Rattle.file.proofs.Writing.{written_none, written-length, room_first, room_then, wrote_then}
 
 -- ---------------------------------------------------------------- joined texts are led texts
@@ -257,18 +253,6 @@ module _ (out₀ : List ℕ) (at : ℕ) (whole out : List ℕ) (next w : ℕ) (i
     pub cell_next : (r : ℕ) (out' : List ℕ) → Wrote out next (led 32 x this) r out'
         → Underway out₀ at whole out' r (leds 32 (w - (x + 1)) (x + 1) (cell_at index count ids (z * w)) ++ (10 ∷ []))
     cell_next r out' k' = underway_next out₀ at whole out next _ _ cell r out' k'
-
--- the place of a cell
-module _ (w h z x : ℕ) (a : z < h) (b : x < w) where
-  pub in_grid : z * w + x < w * h
-  in_grid = omega (arith, digits_lt {q = z} {m = h} {r = x} {c = w} a b, mul_comm w h)
-
-  module _ (index count ids : List ℕ) (f : Filled (w * h) index count ids) where
-    pub row_fits : Fits w64 (z * w)
-    row_fits = record { fits = omega (arith, in_grid, f.few) }
-
-    pub cell_fits : Fits w64 (z * w + x)
-    cell_fits = record { fits = omega (arith, in_grid, f.few) }
 
 -- ---------------------------------------------------------------- all rows
 

@@ -1,12 +1,12 @@
 -- Laws of `written`: nothing written, one text after another, one byte more.
-use Prim.Native.Nat.{ℕ, ◌+◌, ◌≤◌, ◌<◌}
+use Prim.Native.Nat.{ℕ, ◌+◌, ◌≤◌}
 use native.Mathlib.Omega.{arith}
 use native.Mathlib.Numerals.{add-one}
 use mathlib.Core.Path.{◌≡◌, refl, sym, ap, ◌∙◌}
 use mathlib.Core.List.{List, [], ◌∷◌, ◌++◌, append_assoc}
-use lib.ListN.{length, get_or, set, take, drop, length-append, length-drop, take-append-drop, drop_of_length-le}
+use lib.ListN.{length, set, take, drop, length-append, length-drop, take-append-drop}
 use borrow.Rule.Slice.PartMut.{put_mid}
-use lib.Seq.{length-take-le, take_at, drop_at, drop-drop, drop-cons, set_split}
+use lib.Seq.{length-take-le, take_at, drop_at, drop-drop, set_split}
 use Rattle.file.specs.Written.{written, Room, Wrote}
 
 -- nothing

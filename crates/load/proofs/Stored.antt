@@ -1,17 +1,15 @@
 -- The loader's numbers in a list of 17: read and written they are the loader's, and each call gives what its outcome says.
 -- Assumes nothing.
-use Prim.Native.Nat.{ℕ, zero, suc, ◌+◌}
+use Prim.Native.Nat.{ℕ, zero, suc}
 use native.Mathlib.Omega.{arith}
 use mathlib.Core.Path.{◌≡◌, refl, ap, ◌∙◌}
 use mathlib.Core.List.{List, [], ◌∷◌}
-use lib.ListN.{length, get_or, set}
+use lib.ListN.{length, get_or}
 use borrow.Author.Tests.{eq-eqb, ne_eqb}
 use Rattle.rules.specs.Base.{when◌then◌else◌, tab}
 use Rattle.rules.specs.Load.{Loader, Loading, load_begin, load_end, load_piece, piece_refusal}
 use Rattle.load.specs.declared.Loader.{Loader as Code}
-use Rattle.std.specs.Prelude.{Result, Ok, Err}
-use Rattle.load.specs.declared.TooShort.{TooShort}
-use Rattle.load.specs.Numbers.{loader_of, loading, piece_refused_by, loader_after}
+use Rattle.load.specs.Numbers.{loader_of, loading}
 use Rattle.load.proofs.Pieces.{refusal_cut}
 use Rattle.load.specs.declared.into.LoadAnswer.{LoadAnswer}
 use Rattle.load.specs.Into.{numbers_of, loader_in, position_of, left, refused3, begin_outcome, end_outcome, loading_in, piece_outcome, Given, GivenPiece}

@@ -2,33 +2,22 @@
 -- Assumes nothing.
 use Prim.Native.Nat.{ℕ, ◌+◌, ◌-◌, ◌*◌, ◌%◌, ◌≤◌, ◌<◌}
 use native.Mathlib.Omega.{arith}
-use native.Mathlib.Nat.{mul-le-mul}
 use native.Mathlib.Decide.{dec_lt}
 use Rattle.std.specs.Prelude.{min, ◌^◌}
 use Rattle.std.proofs.Math.Nat.{min-eq_left, min-eq_right}
 use native.Mathlib.Numerals.{add-one}
-use mir.Val.{Fits}
-use mir.Syntax.{w32, w64}
 use mathlib.Core.Path.{◌≡◌, refl, sym, ◌∙◌}
 use mathlib.Core.Bool.{Bool, true, false}
 use mathlib.Core.List.{List}
 use lib.ListN.{length, get_or, set, drop, drop_of_length-le}
-use lib.Seq.{drop-cons, set_out}
-use borrow.Author.Tests.{lt-ltb, le-ltb, le-leb, lt-leb, eq-eqb, ne_eqb}
-use Rattle.rules.specs.Base.{◌and◌, when◌then◌else◌}
+use lib.Seq.{drop-cons}
+use borrow.Author.Tests.{lt-ltb, le-ltb, eq-eqb, ne_eqb}
+use Rattle.rules.specs.Base.{when◌then◌else◌}
 use Rattle.rules.specs.Load.{Loader, Loading, going, up, refusing, onward, counted, wanted, kind_byte, number_with, sized, headed, header_byte, cell_on, cell_byte, span_on, span_byte}
 use Rattle.rules.specs.Load.{with, taken, byte_in, feed, closed, load_end, roomy, piece_refusal, load_piece}
-use Rattle.laws.proofs.Basics.{if-ind}
 use Rattle.load.specs.Numbers.{ended_by}
 
 -- ---------------------------------------------------------------- numbers
-
-pub product_fits : (w h : ℕ) → Fits w32 w → Fits w32 h → Fits w64 (w * h)
-product_fits w h p q =
-    let a : w ≤ 4294967295 = omega (arith, p.fits) in
-    let b : h ≤ 4294967295 = omega (arith, q.fits) in
-    let m : w * h ≤ 4294967295 * 4294967295 = mul-le-mul a b in
-    record { fits = omega arith }
 
 pub saturates : (n r : ℕ) → n ≤ 4294967295 → r ≡ min (n + 1) (2 ^ 32 - 1) → r ≡ up n
 unfolding up when◌then◌else◌
@@ -201,31 +190,6 @@ feed_done piece i x z h e = sym (e ∙ rw (drop_of_length-le piece h))
 module _ (l : Loader) (index count area con : List ℕ) where
   abbrev lent : Loading
   lent = record { loader = l; index = index; count = count; area = area; con = con }
-
-  pub roomy_no_index : length index < l.most_cells → false ≡ roomy lent
-  unfolding roomy ◌and◌
-  roomy_no_index h = rw (lt-leb l.most_cells (length index) h)
-
-  module _ (i : l.most_cells ≤ length index) where
-    pub roomy_no_count : length count < l.most_cells → false ≡ roomy lent
-    unfolding roomy ◌and◌
-    roomy_no_count h = rw (le-leb l.most_cells (length index) i, lt-leb l.most_cells (length count) h)
-
-    module _ (k : l.most_cells ≤ length count) where
-      pub roomy_no_area : length area < l.most_spans → false ≡ roomy lent
-      unfolding roomy ◌and◌
-      roomy_no_area h = rw (le-leb l.most_cells (length index) i, le-leb l.most_cells (length count) k, lt-leb l.most_spans (length area) h)
-
-      module _ (s : l.most_spans ≤ length area) where
-        pub roomy_no_con : length con < 4 * l.most_spans → false ≡ roomy lent
-        unfolding roomy ◌and◌
-        roomy_no_con h =
-            rw (le-leb l.most_cells (length index) i, le-leb l.most_cells (length count) k, le-leb l.most_spans (length area) s, lt-leb (4 * l.most_spans) (length con) h)
-
-        pub roomy_all : 4 * l.most_spans ≤ length con → true ≡ roomy lent
-        unfolding roomy ◌and◌
-        roomy_all h =
-            rw (le-leb l.most_cells (length index) i, le-leb l.most_cells (length count) k, le-leb l.most_spans (length area) s, le-leb (4 * l.most_spans) (length con) h)
 
   pub piece_short : (g r : Bool) → g ≡ going l → g ≡ true → r ≡ roomy lent → r ≡ false → (piece : List ℕ) → (3 ≡ piece_refusal lent) × (lent ≡ load_piece piece lent)
   unfolding load_piece piece_refusal when◌then◌else◌

@@ -1,5 +1,4 @@
 -- `load_begin` meets its contract: but for the limits, all is 0.
-use mathlib.Core.Path.{refl}
 use Rattle.rules.specs.Load.{load_begin}
 use Rattle.load.proofs.load_begin.Goals as goal
 

@@ -1,6 +1,5 @@
 -- The answers that the check does not find alone.
 use Rattle.load.proofs.Ways.{feed_next, feed_done}
-use borrow.Author.Rules.{rules}
 use Rattle.load.proofs.bytes.feed.Goals as goal
 
 pub loop-b-preserved : goal.loop-b-preserved

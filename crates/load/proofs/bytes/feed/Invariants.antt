@@ -1,6 +1,6 @@
 -- `bytes::feed` meets its contract. The loop's invariant: feeding the rest to the loader as it is gives what feeding the piece gave.
 use mathlib.Core.Path.{◌≡◌}
-use lib.ListN.{length, drop}
+use lib.ListN.{drop}
 use Rattle.rules.specs.Load.{feed}
 use Rattle.load.specs.Numbers.{loading}
 use Rattle.load.proofs.bytes.feed.Given as goal

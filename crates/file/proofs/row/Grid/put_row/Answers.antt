@@ -1,5 +1,4 @@
 -- The answers that the check does not find alone.
-use native.Mathlib.Omega.{arith}
 use Rattle.file.proofs.Joins.{row_first, cell_room, cell_next, row_room, row_done, leader_room, led_room, led_wrote}
 use Rattle.file.proofs.row.Grid.put_row.Goals as goal
 

@@ -30,7 +30,8 @@ pub struct Header {
     pub merge: u16,
 }
 
-// What reading a file comes to: a refusal, or its header and the number of its spans, the field being in the lent lists.
+// What reading a file comes to: a refusal, or its header and the number of its spans, the field being in the lent lists. An enum of its own, as `FilePlace`
+// below: the programs match on its cases by name.
 #[derive(Clone, Copy)]
 pub enum FileReading {
     Refused(FileRefusal),
@@ -71,7 +72,7 @@ fn load_whole(
     load_end(l)
 }
 
-// The header of a loader that was not refused.
+// The header of a loader that was not refused. No `From`, since it asks that the numbers are short.
 fn header_of(l: Loader) -> Header
     requires { Short l }
     ensures { result ≡ header l }
@@ -85,7 +86,7 @@ fn header_of(l: Loader) -> Header
     }
 }
 
-// What a loader's numbers say of its file.
+// What a loader's numbers say of its file: 0 and 21 are numbers there, since a loader is the C interface's.
 fn reading(l: Loader) -> FileReading
     requires { l.refusal ≡ 0 → Short l }
     ensures { result ≡ reading_in l }

@@ -14,7 +14,7 @@ fn put_between(out: &mut [u8], at: usize, between: u8, j: usize) -> usize
     if j == 0 { at } else { put(out, at, between) }
 }
 
-// "Layers in a cell are joined by `/`".
+// "Layers in a cell are joined by `/`". Its loop and that of a row are no function with a closure: that would be longer than both.
 fn put_layers(out: &mut [u8], at: usize, layers: &[u16]) -> usize
     requires { Room out.old at (layers_text layers.now 0 (length layers.now)) }
     ensures { Wrote out.old at (layers_text layers.now 0 (length layers.now)) result out.new }

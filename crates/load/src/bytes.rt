@@ -198,7 +198,7 @@ impl Loader {
         self.span_on()
     }
 
-    // A byte, by the record under way.
+    // A byte, by the record under way. The four lists come one by one, as the public calls lend them: a struct of them would only be taken apart here.
     fn taken(
         self,
         b: u8,

@@ -24,6 +24,7 @@ const WRONG_LENGTH: LoadAnswer = LoadAnswer {
     position: 0,
 };
 
+// By their places, as C has them: a conversion from an array would ask a copy of the list first.
 fn read(numbers: &[u32]) -> Loader
     requires { length numbers.now ≡ 17 }
     ensures { loader_of result ≡ loader_in numbers.now }

@@ -13,7 +13,7 @@ use crate::bytes::feed;
 
 // The numbers of a loader: the limits of refusal 21; the kind of the record under way (0: none), the bytes of its body so far and the place of its kind
 // byte; the bytes received; the header's numbers; the cells and spans so far and the spans of the last cell that are still to come; the refusal and its
-// position; and whether the end was declared.
+// position; and whether the end was declared. All are numbers, kind and end too: a caller in C hands in any (`load::into`), and each is promised to stay.
 #[derive(Clone, Copy, Default)]
 pub struct Loader {
     pub most_cells: u32,

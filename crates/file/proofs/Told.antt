@@ -46,9 +46,9 @@ module _ (l : Loader) where
   unfolding reading_in when◌then◌else◌
   reading_loaded t e f = rw (eq-eqb l.refusal 0 e, f) refl
 
-  pub reading_large : (l.refusal ≡ 0 → ⊥) → l.refusal ≡ 21 → file.Refused TooLarge ≡ reading_in l
+  pub reading_large : l.refusal ≡ 21 → file.Refused TooLarge ≡ reading_in l
   unfolding reading_in when◌then◌else◌
-  reading_large n e = rw (ne_eqb l.refusal 0 n, eq-eqb l.refusal 21 e)
+  reading_large e = rw e refl
 
   pub reading_bad : (l.refusal ≡ 0 → ⊥) → (l.refusal ≡ 21 → ⊥) → file.Refused Malformed ≡ reading_in l
   unfolding reading_in when◌then◌else◌

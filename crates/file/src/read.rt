@@ -6,21 +6,18 @@ ghost use Rattle.file.specs.Reads.{file_number, Lists, Reads, Whole, Short, head
 use load::bytes::feed;
 use load::{Loader, load_begin, load_end};
 
-// Document 01's refusals of a file.
+// Document 01's refusals of a file, with its numbers.
 #[derive(Clone, Copy)]
 pub enum FileRefusal {
-    Malformed,
-    TooLarge,
+    Malformed = 20,
+    TooLarge = 21,
 }
 
 // Document 01's number of a file's refusal.
 pub fn file_number(r: FileRefusal) -> u16
     ensures { result ≡ file_number r }
 {
-    match r {
-        FileRefusal::Malformed => 20,
-        FileRefusal::TooLarge => 21,
-    }
+    r as u16
 }
 
 // The numbers of a file's header.
@@ -33,7 +30,8 @@ pub struct Header {
     pub merge: u16,
 }
 
-// What reading a file comes to: a refusal, or its header and the number of its spans, the field being in the lent lists.
+// What reading a file comes to: a refusal, or its header and the number of its spans, the field being in the lent lists. An enum of its own, as `FilePlace`
+// below: the programs match on its cases by name.
 #[derive(Clone, Copy)]
 pub enum FileReading {
     Refused(FileRefusal),
@@ -74,7 +72,7 @@ fn load_whole(
     load_end(l)
 }
 
-// The header of a loader that was not refused.
+// The header of a loader that was not refused. No `From`, since it asks that the numbers are short.
 fn header_of(l: Loader) -> Header
     requires { Short l }
     ensures { result ≡ header l }
@@ -88,18 +86,16 @@ fn header_of(l: Loader) -> Header
     }
 }
 
-// What a loader's numbers say of its file.
+// What a loader's numbers say of its file: 0 and 21 are numbers there, since a loader is the C interface's.
 fn reading(l: Loader) -> FileReading
     requires { l.refusal ≡ 0 → Short l }
     ensures { result ≡ reading_in l }
 {
-    if l.refusal == 0 {
-        return FileReading::Described(header_of(l), l.spans as usize);
+    match l.refusal {
+        0 => FileReading::Described(header_of(l), l.spans as usize),
+        21 => FileReading::Refused(FileRefusal::TooLarge),
+        _ => FileReading::Refused(FileRefusal::Malformed),
     }
-    if l.refusal == 21 {
-        return FileReading::Refused(FileRefusal::TooLarge);
-    }
-    FileReading::Refused(FileRefusal::Malformed)
 }
 
 // A file's field into the lent lists.
@@ -114,35 +110,20 @@ pub fn read_file(
     ensures { Reads bytes.now index.old count.old area.old con.old
         result index.new count.new area.new con.new }
 {
-    let l = load_whole(bytes, index, count, area, con);
-    reading(l)
+    reading(load_whole(bytes, index, count, area, con))
 }
 
 fn place_in(l: Loader) -> FilePlace
     ensures { result ≡ place_in l }
 {
     if l.refusal == 0 {
-        return FilePlace::Nowhere;
+        FilePlace::Nowhere
+    } else {
+        FilePlace::At(l.position)
     }
-    FilePlace::At(l.position)
 }
 
-// The place where a file is refused; the lists are room for the field.
-fn place_with(
-    bytes: &[u8],
-    index: &mut [u32],
-    count: &mut [u8],
-    area: &mut [u8],
-    con: &mut [u8],
-) -> FilePlace
-    requires { Lists index.old count.old area.old con.old }
-    ensures { result ≡ place_by (read_file_at 1024 200 bytes.now) }
-{
-    let l = load_whole(bytes, index, count, area, con);
-    place_in(l)
-}
-
-// The same, with room of its own.
+// The place where a file is refused.
 pub fn place(bytes: &[u8]) -> FilePlace
     ensures { result ≡ place_by (read_file_at 1024 200 bytes.now) }
 {
@@ -150,5 +131,6 @@ pub fn place(bytes: &[u8]) -> FilePlace
     let mut count = [0u8; 1024];
     let mut area = [0u8; 200];
     let mut con = [0u8; 800];
-    place_with(bytes, &mut index, &mut count, &mut area, &mut con)
+    let l = load_whole(bytes, &mut index, &mut count, &mut area, &mut con);
+    place_in(l)
 }

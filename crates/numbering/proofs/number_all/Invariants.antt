@@ -8,7 +8,4 @@ use Rattle.space.specs.Space.{Frame}
 use Rattle.numbering.proofs.number_all.Given as goal
 
 abbrev pub invariant-loop-i : goal.invariant-loop-i
-invariant-loop-i l = (l.i ≤ l.m) × (l.k ≤ l.i) × (length l.ws ≡ length l.initial.ws) × Frame l.numbers (l.numbers + l.m) l.initial.ws l.ws × Numbers l.m l.numbers l.ws (live_ids (take l.i l.initial.ws) []) l.k
-
-abbrev pub decreases-loop-i : goal.decreases-loop-i
-decreases-loop-i l = l.m - l.i
+invariant-loop-i l = (l.k ≤ l.i) × Frame l.numbers (l.numbers + l.m) l.initial.ws l.ws × Numbers l.m l.numbers l.ws (live_ids (take l.i l.initial.ws) []) l.k

@@ -33,22 +33,10 @@ fn may_merge(ws: &[u16], m: usize, area: u16, i: usize) -> bool
     requires { RecordsIn m ws.now × (i < m) }
     ensures { result ≡ may_merge area (record_at ws.now m i) }
 {
-    if ws[i] == 0 {
-        return false;
-    }
-    if ws[OVERLAPS * m + i] != 0 {
-        return false;
-    }
-    if ws[m + i] == 0 {
-        return false;
-    }
-    if ws[m + i] <= area {
-        return true;
-    }
-    if is_region_connected_to_border(list_of(ws, m, LISTS * m, i)) {
-        return false;
-    }
-    true
+    ws[i] != 0
+        && ws[OVERLAPS * m + i] == 0
+        && ws[m + i] != 0
+        && (ws[m + i] <= area || !is_region_connected_to_border(list_of(ws, m, LISTS * m, i)))
 }
 
 // Where record i first lists r, or how long its list is.
@@ -98,11 +86,10 @@ pub(crate) fn merge_one(ws: &mut [u16], m: usize, area: u16, i: usize, round: Ro
     ensures pool_in_2 { PoolIn m result.half ws.new × LaidIn m result.half ws.new × (result.merges ≤ round.merges + 1)
         × (result.half.size ≡ round.half.size) }
 {
-    if may_merge(ws, m, area, i) {} else {
+    if !may_merge(ws, m, area, i) {
         return round;
     }
-    let best = pick(ws, m, i);
-    let id = best.id;
+    let id = pick(ws, m, i).id;
     if id == ws[i] {
         return round;
     }
@@ -116,10 +103,8 @@ fn merge_round(ws: &mut [u16], m: usize, area: u16, half: Half) -> Round
     ensures pool_in { PoolIn m result.half ws.new × LaidIn m result.half ws.new × (result.half.size ≡ half.size) }
 {
     let mut round = Round { half, merges: 0 };
-    let mut i = 0;
-    while i < m {
+    for i in 0..m {
         round = merge_one(ws, m, area, i, round);
-        i += 1;
     }
     round
 }

@@ -7,20 +7,19 @@ ghost use Rattle.pool.specs.Bearers.{Bearers, Borne};
 ghost use Rattle.pool.specs.Fixed.{floor_is, floor_in, suits_f};
 
 use pool::{many, next_of};
+use table::list_of;
 use table::map::{AREAS, FLOORS, LISTS};
-use table::{at, list_of};
 
 // Does the list hold a record whose id is b?
 fn any_floor(ws: &[u16], l: &[u16], b: u16) -> bool
     requires { Below (length ws.now) l.now }
     ensures { result ≡ any (floor_is ws.now b) l.now }
 {
-    let mut i = 0;
-    while i < l.len() {
-        if ws[at(l, i)] == b {
+    // Not `any`: that each of these indices is in bounds would be a goal about the closure.
+    for &f in l {
+        if ws[f as usize] == b {
             return true;
         }
-        i += 1;
     }
     false
 }
@@ -48,14 +47,7 @@ pub(crate) fn can_merge_with(ws: &[u16], m: usize, i: usize, j: usize) -> bool
         let other = record_at ws.now m j in
         result ≡ suits_f records own other }
 {
-    if ws[AREAS * m + i] != ws[AREAS * m + j] {
-        return false;
-    }
-    if 1 < many(list_of(ws, m, LISTS * m, i), ws[j]) {
-        return false;
-    }
-    if floor_in(ws, m, ws[i], ws[j]) {
-        return false;
-    }
-    true
+    ws[AREAS * m + i] == ws[AREAS * m + j]
+        && many(list_of(ws, m, LISTS * m, i), ws[j]) <= 1
+        && !floor_in(ws, m, ws[i], ws[j])
 }

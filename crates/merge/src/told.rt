@@ -78,10 +78,8 @@ fn merge_round_noted(
         round: Round { half, merges: 0 },
         count,
     };
-    let mut i = 0;
-    while i < m {
+    for i in 0..m {
         noted = merge_one_noted(ws, end, m, area, i, noted);
-        i += 1;
     }
     noted
 }

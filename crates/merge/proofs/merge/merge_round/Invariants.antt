@@ -11,9 +11,6 @@ use Rattle.merge.specs.Rounds.{round_at}
 use Rattle.merge.proofs.merge.merge_round.Given as goal
 
 abbrev pub invariant-loop-i : goal.invariant-loop-i
-invariant-loop-i l = (l.i ≤ l.m) × (length l.ws ≡ length l.initial.ws) × (l.round.merges ≤ l.i) × PoolIn l.m l.round.half l.ws
+invariant-loop-i l = (l.round.merges ≤ l.i) × PoolIn l.m l.round.half l.ws
     × (◌≡◌ {A = Merge} (round_at l.m l.ws l.round.merges) (upto l.i (merge_one_f l.area) (round_at l.m l.initial.ws 0)))
     × LaidIn l.m l.round.half l.ws × (l.round.half.size ≡ l.initial.round.half.size)
-
-abbrev pub decreases-loop-i : goal.decreases-loop-i
-decreases-loop-i l = l.m - l.i

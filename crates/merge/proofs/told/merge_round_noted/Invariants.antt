@@ -6,7 +6,4 @@ use Rattle.merge.specs.Told.{NotedRound}
 use Rattle.merge.proofs.told.merge_round_noted.Given as goal
 
 abbrev pub invariant-loop-i : goal.invariant-loop-i
-invariant-loop-i l = (l.i ≤ l.m) × (length l.ws ≡ length l.initial.ws) × NotedRound l.area l.i l.m l.initial.noted.round.half.size l.end l.initial.ws l.count l.ws l.noted
-
-abbrev pub decreases-loop-i : goal.decreases-loop-i
-decreases-loop-i l = l.m - l.i
+invariant-loop-i l = NotedRound l.area l.i l.m l.initial.noted.round.half.size l.end l.initial.ws l.count l.ws l.noted

@@ -1,5 +1,6 @@
 // The merge: a record, a round, all rounds.
-ghost use Rattle.std.specs.Prelude.{◌≡◌, suc, ◌+◌, ◌≤◌, ◌<◌, get_or, eqb};
+ghost use Rattle.std.specs.Prelude.{◌≡◌, suc, ◌+◌, ◌≤◌, ◌<◌, false, length, get_or, eqb, MatchOption};
+ghost use Rattle.rules.specs.Records.{has};
 ghost use Rattle.rules.specs.Base.{any, upto};
 ghost use Rattle.rules.specs.Merge.{place};
 ghost use Rattle.table.specs.Map.{wide_end, floors_from};
@@ -10,7 +11,7 @@ ghost use Rattle.pool.specs.Forms.{PoolIn, LaidIn};
 ghost use Rattle.merge.specs.Rounds.{round_at, first_half, AtRest};
 
 use crate::pick::pick;
-use pool::{Half, Pair, len_of, merge_regions};
+use pool::{Half, Pair, merge_regions};
 use table::map::{HALF, LISTS, OVERLAPS, POOL, RECORD_ROOM};
 use table::{holds, list_of, place};
 
@@ -39,12 +40,15 @@ fn may_merge(ws: &[u16], m: usize, area: u16, i: usize) -> bool
         && (ws[m + i] <= area || !is_region_connected_to_border(list_of(ws, m, LISTS * m, i)))
 }
 
-// Where record i first lists r, or how long its list is.
-fn place_of(ws: &[u16], m: usize, i: usize, r: u16) -> usize
+// Where record i first lists r.
+fn place_of(ws: &[u16], m: usize, i: usize, r: u16) -> Option<usize>
     requires { RecordsIn m ws.now × (i < m) }
-    ensures { result ≡ place (list_in ws.now m i) r }
+    ensures { let list = list_in ws.now m i in
+        MatchOption result (has list r ≡ false) (λ k. (k ≡ place list r) × (k < length list)) }
 {
-    place(list_of(ws, m, LISTS * m, i), r)
+    let l = list_of(ws, m, LISTS * m, i);
+    let k = place(l, r);
+    if k == l.len() { None } else { Some(k) }
 }
 
 // The neighbour n absorbs record i, if each lists the other.
@@ -56,16 +60,12 @@ fn try_merge(ws: &mut [u16], m: usize, i: usize, n: usize, round: Round) -> Roun
     ensures pool_in_2 { PoolIn m result.half ws.new × LaidIn m result.half ws.new × (result.merges ≤ round.merges + 1)
         × (result.half.size ≡ round.half.size) }
 {
-    let own = ws[i];
-    let other = ws[n];
-    let entry = place_of(ws, m, n, own);
-    if entry == len_of(ws, m, n) {
+    let Some(entry) = place_of(ws, m, n, ws[i]) else {
         return round;
-    }
-    let back = place_of(ws, m, i, other);
-    if back == len_of(ws, m, i) {
+    };
+    let Some(back) = place_of(ws, m, i, ws[n]) else {
         return round;
-    }
+    };
     let pair = Pair {
         absorber: n,
         entry,

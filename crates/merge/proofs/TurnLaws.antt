@@ -190,30 +190,12 @@ module _ (m p h o i area : ℕ) (ws : List ℕ) (P : Pool m p h o ws) (hi : i < 
 
 -- ---- a round
 
-pub round_go : (area m i : ℕ) (ws₀ ws ws' : List ℕ) (c c' : ℕ)
-    → record { recs = recs_of ws m; merges = c } ≡ upto i (merge_one_f area) (record { recs = recs_of ws₀ m; merges = 0 })
-    → record { recs = recs_of ws' m; merges = c' } ≡ merge_one_f area i (record { recs = recs_of ws m; merges = c })
-    → record { recs = recs_of ws' m; merges = c' } ≡ upto (i + 1) (merge_one_f area) (record { recs = recs_of ws₀ m; merges = 0 })
-round_go area m i ws₀ ws ws' c c' e q = q ∙ ap (merge_one_f area i) e ∙ sym (upto_next i (merge_one_f area) (record { recs = recs_of ws₀ m; merges = 0 }))
-
-pub round-start : (area m : ℕ) (ws : List ℕ) → record { recs = recs_of ws m; merges = 0 } ≡ upto 0 (merge_one_f area) (record { recs = recs_of ws m; merges = 0 })
-unfolding upto
-round-start area m ws = refl
-
-pub round-end : (area m i : ℕ) (ws₀ ws : List ℕ) (c : ℕ) → i ≤ m → m ≤ i → record { recs = recs_of ws m; merges = c } ≡ upto i (merge_one_f area) (record { recs = recs_of ws₀ m; merges = 0 })
-    → record { recs = recs_of ws m; merges = c } ≡ upto m (merge_one_f area) (record { recs = recs_of ws₀ m; merges = 0 })
-round-end area m i ws₀ ws c h g e = let q : i ≡ m = omega arith in rw q at e
-
 -- at every turn the two are alike
 pub joined_at : (area m i : ℕ) (ws₀ ws : List ℕ) (c : ℕ) → Joined (recs_of ws₀ m) → record { recs = recs_of ws m; merges = c } ≡ upto i (merge_one_f area) (record { recs = recs_of ws₀ m; merges = 0 })
     → Joined (recs_of ws m)
 joined_at area m i ws₀ ws c j e =
     let b = round_alike area i (record { recs = j.rs; merges = 0 }) (record { recs = recs_of ws₀ m; merges = 0 }) (record { recs = j.alike; merges = refl }) in
     record { rs = (upto i (merge_one area) (record { recs = j.rs; merges = 0 })).recs; alike = rw (ap (λ (g : Merge). g.recs) e) b.recs }
-
-pub round_reps : (area m i : ℕ) (ws₀ ws : List ℕ) (c : ℕ) → record { recs = recs_of ws m; merges = c } ≡ upto i (merge_one_f area) (record { recs = recs_of ws₀ m; merges = 0 }) → Joined (recs_of ws₀ m)
-    → Reps (recs_of ws m)
-round_reps area m i ws₀ ws c e j = (joined_at area m i ws₀ ws c j e).alike.reps
 
 -- ---- the rounds
 
@@ -297,6 +279,3 @@ module _ (m n : ℕ) (half : Half) (e : half ≡ first_half m n) (ws : List ℕ)
 -- after the last
 pub pool_rest : (m p h o : ℕ) (ws : List ℕ) → Pool m p h o ws → AtRest m ws
 pool_rest m p h o ws P = record { held = P.held; blank = P.blank }
-
-pub rounds-joined : (area m : ℕ) (ws₀ ws : List ℕ) → Rounds area m ws₀ ws → Joined (recs_of ws m)
-rounds-joined area m ws₀ ws T = T.joined

@@ -96,19 +96,6 @@ pub(crate) fn merge_one(ws: &mut [u16], m: usize, area: u16, i: usize, round: Ro
     try_merge(ws, m, i, id as usize, round)
 }
 
-// A round: all records, in order.
-fn merge_round(ws: &mut [u16], m: usize, area: u16, half: Half) -> Round
-    requires { PoolIn m half ws.old × LaidIn m half ws.old × Joined (recs_of ws.old m) }
-    ensures merges_after { round_at m ws.new result.merges ≡ upto m (merge_one_f area) (round_at m ws.old 0) }
-    ensures pool_in { PoolIn m result.half ws.new × LaidIn m result.half ws.new × (result.half.size ≡ half.size) }
-{
-    let mut round = Round { half, merges: 0 };
-    for i in 0..m {
-        round = merge_one(ws, m, area, i, round);
-    }
-    round
-}
-
 // Before the first merge: the lists are in the first half, and all of it counts as used, since nothing is known of how they lie there.
 pub(crate) fn first_half(m: usize, n: usize) -> Half
     requires { floors_from m n < wide_end }
@@ -122,21 +109,5 @@ pub(crate) fn first_half(m: usize, n: usize) -> Half
         size,
         top: first + size,
         links: first + RECORD_ROOM * n,
-    }
-}
-
-// Rounds until one merges nothing.
-pub(crate) fn merge_all(ws: &mut [u16], m: usize, n: usize, area: u16)
-    requires { PoolIn m (first_half m n) ws.old × LaidIn m (first_half m n) ws.old × Joined (recs_of ws.old m) }
-    ensures m_after { recs_of ws.new m ≡ merged_f area (suc m) (recs_of ws.old m) }
-    ensures at_rest { AtRest m ws.new }
-{
-    let mut half = first_half(m, n);
-    loop {
-        let round = merge_round(ws, m, area, half);
-        if round.merges == 0 {
-            return;
-        }
-        half = round.half;
     }
 }

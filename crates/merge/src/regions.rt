@@ -11,7 +11,6 @@ ghost use Rattle.numbering.specs.Number.{Column, Blank, Spans};
 ghost use Rattle.merge.specs.Ready.{Ready};
 ghost use Rattle.merge.specs.Told.{FilteredIn, ToldRegions};
 
-use crate::merge::merge_all;
 use crate::told::merge_all_noted;
 use filter::{filter, filter_told};
 use numbering::{Regions, number};
@@ -30,7 +29,8 @@ pub fn merge_and_filter_regions(
         ≡ numbered (merged merge_region_size (suc m) (filtered min_region_area (recs_of ws.old m))) ids.old }
 {
     filter(ws, m, min_region_area);
-    merge_all(ws, m, n, merge_region_size);
+    let end = ws.len();
+    merge_all_noted(ws, end, m, n, merge_region_size);
     number(ids, ws, m)
 }
 

@@ -14,7 +14,7 @@ merge_one_noted-noted-requires c = record {
 }
 
 pub loop-i-preserved : goal.loop-i-preserved
-loop-i-preserved c = round_next _ _ _ _ _ _ _ _ _ c.loop-i.invariant _ _ c.merge_one_noted-noted.ensures
+loop-i-preserved c = round_next _ _ _ _ _ _ _ _ _ c.loop-i.invariant c.loop-i.auto.ws _ _ c.merge_one_noted-noted.ensures
 
 pub returns : goal.returns
 returns c = round_done _ _ _ _ _ _ _ _ _ c.loop-i.invariant (omega arith) (omega arith)

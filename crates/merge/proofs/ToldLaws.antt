@@ -9,6 +9,7 @@ use mathlib.Core.Bool.{Bool}
 use mathlib.Core.List.{List, [], ◌∷◌, ◌++◌}
 use lib.ListN.{length, get_or, set, take, drop, length-set}
 use lib.Seq.{length-take-le, take_at, drop_at, take-set-le, get_or-take, get_or-drop, get_or-set_same, get_or-set_other}
+use Rattle.std.proofs.Common.{length-append, length-drop}
 use lib.Dec.{eqb}
 use borrow.Author.Tests.{eq-eqb, ne_eqb}
 use Rattle.rules.specs.Base.{when◌then◌else◌, upto}
@@ -40,6 +41,9 @@ use Rattle.merge.proofs.TurnLaws.{Rounds, rounds-start, rounds_go, rounds_falls,
 
 pub part_length : (end : ℕ) (ws : List ℕ) → end ≤ length ws → length (take end ws) ≡ end
 part_length end ws h = length-take-le end ws h
+
+pub part_size : (end : ℕ) (ws ys : List ℕ) → end ≤ length ws → length ys ≡ length (take end ws) → length (ys ++ drop end ws) ≡ length ws
+part_size end ws ys h l = omega (arith, length-append ys (drop end ws), length-drop end ws, length-take-le end ws h, l)
 
 pub merged_in : (area i m end : ℕ) (ws ys : List ℕ) (g r : Round) → end ≤ length ws → length ys ≡ length (take end ws)
     → record { recs = recs_of ys m; merges = r.merges } ≡ merge_one_f area i (record { recs = recs_of (take end ws) m; merges = g.merges })

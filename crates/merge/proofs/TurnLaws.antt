@@ -7,14 +7,12 @@ use mathlib.Core.Logic.{⊎_elim, ◌⊎◌, inl, inr}
 use mathlib.Core.Bool.{Bool, true, false, not, true≢false, false≢true}
 use mathlib.Core.List.{List}
 use lib.ListN.{length, get_or}
-use lib.Dec.{eqb}
-use borrow.Author.Tests.{eq-eqb, ne_eqb, eqb-false, lt-ltb, le-ltb, not-true}
-use Rattle.rules.specs.Base.{◌and◌, ◌or◌, when◌then◌else◌, any, upto}
+use borrow.Author.Tests.{eq-eqb, ne_eqb, eqb-false, not-true}
+use Rattle.rules.specs.Base.{◌and◌, ◌or◌, when◌then◌else◌, upto}
 use Rattle.rules.specs.Records.{Rec, at, has}
 use Rattle.rules.specs.Merge.{Pick, place, Merge, merge_one}
-use Rattle.laws.proofs.Basics.{neither, if-ind, upto_next, and_both}
+use Rattle.laws.proofs.Basics.{neither, if-ind}
 use Rattle.table.specs.View.{list_at, rec_at, view, recs_of}
-use Rattle.table.proofs.SearchLaws.{place-within}
 use Rattle.table.proofs.ViewLaws.{view-at, list_length, recs_length, recs_at}
 use Rattle.pool.specs.Alike.{Rep, Reps, Joined}
 use Rattle.pool.specs.Fixed.{picked_f, may_merge, try_merge, merged_pair, merge_one_f, merged_f}

@@ -29,6 +29,7 @@ fn floor_in(ws: &[u16], m: usize, a: u16, b: u16) -> bool
     requires { RecordsIn m ws.now × Bearers m ws.now × Borne m a ws.now }
     ensures { result ≡ floor_in ws.now (view ws.now m (lists_at m) (floor_parts_at m)) a b }
 {
+    // A walk: each record names the next that bears the id, and the last names 0.
     let mut y = a as usize;
     while y != 0 {
         if any_floor(ws, list_of(ws, m, FLOORS * m, y), b) {

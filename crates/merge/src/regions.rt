@@ -29,28 +29,10 @@ pub fn merge_and_filter_regions(
         ≡ numbered (merged merge_region_size (suc m) (filtered min_region_area (recs_of ws.old m))) ids.old }
 {
     filter(ws, m, min_region_area);
+    // There is no room past the records, so no merge is noted.
     let end = ws.len();
     merge_all_noted(ws, end, m, n, merge_region_size);
     number(ids, ws, m)
-}
-
-// The records before `end` are filtered. Gives the count of the group with which record r is removed.
-fn filter_in(ws: &mut [u16], end: usize, m: usize, least: u16, r: usize) -> usize
-    requires { (end ≤ length ws.old) × Calm m (take end ws.old) × (r < m) }
-    ensures { FilteredIn least r m end ws.old ws.new result }
-{
-    filter_told(&mut ws[..end], m, least, r)
-}
-
-// The records before `end` are numbered.
-fn number_in(ids: &mut [u16], ws: &mut [u16], end: usize, m: usize) -> Regions
-    requires { (end ≤ length ws.old) × Column m (spare_at m) (take end ws.old) × Blank m (spare_at m) (take end ws.old)
-        × Spans m ids.old × (pool_at m ≤ end) }
-    ensures cut_value { record { ids = ids.new; most = result.max_region; over = result.overlaps; cut = result.cut }
-        ≡ numbered (recs_of (take end ws.old) m) ids.old }
-    ensures ws_unchanged { drop end ws.new ≡ drop end ws.old }
-{
-    number(ids, &mut ws[..end], m)
 }
 
 // What became of one record: its id after the filter, the count of the group with which it was removed; how many merges there were; and the regions.
@@ -79,10 +61,10 @@ pub fn merge_and_filter_told(
         ToldRegions min_region_area merge_region_size m end r ws.old ids.old ws.new found
         result.id result.group result.merges) }
 {
-    let group = filter_in(ws, end, m, min_region_area, r);
+    let group = filter_told(&mut ws[..end], m, min_region_area, r);
     let id = ws[r];
     let merges = merge_all_noted(ws, end, m, n, merge_region_size);
-    let regions = number_in(ids, ws, end, m);
+    let regions = number(ids, &mut ws[..end], m);
     Told {
         id,
         group,

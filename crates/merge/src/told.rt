@@ -2,11 +2,11 @@
 // from there on, two numbers a merge: the id that was absorbed, and the one that absorbed it. Where there is no room past the records nothing is noted.
 ghost use Rattle.std.specs.Prelude.{◌≡◌, ◌+◌, ◌*◌, ◌≤◌, ◌<◌, length, take, set};
 ghost use Rattle.table.specs.View.{recs_of};
-ghost use Rattle.pool.specs.Alike.{Reps, Joined};
+ghost use Rattle.pool.specs.Alike.{Joined};
 ghost use Rattle.pool.specs.Forms.{PoolIn, LaidIn};
 ghost use Rattle.pool.proofs.MergeLaws.{owners};
 ghost use Rattle.merge.specs.Rounds.{first_half};
-ghost use Rattle.merge.specs.Told.{MergedIn, NotedOne, NotedRound, NotedAll};
+ghost use Rattle.merge.specs.Told.{NotedOne, NotedRound, NotedAll};
 
 use crate::merge::{Round, first_half, merge_one};
 use pool::Half;
@@ -16,15 +16,6 @@ use pool::Half;
 pub struct Noted {
     pub round: Round,
     pub count: usize,
-}
-
-// Record i of a round, over the records before `end`.
-fn merge_in(ws: &mut [u16], end: usize, m: usize, area: u16, i: usize, round: Round) -> Round
-    requires end_in_bounds { (end ≤ length ws.old) × PoolIn m round.half (take end ws.old) × LaidIn m round.half (take end ws.old) }
-    requires reps { Reps (recs_of (take end ws.old) m) × (i < m) × (round.merges < 65536) }
-    ensures { MergedIn area i m end ws.old round ws.new result }
-{
-    merge_one(&mut ws[..end], m, area, i, round)
 }
 
 // A merge is noted after the first `count`, if there is room.
@@ -49,9 +40,8 @@ fn merge_one_noted(ws: &mut [u16], end: usize, m: usize, area: u16, i: usize, no
     ensures { NotedOne area i m end ws.old noted ws.new result }
 {
     let old = ws[i];
-    let before = noted.round;
-    let round = merge_in(ws, end, m, area, i, before);
-    if round.merges == before.merges {
+    let round = merge_one(&mut ws[..end], m, area, i, noted.round);
+    if round.merges == noted.round.merges {
         return Noted {
             round,
             count: noted.count,

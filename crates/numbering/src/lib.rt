@@ -28,7 +28,7 @@ fn number_one(ws: &mut [u16], m: usize, numbers: usize, i: usize, k: u16) -> u16
     k + 1
 }
 
-// All records, in order.
+// All records, in order. Ids and numbers are columns of the one workspace, so an index reads both.
 fn number_all(ws: &mut [u16], m: usize, numbers: usize) -> u16
     requires { Column m numbers ws.old × Blank m numbers ws.old }
     ensures numbers { Numbers m numbers ws.new (live_ids (take m ws.old) []) result }

@@ -1,6 +1,4 @@
 -- The answers that the check does not find alone.
-use lib.ListN.{length-set}
-use mathlib.Core.Path.{refl}
 use Rattle.pool.proofs.ListLaws.{map_to-start, map_to_go, map_to-end}
 use Rattle.numbering.proofs.NumberLaws.{span_below}
 use borrow.Author.Rules.{rules}

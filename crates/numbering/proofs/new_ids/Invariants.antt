@@ -1,7 +1,6 @@
 -- `numbering::new_ids` meets its contract. The loop's invariant: the first s ids are renumbered, the others as they were.
 use mathlib.Core.Path.{◌≡◌}
-use Prim.Native.Nat.{◌≤◌, ◌-◌}
-use lib.ListN.{length, take}
+use lib.ListN.{take}
 use Rattle.pool.specs.Lists.{map_to}
 use Rattle.numbering.specs.Number.{renumber}
 use Rattle.numbering.proofs.new_ids.Given as goal

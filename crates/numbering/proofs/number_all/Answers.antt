@@ -1,5 +1,4 @@
 -- The answers that the check does not find alone.
-use mathlib.Core.Path.{refl}
 use Rattle.space.proofs.Laws.{frame_none, frame_then}
 use Rattle.numbering.proofs.NumberLaws.{numbers_start, column_kept, numbers_go, numbers_end}
 use borrow.Author.Rules.{rules}

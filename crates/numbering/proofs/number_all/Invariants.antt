@@ -1,8 +1,7 @@
 -- `numbering::number_all` meets its contract. The loop's invariant: the numbers given so far stand at b, for the first i records.
-use mathlib.Core.Path.{◌≡◌}
-use Prim.Native.Nat.{◌≤◌, ◌-◌, ◌+◌}
+use Prim.Native.Nat.{◌≤◌, ◌+◌}
 use mathlib.Core.List.{[]}
-use lib.ListN.{length, take}
+use lib.ListN.{take}
 use Rattle.numbering.specs.Number.{Numbers, live_ids}
 use Rattle.space.specs.Space.{Frame}
 use Rattle.numbering.proofs.number_all.Given as goal

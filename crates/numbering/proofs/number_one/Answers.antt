@@ -1,6 +1,5 @@
 -- `numbering::number_one` meets its contract. By cases: id 0, an id that has its number, a new one.
-use Rattle.space.proofs.Laws.{frame_none}
-use Rattle.numbering.proofs.NumberLaws.{numbers_none, numbers_old, numbers_new, number_frame, column_in}
+use Rattle.numbering.proofs.NumberLaws.{numbers_none, numbers_old, numbers_new}
 use borrow.Author.Rules.{rules}
 use Rattle.numbering.proofs.number_one.Goals as goal
 use Rattle.numbering.proofs.number_one.Goals.{then-r-eq0-via-then-r-eq0, then-r-eq0-via-else-r-eq0+then-ws-numbers-ne0}

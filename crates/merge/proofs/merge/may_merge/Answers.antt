@@ -1,10 +1,9 @@
 -- `merge::merge::may_merge` meets its contract: the rule's four tests, in its order.
-use borrow.Author.Rules.{rules}
 use native.Mathlib.Omega.{arith}
 use Rattle.std.proofs.lemmas.Grind.{common_steps}
 use Rattle.pool.specs.Fixed.{may_merge}
-use Rattle.table.specs.View.{rec_at, record_at}
-use Rattle.rules.specs.Base.{◌or◌, ◌and◌, any}
+use Rattle.table.specs.View.{rec_at}
+use Rattle.rules.specs.Base.{◌or◌, ◌and◌}
 use Rattle.merge.proofs.merge.may_merge.Goals as goal
 
 pub returns-then-ws-m : goal.returns-then-ws-m

@@ -1,8 +1,8 @@
 -- `merge::pick::pick` meets its contract. The loop's invariant: the rest of the list, from the best so far, picks what the whole picks.
-use lib.ListN.{length, drop, get_or}
+use lib.ListN.{drop, get_or}
 use Rattle.pool.specs.Fixed.{picked_f}
 use Rattle.table.specs.View.{view, rec_at}
-use Prim.Native.Nat.{◌≤◌, ◌-◌, ◌<◌, ◌*◌}
+use Prim.Native.Nat.{◌<◌, ◌*◌}
 use mathlib.Core.Path.{◌≡◌}
 use Rattle.merge.proofs.pick.pick.Given as goal
 

@@ -1,6 +1,5 @@
 -- `merge::pick::pick_one` meets its contract. By cases: a flagged entry, and one that is not better, change nothing.
-use Rattle.merge.proofs.PickLaws.{pick-flagged, pick-stays, pick_moves, pick_id}
-use borrow.Author.Rules.{rules}
+use Rattle.merge.proofs.PickLaws.{pick-flagged, pick-stays, pick_moves}
 use mathlib.Core.Path.{refl}
 use Rattle.merge.proofs.pick.pick_one.Goals as goal
 use Rattle.merge.proofs.pick.pick_one.Goals.{else-r-via-then-r+else-better, else-r-via-else-r}

@@ -1,6 +1,5 @@
 -- `merge::regions::merge_and_filter_regions` meets its contract. Three stages in a row. The filter leaves the pool in order (`filtered_pool`), the merge the numbering's column (`AtRest`),
 -- and the merge with floors that stay gives the rule's numbers (`numbered_top`). The records have the whole workspace: nothing is past them, so no merge is noted.
-use Prim.Native.Nat.{◌≤◌}
 use mathlib.Core.Path.{◌≡◌}
 use lib.ListN.{length, take}
 use lib.Seq.{take_all}

@@ -1,5 +1,4 @@
 -- The answers that the check does not find alone.
-use mathlib.Core.Path.{refl, ◌∙◌}
 use native.Mathlib.Omega.{arith}
 use Rattle.merge.proofs.ToldLaws.{round-start, round-joined, round_next, round_done}
 use Rattle.merge.proofs.told.merge_round_noted.Goals as goal

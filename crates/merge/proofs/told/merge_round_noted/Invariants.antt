@@ -1,7 +1,4 @@
 -- The loop's invariant: records, merges and what is noted are the rule's after i turns (`NotedRound`). The measure is the records left.
-use Prim.Native.Nat.{◌-◌, ◌≤◌}
-use mathlib.Core.Path.{◌≡◌}
-use lib.ListN.{length}
 use Rattle.merge.specs.Told.{NotedRound}
 use Rattle.merge.proofs.told.merge_round_noted.Given as goal
 

@@ -1,14 +1,14 @@
 // The merge: a record, a round, all rounds.
-ghost use Rattle.std.specs.Prelude.{◌≡◌, suc, ◌+◌, ◌≤◌, ◌<◌, false, length, get_or, eqb, MatchOption};
+ghost use Rattle.std.specs.Prelude.{◌≡◌, ◌+◌, ◌≤◌, ◌<◌, false, length, get_or, eqb, MatchOption};
 ghost use Rattle.rules.specs.Records.{has};
-ghost use Rattle.rules.specs.Base.{any, upto};
+ghost use Rattle.rules.specs.Base.{any};
 ghost use Rattle.rules.specs.Merge.{place};
 ghost use Rattle.table.specs.Map.{wide_end, floors_from};
 ghost use Rattle.table.specs.View.{recs_of, list_in, record_at, RecordsIn};
-ghost use Rattle.pool.specs.Alike.{Reps, Joined};
-ghost use Rattle.pool.specs.Fixed.{may_merge, try_merge, merge_one_f, merged_f};
+ghost use Rattle.pool.specs.Alike.{Reps};
+ghost use Rattle.pool.specs.Fixed.{may_merge, try_merge, merge_one_f};
 ghost use Rattle.pool.specs.Forms.{PoolIn, LaidIn};
-ghost use Rattle.merge.specs.Rounds.{round_at, first_half, AtRest};
+ghost use Rattle.merge.specs.Rounds.{round_at, first_half};
 
 use crate::pick::pick;
 use pool::{Half, Pair, merge_regions};

@@ -1,17 +1,14 @@
 // The stages from records to the result.
-ghost use Rattle.std.specs.Prelude.{◌≡◌, suc, ◌+◌, ◌*◌, ◌≤◌, ◌<◌, length, take, drop};
+ghost use Rattle.std.specs.Prelude.{◌≡◌, suc, ◌+◌, ◌*◌, ◌≤◌, ◌<◌, length, take};
 ghost use Rattle.rules.specs.Filter.{filtered};
 ghost use Rattle.rules.specs.Merge.{merged};
 ghost use Rattle.rules.specs.Numbering.{numbered};
 ghost use Rattle.rules.specs.Numbering as rules;
-ghost use Rattle.table.specs.Map.{spare_at, pool_at};
 ghost use Rattle.table.specs.View.{recs_of};
-ghost use Rattle.filter.specs.Group.{Calm};
-ghost use Rattle.numbering.specs.Number.{Column, Blank, Spans};
 ghost use Rattle.merge.specs.Ready.{Ready};
-ghost use Rattle.merge.specs.Told.{FilteredIn, ToldRegions};
+ghost use Rattle.merge.specs.Told.{ToldRegions};
 
-use crate::told::merge_all_noted;
+use crate::told::merge_all;
 use filter::{filter, filter_told};
 use numbering::{Regions, number};
 
@@ -31,7 +28,7 @@ pub fn merge_and_filter_regions(
     filter(ws, m, min_region_area);
     // There is no room past the records, so no merge is noted.
     let end = ws.len();
-    merge_all_noted(ws, end, m, n, merge_region_size);
+    merge_all(ws, end, m, n, merge_region_size);
     number(ids, ws, m)
 }
 
@@ -63,7 +60,7 @@ pub fn merge_and_filter_told(
 {
     let group = filter_told(&mut ws[..end], m, min_region_area, r);
     let id = ws[r];
-    let merges = merge_all_noted(ws, end, m, n, merge_region_size);
+    let merges = merge_all(ws, end, m, n, merge_region_size);
     let regions = number(ids, &mut ws[..end], m);
     Told {
         id,

@@ -56,14 +56,7 @@ fn merge_one_noted(ws: &mut [u16], end: usize, m: usize, area: u16, i: usize, no
 }
 
 // A round: all records, in order.
-fn merge_round_noted(
-    ws: &mut [u16],
-    end: usize,
-    m: usize,
-    area: u16,
-    half: Half,
-    count: usize,
-) -> Noted
+fn merge_round(ws: &mut [u16], end: usize, m: usize, area: u16, half: Half, count: usize) -> Noted
     requires m_in_bounds { (end ≤ length ws.old) × PoolIn m half (take end ws.old) × LaidIn m half (take end ws.old) }
     requires joined { Joined (recs_of (take end ws.old) m) × (count + owners m (recs_of (take end ws.old) m) ≤ m) }
     ensures { NotedRound area m m half.size end ws.old count ws.new result }
@@ -79,7 +72,7 @@ fn merge_round_noted(
 }
 
 // Rounds until one merges nothing. Gives how many merges there were.
-pub(crate) fn merge_all_noted(ws: &mut [u16], end: usize, m: usize, n: usize, area: u16) -> usize
+pub(crate) fn merge_all(ws: &mut [u16], end: usize, m: usize, n: usize, area: u16) -> usize
     requires { (end ≤ length ws.old) × PoolIn m (first_half m n) (take end ws.old)
         × LaidIn m (first_half m n) (take end ws.old) × Joined (recs_of (take end ws.old) m) }
     ensures { NotedAll area m end ws.old ws.new result }
@@ -87,7 +80,7 @@ pub(crate) fn merge_all_noted(ws: &mut [u16], end: usize, m: usize, n: usize, ar
     let mut half = first_half(m, n);
     let mut count = 0;
     loop {
-        let noted = merge_round_noted(ws, end, m, area, half, count);
+        let noted = merge_round(ws, end, m, area, half, count);
         let round = noted.round;
         if round.merges == 0 {
             return noted.count;

@@ -7,8 +7,8 @@ use native.Mathlib.Omega.{arith}
 use Rattle.merge.proofs.TopLaws.{filtered_pool, filtered_laid, filtered-joined, numbered_top, rest_column, rest_blank}
 use Rattle.merge.proofs.regions.merge_and_filter_regions.Goals as goal
 
-pub merge_all_noted-requires : goal.merge_all_noted-requires
-merge_all_noted-requires c =
+pub merge_all-requires : goal.merge_all-requires
+merge_all-requires c =
     let w : take (length c.filter.new.ws) c.filter.new.ws ≡ c.filter.new.ws = take_all _ _ (omega arith) in
     rw w (
       omega arith,
@@ -19,13 +19,13 @@ merge_all_noted-requires c =
 
 pub number-requires : goal.number-requires
 number-requires c =
-    let w : take (length c.filter.new.ws) c.merge_all_noted.new.ws ≡ c.merge_all_noted.new.ws = take_all _ _ (omega (arith, c.merge_all_noted.auto.ws)) in
-    let rest = rw w at c.merge_all_noted.ensures.rest in
-    (rest_column _ _ rest, rest_blank _ _ rest, c.requires.named, omega (arith, c.requires.room, c.filter.auto.ws, c.merge_all_noted.auto.ws))
+    let w : take (length c.filter.new.ws) c.merge_all.new.ws ≡ c.merge_all.new.ws = take_all _ _ (omega (arith, c.merge_all.auto.ws)) in
+    let rest = rw w at c.merge_all.ensures.rest in
+    (rest_column _ _ rest, rest_blank _ _ rest, c.requires.named, omega (arith, c.requires.room, c.filter.auto.ws, c.merge_all.auto.ws))
 
 pub returns : goal.returns
 returns c =
     let v : take (length c.filter.new.ws) c.filter.new.ws ≡ c.filter.new.ws = take_all _ _ (omega arith) in
-    let w : take (length c.filter.new.ws) c.merge_all_noted.new.ws ≡ c.merge_all_noted.new.ws = take_all _ _ (omega (arith, c.merge_all_noted.auto.ws)) in
-    let same = rw (v, w) at c.merge_all_noted.ensures.same in
+    let w : take (length c.filter.new.ws) c.merge_all.new.ws ≡ c.merge_all.new.ws = take_all _ _ (omega (arith, c.merge_all.auto.ws)) in
+    let same = rw (v, w) at c.merge_all.ensures.same in
     numbered_top _ _ _ _ c.requires _ _ c.filter.ensures.m_after c.filter.ensures.calm.0 c.filter.ensures.calm.1 c.filter.auto.ws _ _ _ _ _ _ same c.number.ensures.cut_value

@@ -1,7 +1,7 @@
 -- The answers that the check does not find alone.
 use native.Mathlib.Omega.{arith}
 use Rattle.merge.proofs.ToldLaws.{round-start, round-joined, round_next, round_done}
-use Rattle.merge.proofs.told.merge_round_noted.Goals as goal
+use Rattle.merge.proofs.told.merge_round.Goals as goal
 
 pub loop-i-init : goal.loop-i-init
 loop-i-init c = round-start _ _ _ _ _ _ c.requires.m_in_bounds.1 c.requires.m_in_bounds.2 c.requires.joined.1

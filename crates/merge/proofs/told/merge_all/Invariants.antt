@@ -4,7 +4,7 @@ use lib.ListN.{take}
 use Rattle.table.specs.View.{recs_of}
 use Rattle.pool.proofs.MergeLaws.{owners}
 use Rattle.merge.proofs.ToldLaws.{AllNoted}
-use Rattle.merge.proofs.told.merge_all_noted.Given as goal
+use Rattle.merge.proofs.told.merge_all.Given as goal
 
 abbrev pub invariant-loop-round : goal.invariant-loop-round
 invariant-loop-round l = AllNoted l.area l.m l.end l.initial.ws l.ws l.half l.count

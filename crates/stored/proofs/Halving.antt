@@ -142,12 +142,9 @@ within_first l p before span h g =
     subst (λ z. Within l p before span z (65 * p) before) f
     (record { same = ap (λ z. within p 64 (drop z l) before span) e; place = omega arith; most = omega arith; few = omega arith })
 
-suc_less : (k : ℕ) → 0 < k → k ≡ suc (k - 1)
-suc_less k h = omega arith
-
 module _ (l : List ℕ) (p before span left j s : ℕ) (w : Within l p before span left j s) (o : length l % 5 ≡ 1) (g : 0 < left) where
   whole : within p 64 (drop (325 * p) l) before span ≡ within p (suc (left - 1)) (drop (5 * j) l) s span
-  whole = w.same ∙ ap (λ z. within p z (drop (5 * j) l) s span) (suc_less left g)
+  whole = w.same ∙ ap (λ z. within p z (drop (5 * j) l) s span) (one_less left g)
 
   within_end : (r : IdOutcome) → j ≡ length l / 5 → r ≡ ends_at l (5 * j) p → r ≡ within p 64 (drop (325 * p) l) before span
   unfolding within ends_at

@@ -1,20 +1,25 @@
 -- Laws of neighbour lists. Assumes nothing.
-use Prim.Native.Nat.{ℕ, zero, suc, ◌+◌, ◌-◌, ◌≤◌, ◌<◌}
+use Prim.Native.Nat.{ℕ, suc, ◌+◌, ◌-◌, ◌≤◌, ◌<◌}
 use native.Mathlib.Omega.{arith}
 use native.Mathlib.Numerals.{add-one}
+use native.Mathlib.Decide.{ℕ_discrete}
 use mathlib.Core.Path.{◌≡◌, refl, sym, ap, ◌∙◌}
 use mathlib.Core.Bool.{Bool, true, false}
-use mathlib.Core.List.{List, [], ◌∷◌, ◌++◌, map, append_assoc, append-nil}
+use mathlib.Core.List.{List, ◌++◌, map, append_assoc, append-nil}
 use lib.ListN.{drop_of_length-le, length, get_or, set, take, drop}
 use lib.Seq.{get_or-take, take-take, drop-cons, take-suc-set, drop-set-lt, length-take-le}
 use lib.Dec.{eqb}
-use borrow.Author.Tests.{le-ltb}
+use borrow.Author.Tests.{le-ltb, eq-eqb, ne_eqb}
 use Rattle.rules.specs.Base.{◌and◌, when◌then◌else◌, many}
 use Rattle.rules.specs.Contour.{trim}
 use Rattle.rules.specs.Merge.{tidy}
 use Rattle.laws.specs.Squeeze.{squeeze}
 use Rattle.laws.proofs.Tidy.{tidy_is, trim_same, trim-other}
-use Rattle.pool.specs.Lists.{map_to, again}
+use Rattle.pool.specs.Lists.{again, swap_one}
+use Rattle.std.specs.List.{count_by}
+use Rattle.std.proofs.lemmas.List.{get_or_default}
+use Rattle.std.proofs.lemmas.List.Recursion.{is_count_by}
+use Rattle.std.proofs.lemmas.List.Edits.{map_over_more}
 
 -- ---- adjacent duplicates
 
@@ -45,10 +50,6 @@ module _ (l : List ℕ) (i : ℕ) where
         let hi : w < suc i = omega arith in
         rw (add-one w, add-one i, take-suc-set l w (get_or l i 0) hw, drop-set-lt (suc i) l w (get_or l i 0) hi, drop-cons l i 0 h, ← e, t) (append_assoc (take w l) _ _)
 
-pub squeeze_go : (l l' l₀ : List ℕ) (w r i : ℕ) → take w l ++ squeeze (drop i l) ≡ squeeze l₀
-    → take r l' ++ squeeze (drop (i + 1) l') ≡ take w l ++ squeeze (drop i l) → take r l' ++ squeeze (drop (i + 1) l') ≡ squeeze l₀
-squeeze_go l l' l₀ w r i e f = f ∙ e
-
 pub squeeze_done : (l l₀ : List ℕ) (w i : ℕ) → take w l ++ squeeze (drop i l) ≡ squeeze l₀ → length l ≤ i → take w l ≡ squeeze l₀
 unfolding squeeze
 squeeze_done l l₀ w i e h = rw (drop_of_length-le l h, append-nil) at e
@@ -73,56 +74,23 @@ tidy-joins l l' k r e f = f ∙ ap trim e ∙ sym (tidy_is l)
 
 -- ---- a list under f, entry by entry
 
-pub map_to-at : (f : ℕ → ℕ) (i j : ℕ) (l : List ℕ) → i ≤ j → get_or (map_to f i l) j 0 ≡ get_or l j 0
-unfolding map_to
-map_to-at f zero j l h = refl
-map_to-at f (suc i) j [] h = refl
-map_to-at f (suc i) zero (x ∷ l) h = absurd (omega arith)
-map_to-at f (suc i) (suc j) (x ∷ l) h = map_to-at f i j l (omega arith)
+pub swapped_more : (f : ℕ → ℕ) (xs ys : List ℕ) (i v : ℕ) → i < length xs → length ys ≡ length xs → ys ≡ map f (take i xs) ++ drop i xs → v ≡ f (get_or ys i 0)
+    → set ys i v ≡ map f (take (i + 1) xs) ++ drop (i + 1) xs
+swapped_more f xs ys i v h n e g = ap (λ (z : ℕ). set ys i z) g ∙ map_over_more f xs ys i (get_or ys i 0) h e (get_or_default ys i 0 (get_or ys i 0) (omega arith))
 
-map_to-set : (f : ℕ → ℕ) (i v : ℕ) (l : List ℕ) → v ≡ f (get_or l i 0) → set (map_to f i l) i v ≡ map_to f (suc i) l
-unfolding map_to
-map_to-set f i v [] e = go i
-  where
-    go : (i : ℕ) → set (map_to f i []) i v ≡ map_to f (suc i) []
-    go zero = refl
-    go (suc i) = refl
-map_to-set f zero v (x ∷ l) e = ap (λ (y : ℕ). y ∷ l) e
-map_to-set f (suc i) v (x ∷ l) e = ap (λ (y : List ℕ). f x ∷ y) (map_to-set f i v l e)
+pub swap-hit : (old new r v : ℕ) → r ≡ old → v ≡ new → v ≡ swap_one old new r
+unfolding swap_one when◌then◌else◌
+swap-hit old new r v h e = rw (eq-eqb r old h) e
 
-pub map_to-start : (f : ℕ → ℕ) (l : List ℕ) → l ≡ map_to f 0 l
-unfolding map_to
-map_to-start f l = refl
-
-pub map_to_go : (f : ℕ → ℕ) (l₀ l : List ℕ) (i v : ℕ) → l ≡ map_to f i l₀ → v ≡ f (get_or l i 0) → set l i v ≡ map_to f (i + 1) l₀
-map_to_go f l₀ l i v e g =
-    let q : get_or l i 0 ≡ get_or l₀ i 0 = ap (λ (y : List ℕ). get_or y i 0) e ∙ map_to-at f i i l₀ (omega arith) in
-    ap (λ (y : List ℕ). set y i v) e ∙ map_to-set f i v l₀ (g ∙ ap f q) ∙ ap (λ (j : ℕ). map_to f j l₀) (sym (add-one i))
-
-map_to_all : (f : ℕ → ℕ) (i : ℕ) (l : List ℕ) → length l ≤ i → map_to f i l ≡ map f l
-unfolding map_to
-map_to_all f zero [] h = refl
-map_to_all f zero (x ∷ l) h = absurd (omega arith)
-map_to_all f (suc i) [] h = refl
-map_to_all f (suc i) (x ∷ l) h = ap (λ (y : List ℕ). f x ∷ y) (map_to_all f i l (omega arith))
-
-pub map_to-end : (f : ℕ → ℕ) (l₀ l : List ℕ) (i : ℕ) → l ≡ map_to f i l₀ → length l ≡ length l₀ → length l ≤ i → l ≡ map f l₀
-map_to-end f l₀ l i e n h = e ∙ map_to_all f i l₀ (omega arith)
+pub swap-miss : (old new r v : ℕ) → (r ≡ old → ⊥) → v ≡ r → v ≡ swap_one old new r
+unfolding swap_one when◌then◌else◌
+swap-miss old new r v h e = rw (ne_eqb r old h) e
 
 -- ---- how often
 
-many_by : (b : Bool) (k n x y : ℕ) → n ≡ (when b then suc k else k) → x ≡ (when b then suc y else y) → n + y ≡ k + x
-unfolding when◌then◌else◌
-many_by true k n x y e f = omega arith
-many_by false k n x y e f = omega arith
-
-pub many_go : (l : List ℕ) (r i k n : ℕ) → k + many (eqb r) (drop i l) ≡ many (eqb r) l → i < length l → n ≡ (when eqb r (get_or l i 0) then suc k else k)
-    → n + many (eqb r) (drop (i + 1) l) ≡ many (eqb r) l
-unfolding many
-many_go l r i k n e h q =
-    let z : many (eqb r) (drop i l) ≡ (when eqb r (get_or l i 0) then suc (many (eqb r) (drop (i + 1) l)) else many (eqb r) (drop (i + 1) l)) = rw (drop-cons l i 0 h, add-one i) refl in
-    many_by (eqb r (get_or l i 0)) k n (many (eqb r) (drop i l)) (many (eqb r) (drop (i + 1) l)) q z ∙ e
-
-pub many-end : (l : List ℕ) (r i k : ℕ) → k + many (eqb r) (drop i l) ≡ many (eqb r) l → length l ≤ i → k ≡ many (eqb r) l
-unfolding many
-many-end l r i k e h = let z : many (eqb r) (drop i l) ≡ 0 = rw (drop_of_length-le l h) refl in omega arith
+pub many-count : (r : ℕ) (l : List ℕ) → many (eqb r) l ≡ count_by (λ x. eqb x r) l
+unfolding many when◌then◌else◌
+many-count r = is_count_by (many (eqb r)) (λ x. eqb x r) refl (λ x xs. elim (ℕ_discrete r x) [
+  | yes d ↦ rw (eq-eqb r x d, eq-eqb x r (sym d)) (omega arith)
+  | no d ↦ rw (ne_eqb r x d, ne_eqb x r (λ p. d (sym p))) refl
+])

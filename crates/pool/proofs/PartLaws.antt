@@ -26,7 +26,7 @@ use Rattle.table.proofs.SearchLaws.{has_cons, has-head, place_other, place-first
 pub copied_none : (a to : ℕ) (ws : List ℕ) → Copied a to 0 ws ws
 copied_none a to ws = record { each = λ j h. absurd (omega arith) }
 
-module _ (a e to z : ℕ) (ws₀ ws : List ℕ) (k n : ℕ) (c : CopyRoom a e to z ws₀) (s : length ws ≡ length ws₀) (q : n ≡ e - a) (h : k < n) where
+module _ (a e to z : ℕ) (ws₀ ws : List ℕ) (k : ℕ) (c : CopyRoom a e to z ws₀) (s : length ws ≡ length ws₀) (h : k < e - a) where
   pub copy_read : a + k < length ws
   copy_read = omega (arith, c.order, c.from)
 
@@ -50,10 +50,10 @@ module _ (a e to z : ℕ) (ws₀ ws : List ℕ) (k n : ℕ) (c : CopyRoom a e to
     ];
   }
 
-pub copy_done : (a e to z : ℕ) (ws₀ ws : List ℕ) (k n : ℕ) → CopyRoom a e to z ws₀ → length ws ≡ length ws₀ → n ≡ e - a → k ≤ n → n ≤ k → Copied a to k ws₀ ws
+pub copy_done : (a e to z : ℕ) (ws₀ ws : List ℕ) (k : ℕ) → CopyRoom a e to z ws₀ → length ws ≡ length ws₀ → e - a ≤ k → Copied a to k ws₀ ws
     → part to (to + (e - a)) ws ≡ part a e ws₀
 unfolding part
-copy_done a e to z ws₀ ws k n c s q h₁ h₂ g =
+copy_done a e to z ws₀ ws k c s h g =
     let w : (to + (e - a)) - to ≡ e - a = omega arith in
     let l₁ : length (take (e - a) (drop to ws)) ≡ e - a = length-sec to (e - a) ws (omega (arith, c.room, c.into)) in
     let l₂ : length (take (e - a) (drop a ws₀)) ≡ e - a = length-sec a (e - a) ws₀ (omega (arith, c.order, c.from)) in

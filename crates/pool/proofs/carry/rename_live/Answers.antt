@@ -11,8 +11,8 @@ returns-then-ws-x-eq0 c = record {
   frame = search frame_none;
 }
 
-pub returns : goal.returns
-returns c = record {
+pub returns-else-ws-x-eq0 : goal.returns-else-ws-x-eq0
+returns-else-ws-x-eq0 c = record {
   ws_after = search new_live;
   lower_bound = search rules;
   frame = search rules;

@@ -4,13 +4,13 @@ use borrow.Author.Rules.{rules}
 use Rattle.pool.proofs.own.own_all.Goals as goal
 
 pub loop-x-init : goal.loop-x-init
-loop-x-init c = (search rules, search rules, search owning_none)
+loop-x-init c = search owning_none
 
 pub own_one-requires : goal.own_one-requires
 own_one-requires c = (search owning_stands, search rules)
 
 pub loop-x-preserved : goal.loop-x-preserved
-loop-x-preserved c = (search rules, search rules, search owning_go)
+loop-x-preserved c = search owning_go
 
 pub returns : goal.returns
 returns c = record {

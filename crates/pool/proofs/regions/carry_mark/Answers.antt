@@ -4,11 +4,11 @@ use Rattle.pool.proofs.MarkLaws.{mark_none, mark_carried, mark_in}
 use borrow.Author.Rules.{rules}
 use Rattle.pool.proofs.regions.carry_mark.Goals as goal
 
-pub returns-then-ws-m-eq0 : goal.returns-then-ws-m-eq0
-returns-then-ws-m-eq0 c = search (rules, mark_none)
+pub bounds-ws-m-then-ws-m-ne0-2 : goal.bounds-ws-m-then-ws-m-ne0-2
+bounds-ws-m-then-ws-m-ne0-2 c = search (rules, mark_in)
 
-pub bounds-ws-m-3 : goal.bounds-ws-m-3
-bounds-ws-m-3 c = search (rules, mark_in)
+pub returns-then-ws-m-ne0 : goal.returns-then-ws-m-ne0
+returns-then-ws-m-ne0 c = search (rules, mark_carried)
 
-pub returns : goal.returns
-returns c = search (rules, mark_carried)
+pub returns-else-ws-m-ne0 : goal.returns-else-ws-m-ne0
+returns-else-ws-m-ne0 c = search (rules, mark_none)

@@ -16,8 +16,8 @@ returns-then-both-half c = record {
   relisted_in = c.relist_here.ensures.relisted_in;
 }
 
-pub returns : goal.returns
-returns c = record {
+pub returns-else-both-half : goal.returns-else-both-half
+returns-else-both-half c = record {
   size_value = (c.relist_there.ensures.size_value.0, c.relist_there.ensures.size_value.1, inr (c.relist_there.ensures.size_value.2, c.relist_there.ensures.size_value.3));
   relisted_in = c.relist_there.ensures.relisted_in;
 }

@@ -4,11 +4,11 @@ use Rattle.pool.proofs.RenameLaws.{row_far}
 use borrow.Author.Rules.{rules}
 use Rattle.pool.proofs.rename.rename_beside.Goals as goal
 
-pub returns-then-m-y : goal.returns-then-m-y
-returns-then-m-y c = search beside_nobody
-
 pub rename_one-requires : goal.rename_one-requires
 rename_one-requires c = (search rules, search (rules, beside_in), row_far _ _ _ (search rules) (search (rules, beside_in)))
 
-pub returns : goal.returns
-returns c = search beside_passed
+pub returns-then-y-m : goal.returns-then-y-m
+returns-then-y-m c = search beside_passed
+
+pub returns-else-y-m : goal.returns-else-y-m
+returns-else-y-m c = search beside_nobody

@@ -1,11 +1,11 @@
 -- Laws of neighbour lists. Assumes nothing.
-use Prim.Native.Nat.{ℕ, suc, ◌+◌, ◌-◌, ◌≤◌, ◌<◌}
+use Prim.Native.Nat.{ℕ, zero, suc, ◌+◌, ◌-◌, ◌≤◌, ◌<◌}
 use native.Mathlib.Omega.{arith}
 use native.Mathlib.Numerals.{add-one}
 use native.Mathlib.Decide.{ℕ_discrete}
 use mathlib.Core.Path.{◌≡◌, refl, sym, ap, ◌∙◌}
 use mathlib.Core.Bool.{Bool, true, false}
-use mathlib.Core.List.{List, ◌++◌, map, append_assoc, append-nil}
+use mathlib.Core.List.{List, [], ◌∷◌, ◌++◌, map, append_assoc, append-nil}
 use lib.ListN.{drop_of_length-le, length, get_or, set, take, drop}
 use lib.Seq.{get_or-take, take-take, drop-cons, take-suc-set, drop-set-lt, length-take-le}
 use lib.Dec.{eqb}
@@ -15,7 +15,7 @@ use Rattle.rules.specs.Contour.{trim}
 use Rattle.rules.specs.Merge.{tidy}
 use Rattle.laws.specs.Squeeze.{squeeze}
 use Rattle.laws.proofs.Tidy.{tidy_is, trim_same, trim-other}
-use Rattle.pool.specs.Lists.{again, swap_one}
+use Rattle.pool.specs.Lists.{map_to, again, swap_one}
 use Rattle.std.specs.List.{count_by}
 use Rattle.std.proofs.lemmas.List.{get_or_default}
 use Rattle.std.proofs.lemmas.List.Recursion.{is_count_by}
@@ -85,6 +85,44 @@ swap-hit old new r v h e = rw (eq-eqb r old h) e
 pub swap-miss : (old new r v : ℕ) → (r ≡ old → ⊥) → v ≡ r → v ≡ swap_one old new r
 unfolding swap_one when◌then◌else◌
 swap-miss old new r v h e = rw (ne_eqb r old h) e
+
+-- the first i entries under f, for loops by index: numbering and watershed have them
+
+pub map_to-at : (f : ℕ → ℕ) (i j : ℕ) (l : List ℕ) → i ≤ j → get_or (map_to f i l) j 0 ≡ get_or l j 0
+unfolding map_to
+map_to-at f zero j l h = refl
+map_to-at f (suc i) j [] h = refl
+map_to-at f (suc i) zero (x ∷ l) h = absurd (omega arith)
+map_to-at f (suc i) (suc j) (x ∷ l) h = map_to-at f i j l (omega arith)
+
+map_to-set : (f : ℕ → ℕ) (i v : ℕ) (l : List ℕ) → v ≡ f (get_or l i 0) → set (map_to f i l) i v ≡ map_to f (suc i) l
+unfolding map_to
+map_to-set f i v [] e = go i
+  where
+    go : (i : ℕ) → set (map_to f i []) i v ≡ map_to f (suc i) []
+    go zero = refl
+    go (suc i) = refl
+map_to-set f zero v (x ∷ l) e = ap (λ (y : ℕ). y ∷ l) e
+map_to-set f (suc i) v (x ∷ l) e = ap (λ (y : List ℕ). f x ∷ y) (map_to-set f i v l e)
+
+pub map_to-start : (f : ℕ → ℕ) (l : List ℕ) → l ≡ map_to f 0 l
+unfolding map_to
+map_to-start f l = refl
+
+pub map_to_go : (f : ℕ → ℕ) (l₀ l : List ℕ) (i v : ℕ) → l ≡ map_to f i l₀ → v ≡ f (get_or l i 0) → set l i v ≡ map_to f (i + 1) l₀
+map_to_go f l₀ l i v e g =
+    let q : get_or l i 0 ≡ get_or l₀ i 0 = ap (λ (y : List ℕ). get_or y i 0) e ∙ map_to-at f i i l₀ (omega arith) in
+    ap (λ (y : List ℕ). set y i v) e ∙ map_to-set f i v l₀ (g ∙ ap f q) ∙ ap (λ (j : ℕ). map_to f j l₀) (sym (add-one i))
+
+map_to_all : (f : ℕ → ℕ) (i : ℕ) (l : List ℕ) → length l ≤ i → map_to f i l ≡ map f l
+unfolding map_to
+map_to_all f zero [] h = refl
+map_to_all f zero (x ∷ l) h = absurd (omega arith)
+map_to_all f (suc i) [] h = refl
+map_to_all f (suc i) (x ∷ l) h = ap (λ (y : List ℕ). f x ∷ y) (map_to_all f i l (omega arith))
+
+pub map_to-end : (f : ℕ → ℕ) (l₀ l : List ℕ) (i : ℕ) → l ≡ map_to f i l₀ → length l ≡ length l₀ → length l ≤ i → l ≡ map f l₀
+map_to-end f l₀ l i e n h = e ∙ map_to_all f i l₀ (omega arith)
 
 -- ---- how often
 

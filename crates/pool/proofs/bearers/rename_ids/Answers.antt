@@ -6,9 +6,6 @@ use Rattle.pool.proofs.bearers.rename_ids.Goals as goal
 pub loop-m-init : goal.loop-m-init
 loop-m-init c = (search rules, search rules, search hand_start)
 
-pub next_of-next-requires : goal.next_of-next-requires
-next_of-next-requires c = (search hand_room, search rules)
-
 pub returns-then-next-eq0 : goal.returns-then-next-eq0
 returns-then-next-eq0 c = search hand_done
 

@@ -6,9 +6,6 @@ use Rattle.pool.proofs.links.link_all.Goals as goal
 pub loop-q-init : goal.loop-q-init
 loop-q-init c = search linking_none
 
-pub link_one-requires : goal.link_one-requires
-link_one-requires c = (search room_same, search rules)
-
 pub loop-q-preserved : goal.loop-q-preserved
 loop-q-preserved c = search linking_go
 

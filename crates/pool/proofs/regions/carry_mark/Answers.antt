@@ -4,9 +4,6 @@ use Rattle.pool.proofs.MarkLaws.{mark_none, mark_carried, mark_in}
 use borrow.Author.Rules.{rules}
 use Rattle.pool.proofs.regions.carry_mark.Goals as goal
 
-pub bounds-ws-m-then-ws-m-ne0-2 : goal.bounds-ws-m-then-ws-m-ne0-2
-bounds-ws-m-then-ws-m-ne0-2 c = search (rules, mark_in)
-
 pub returns-then-ws-m-ne0 : goal.returns-then-ws-m-ne0
 returns-then-ws-m-ne0 c = search (rules, mark_carried)
 

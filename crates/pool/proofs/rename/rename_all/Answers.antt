@@ -9,9 +9,6 @@ loop-y-init c = (search rules, search search_start)
 pub rename_named-requires : goal.rename_named-requires
 rename_named-requires c = (search search_reached, search search_in, search rules)
 
-pub next_of-y-requires : goal.next_of-y-requires
-next_of-y-requires c = (search search_room, search search_in)
-
 pub loop-y-smaller : goal.loop-y-smaller
 loop-y-smaller c = search search_falls
 

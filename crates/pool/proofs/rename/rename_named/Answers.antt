@@ -6,14 +6,8 @@ use Rattle.pool.proofs.rename.rename_named.Goals as goal
 pub loop-q-init : goal.loop-q-init
 loop-q-init c = (search rules, search walked_none)
 
-pub rename_beside-requires : goal.rename_beside-requires
-rename_beside-requires c = (search walked_rows, search walked_ids, search rules)
-
 pub loop-q-smaller : goal.loop-q-smaller
 loop-q-smaller c = search walked_less
 
 pub loop-q-preserved : goal.loop-q-preserved
 loop-q-preserved c = (search rules, search walked_go)
-
-pub returns : goal.returns
-returns c = search walked_all

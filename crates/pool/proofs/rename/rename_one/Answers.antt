@@ -3,9 +3,6 @@ use Rattle.pool.proofs.RenameLaws.{passed_dead, passed_i, passed_n, passed_renam
 use Rattle.pool.proofs.rename.rename_one.Goals as goal
 use Rattle.pool.proofs.rename.rename_one.Goals.{else-ws-x-ne0-via-then-ws-x-ne0+then-x-pair+else-x-pair-2, else-ws-x-ne0-via-then-ws-x-ne0+else-x-pair, else-ws-x-ne0-via-else-ws-x-ne0}
 
-pub returns-then-x-pair-2 : goal.returns-then-x-pair-2
-returns-then-x-pair-2 c = search passed_renamed
-
 pub returns-else-ws-x-ne0 : goal.returns-else-ws-x-ne0
 returns-else-ws-x-ne0 c =
     elim c.else-ws-x-ne0.branch [

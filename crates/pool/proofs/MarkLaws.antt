@@ -143,6 +143,3 @@ module _ (ws : List ℕ) (m n i : ℕ) where
   pub mark_carried : (get_or ws (15 * m + i) 0 ≡ 0 → ⊥) → set (set ws (15 * m + n) 1) (15 * m + i) 0 ≡ remarked m n i ws
   unfolding remarked when◌then◌else◌
   mark_carried e = rw (borrow.Author.Tests.ne_eqb (get_or ws (15 * m + i) 0) 0 e)
-
-  pub mark_in : 16 * m ≤ length ws → i < m → 15 * m + i < length (set ws (15 * m + n) 1)
-  mark_in h g = rw (length-set ws (15 * m + n) 1) (omega arith)

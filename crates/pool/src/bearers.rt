@@ -18,6 +18,7 @@ fn rename_ids(ws: &mut [u16], m: usize, i: usize, new: u16) -> usize
     requires { Owners m new i ws.old }
     ensures { Handed m i new result ws.old ws.new }
 {
+    // A chain: each record names the next.
     let mut y = i;
     loop {
         ws[y] = new;

@@ -48,6 +48,7 @@ pub(crate) fn replace_neighbour(ws: &mut [u16], a: usize, e: usize, names: Renam
     ensures lower_bound { (a ≤ result) × (result ≤ e) }
     ensures frame { Frame a e ws.old ws.new }
 {
+    // Not `contains`: `place` takes sixteen entries at a time.
     let k = place(&ws[a..e], names.old);
     if k == e - a {
         return e;

@@ -52,6 +52,7 @@ fn rename_named(ws: &mut [u16], m: usize, y: usize, pair: Pair, half: Half, name
     requires { ReachedIn m pair half ws.old × (y < m) × (names.old ≡ names.new → ⊥) }
     ensures { NamedRenamed m y pair half names ws.old ws.new }
 {
+    // A chain: each place links to an earlier one, and 0 ends it.
     let mut q = wide(ws, m, half.links + 2 * half.size + y);
     while q != 0 {
         q -= 1;
@@ -65,6 +66,7 @@ pub(crate) fn rename_all(ws: &mut [u16], m: usize, pair: Pair, half: Half, names
     requires { SearchedIn m pair half names ws.old × (names.old ≡ names.new → ⊥) }
     ensures { OthersRenamed m pair names ws.old ws.new }
 {
+    // A chain: each record names the next, and 0 ends it.
     let mut y = names.old as usize;
     while y != 0 {
         rename_named(ws, m, y, pair, half, names);

@@ -1,5 +1,5 @@
 -- The answers that the check does not find alone.
-use Rattle.pool.proofs.BearerLaws.{hand_start, hand_room, hand_inside, hand_next, hand_falls, hand_done}
+use Rattle.pool.proofs.BearerLaws.{hand_start, hand_inside, hand_next, hand_falls, hand_done}
 use borrow.Author.Rules.{rules}
 use Rattle.pool.proofs.bearers.rename_ids.Goals as goal
 

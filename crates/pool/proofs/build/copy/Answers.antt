@@ -1,6 +1,6 @@
 -- The answers that the check does not find alone.
 use Rattle.space.proofs.Laws.{frame_none}
-use Rattle.pool.proofs.PartLaws.{copied_none, copy_read, copy_write, copy_frame, copy_go, copy_done}
+use Rattle.pool.proofs.PartLaws.{copy_frame, copy_go, copy_done}
 use borrow.Author.Rules.{rules}
 use Rattle.pool.proofs.build.copy.Goals as goal
 

@@ -1,5 +1,5 @@
 -- `pool::build::copy_around` meets its contract. Two copies, one after the other: `around_3`.
-use Rattle.pool.proofs.PartLaws.{around_1, around_2, around_3, around_4}
+use Rattle.pool.proofs.PartLaws.{around_3, around_4}
 use borrow.Author.Rules.{rules}
 use Rattle.pool.proofs.build.copy_around.Goals as goal
 

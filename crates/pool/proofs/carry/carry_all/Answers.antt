@@ -1,5 +1,5 @@
 -- The answers that the check does not find alone.
-use Rattle.pool.proofs.CarryLaws.{carried_none, carry_source, carry_go, carry_done}
+use Rattle.pool.proofs.CarryLaws.{carry_source, carry_go}
 use Rattle.pool.proofs.carry.carry_all.Goals as goal
 
 pub carry_next-e-requires : goal.carry_next-e-requires

@@ -1,5 +1,5 @@
 -- `pool::carry::carry_one` meets its contract. Copied, renamed, and the table's entry written: `moved_is` puts the three together.
-use Rattle.pool.proofs.CarryLaws.{source_clear, moved_is}
+use Rattle.pool.proofs.CarryLaws.{moved_is}
 use Rattle.pool.proofs.carry.carry_one.Goals as goal
 
 pub returns : goal.returns

@@ -1,5 +1,5 @@
 -- The answers that the check does not find alone.
-use Rattle.pool.proofs.OwnLaws.{owning_none, owning_stands, owning_go, owning_all, owning_kept}
+use Rattle.pool.proofs.OwnLaws.{owning_stands, owning_go, owning_all}
 use borrow.Author.Rules.{rules}
 use Rattle.pool.proofs.own.own_all.Goals as goal
 

@@ -1,6 +1,6 @@
 -- `pool::regions::carry_mark` meets its contract. By cases: there is no mark to carry, or two stores in the column of the marks.
 -- Both are what `remarked` says.
-use Rattle.pool.proofs.MarkLaws.{mark_none, mark_carried, mark_in}
+use Rattle.pool.proofs.MarkLaws.{mark_none, mark_carried}
 use borrow.Author.Rules.{rules}
 use Rattle.pool.proofs.regions.carry_mark.Goals as goal
 

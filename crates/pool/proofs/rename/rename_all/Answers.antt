@@ -1,5 +1,5 @@
 -- The answers that the check does not find alone.
-use Rattle.pool.proofs.SeekLaws.{search_start, search_reached, search_in, search_room, search_falls, search_next, search_done}
+use Rattle.pool.proofs.SeekLaws.{search_start, search_reached, search_in, search_falls, search_next, search_done}
 use borrow.Author.Rules.{rules}
 use Rattle.pool.proofs.rename.rename_all.Goals as goal
 

@@ -1,5 +1,5 @@
 -- The answers that the check does not find alone.
-use Rattle.pool.proofs.SweepLaws.{walked_none, walked_rows, walked_ids, walked_go, walked_less, walked_all}
+use Rattle.pool.proofs.SweepLaws.{walked_none, walked_go, walked_less}
 use borrow.Author.Rules.{rules}
 use Rattle.pool.proofs.rename.rename_named.Goals as goal
 

@@ -1,5 +1,5 @@
 -- `pool::rename::rename_one` meets its contract. By cases: a dead record's list stays, i and n are passed by.
-use Rattle.pool.proofs.RenameLaws.{passed_dead, passed_i, passed_n, passed_renamed}
+use Rattle.pool.proofs.RenameLaws.{passed_dead, passed_i, passed_n}
 use Rattle.pool.proofs.rename.rename_one.Goals as goal
 use Rattle.pool.proofs.rename.rename_one.Goals.{else-ws-x-ne0-via-then-ws-x-ne0+then-x-pair+else-x-pair-2, else-ws-x-ne0-via-then-ws-x-ne0+else-x-pair, else-ws-x-ne0-via-else-ws-x-ne0}
 

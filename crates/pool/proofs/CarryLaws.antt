@@ -14,7 +14,7 @@ use Rattle.space.proofs.Laws.{get_or_before, get_d_after, frame_then}
 use Rattle.laws.specs.Sums.{sum_to}
 use Rattle.table.specs.View.{part, start_of, end_of, list_at, Parts, Placed}
 use Rattle.table.proofs.ViewLaws.{wide-same, list_same, part-after}
-use Rattle.pool.specs.Part.{CopyRoom, renamed_list}
+use Rattle.pool.specs.Part.{renamed_list}
 use Rattle.pool.specs.Pool.{without, len_at, rest_to, new_list, Source, Moved, Next, Sources, There, Carried}
 
 pub new_dead : (old new id : ℕ) (l : List ℕ) → id ≡ 0 → l ≡ new_list old new id l

@@ -1,16 +1,13 @@
 -- Where an id stands in a list, and whether it does, entry by entry; and two laws on equal results that no one stage owns.
-use Prim.Native.Nat.{ℕ, suc, ◌<◌}
-use native.Mathlib.Omega.{arith}
+use Prim.Native.Nat.{ℕ}
 use mathlib.Core.Path.{◌≡◌, refl, sym, ap, ◌∙◌}
-use mathlib.Core.Bool.{Bool, true, false}
+use mathlib.Core.Bool.{Bool, true}
 use mathlib.Core.List.{List, [], ◌∷◌, ◌++◌, map}
-use lib.ListN.{length, get_or}
 use lib.Dec.{eqb}
 use Rattle.rules.specs.Base.{◌or◌, any}
 use Rattle.rules.specs.Records.{has}
 use Rattle.rules.specs.Numbering.{Regions}
 use Rattle.laws.proofs.Basics.{or_no, or_swap}
-use Rattle.table.proofs.SearchLaws.{has_cons}
 
 pub or-first : (b : Bool) → true or b ≡ true
 unfolding ◌or◌

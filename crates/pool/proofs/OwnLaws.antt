@@ -9,7 +9,7 @@ use lib.ListN.{length, get_or, replicate, length-replicate, get_or-replicate}
 use lib.Seq.{get_or-take}
 use borrow.Rule.Slice.PartMut.{put_mid, mid_of}
 use Rattle.space.specs.Space.{Frame}
-use Rattle.space.proofs.Laws.{get_or_before, get_d_after, get_or-sec, length-sec, frame_none, frame_then, frame_wider, frame_put}
+use Rattle.space.proofs.Laws.{get_or_before, get_d_after, get_or-sec, length-sec, frame_then, frame_wider, frame_put}
 use Rattle.table.specs.View.{start_of, end_of}
 use Rattle.table.proofs.ViewLaws.{wide-same}
 use Rattle.pool.specs.Pool.{Owned, OwnedPart, Halves, Standing}

@@ -9,7 +9,7 @@ use mathlib.Core.List.{List, []}
 use lib.ListN.{length, get_or}
 use Rattle.laws.specs.Sums.{sum_to}
 use Rattle.laws.proofs.Sums.{sum_same}
-use Rattle.table.specs.View.{part, start_of, end_of, list_at, Parts}
+use Rattle.table.specs.View.{part, start_of, end_of, list_at}
 use Rattle.table.proofs.ViewLaws.{list_same, wide-same, part_none}
 use Rattle.space.specs.Space.{Frame}
 use Rattle.space.proofs.Laws.{sec-same, get_or_before, get_d_after}

@@ -1,6 +1,5 @@
 -- `pool::absorb::absorb` meets its contract. The joined list is in place, and two entries of the table are written: `absorbed_is`.
 use Rattle.pool.proofs.AbsorbLaws.{absorbed_is}
-use borrow.Author.Rules.{rules}
 use Rattle.pool.proofs.absorb.absorb.Goals as goal
 
 pub returns : goal.returns

@@ -1,7 +1,5 @@
 -- The answers that the check does not find alone.
-use Rattle.space.proofs.Laws.{frame_none}
 use Rattle.pool.proofs.PartLaws.{copy_frame, copy_go, copy_done}
-use borrow.Author.Rules.{rules}
 use Rattle.pool.proofs.build.copy.Goals as goal
 
 pub loop-k-preserved : goal.loop-k-preserved

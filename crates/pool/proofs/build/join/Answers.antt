@@ -1,6 +1,5 @@
 -- `pool::build::join` meets its contract. Two copies and the removal of adjacent duplicates over both: `join_done`.
 use Rattle.pool.proofs.PartLaws.{join_done, join_frame}
-use borrow.Author.Rules.{rules}
 use Rattle.pool.proofs.build.join.Goals as goal
 
 pub returns-clause-ws_after : goal.returns-clause-ws_after

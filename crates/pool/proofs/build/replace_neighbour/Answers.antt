@@ -1,7 +1,5 @@
 -- `pool::build::replace_neighbour` meets its contract. By cases on whether old is listed; the part is lent twice.
-use Rattle.space.proofs.Laws.{frame_none}
 use Rattle.pool.proofs.PartLaws.{rename_none, rename_some, rename_frame}
-use borrow.Author.Rules.{rules}
 use Rattle.pool.proofs.build.replace_neighbour.Goals as goal
 
 pub returns-then-k-e-clause-ws_after : goal.returns-then-k-e-clause-ws_after

@@ -1,7 +1,5 @@
 -- `pool::carry::rename_live` meets its contract. By cases on the record's id.
-use Rattle.space.proofs.Laws.{frame_none}
 use Rattle.pool.proofs.CarryLaws.{new_dead, new_live}
-use borrow.Author.Rules.{rules}
 use Rattle.pool.proofs.carry.rename_live.Goals as goal
 
 pub returns-then-ws-x-eq0-clause-ws_after : goal.returns-then-ws-x-eq0-clause-ws_after

@@ -1,6 +1,5 @@
 -- The answers that the check does not find alone.
 use Rattle.pool.proofs.LinkLaws.{linking_none, linking_go, linking_all, linking_kept}
-use borrow.Author.Rules.{rules}
 use Rattle.pool.proofs.links.link_all.Goals as goal
 
 pub loop-q-init : goal.loop-q-init

@@ -1,7 +1,6 @@
 -- `pool::regions::merge_regions` meets its contract. Lists, counts, ids, marks, in this order: `region_recs` is the rule's outcome; counts and ids lie below
 -- the table, the marks between table and pool, so `region_pool` and `region_laid` follow from how `relist` leaves the lists.
 use Rattle.pool.proofs.RegionLaws.{spans_fit, owners_still, region_recs, region_pool, region_laid, pool_sized, laid_sized}
-use borrow.Author.Rules.{rules}
 use Rattle.pool.proofs.regions.merge_regions.Goals as goal
 
 pub recount-requires-clause-i_bound : goal.recount-requires-clause-i_bound

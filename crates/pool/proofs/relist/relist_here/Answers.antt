@@ -1,6 +1,6 @@
 -- `pool::relist::relist_here` meets its contract. The joined list past all lists, and the others renamed where they are: `relisted_here`. The places stay linked,
 -- and mention what the lists name once the ids are renamed too: `laid_here`.
-use mathlib.Core.Path.{refl, sym, ◌∙◌}
+use mathlib.Core.Path.{sym, ◌∙◌}
 use Rattle.pool.proofs.RelistLaws.{searched_here, relisted_here, laid_here}
 use Rattle.pool.proofs.relist.relist_here.Goals as goal
 

@@ -1,6 +1,5 @@
 -- `pool::relist::relist_there` meets its contract. The joined list, all others after it, then their records beside them, then the places linked:
 -- `relisted_there`, `laid_there`. All lists together fit the half.
-use mathlib.Core.Path.{refl}
 use Rattle.pool.proofs.RelistLaws.{target_there, sources_there, standing_there, relisted_there, laid_there}
 use Rattle.pool.proofs.relist.relist_there.Goals as goal
 

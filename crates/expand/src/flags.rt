@@ -37,10 +37,8 @@ pub(crate) fn enter_all(ids: &[u16], ws: &mut [u16], flags: usize, stack: Stack)
         Past n stack.at (flags + n) ws.old × (stack.at + n ≤ flags) × Entries n stack.at stack.fill ws.old }
     ensures { Entering stack.at flags stack.fill ids.now ws.old ws.new stack.fill }
 {
-    let mut j: usize = 0;
-    while j < stack.fill {
+    for j in 0..stack.fill {
         enter_one(ids, ws, flags, stack.at + j);
-        j += 1;
     }
 }
 
@@ -68,9 +66,7 @@ pub(crate) fn leave_all(ids: &[u16], ws: &mut [u16], flags: usize, stack: Stack)
         Past n stack.at (flags + n) ws.old × (stack.at + n ≤ flags) × Entries n stack.at stack.fill ws.old }
     ensures { Leaving stack.at flags stack.fill ids.now ws.old ws.new stack.fill }
 {
-    let mut j: usize = 0;
-    while j < stack.fill {
+    for j in 0..stack.fill {
         leave_one(ids, ws, flags, stack.at + j);
-        j += 1;
     }
 }

@@ -31,10 +31,8 @@ fn write_all(ids: &mut [u16], ws: &mut [u16], changes: usize, lo: usize, hi: usi
     ensures { let n = length ids.old in
         Writing n changes lo hi ids.old ws.old ids.new ws.new hi }
 {
-    let mut i = lo;
-    while i < hi {
+    for i in lo..hi {
         write_one(ids, ws, changes + 3 * i);
-        i += 1;
     }
 }
 

@@ -108,10 +108,8 @@ fn try_around(
     ensures sides { Sides area.now at.changes at.table ids.now ws.old ws.new result.strays span.0 4 }
 {
     let mut r = t;
-    let mut d: usize = 0;
-    while d < 4 {
+    for d in 0..4 {
         r = try_side(area, ids, ws, at, span, d, r);
-        d += 1;
     }
     r
 }
@@ -139,11 +137,9 @@ pub(crate) fn try_beside(
         fill2: 0,
         fill4: 0,
     };
-    let mut i = lo;
-    while i < hi {
+    for i in lo..hi {
         let s = at16(ws, at.changes + 3 * i);
         t = try_around(area, ids, ws, at, SpanIx(s), t);
-        i += 1;
     }
     t
 }
@@ -189,10 +185,8 @@ pub(crate) fn try_all(
         fill2: 0,
         fill4: 0,
     };
-    let mut j: usize = 0;
-    while j < fill {
+    for j in 0..fill {
         t = try_entry(area, ids, ws, at, from + j, t);
-        j += 1;
     }
     t
 }

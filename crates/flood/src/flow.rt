@@ -48,13 +48,7 @@ fn push_one(
         return height;
     }
     let t = neighbour(ws, at.table, span, d).0;
-    if area[t] != seed.area {
-        return height;
-    }
-    if ids[t] != 0 {
-        return height;
-    }
-    if dist[t] < seed.limit {
+    if area[t] != seed.area || ids[t] != 0 || dist[t] < seed.limit {
         return height;
     }
     ids[t] = seed.id;
@@ -162,16 +156,6 @@ fn visit(
     }
 }
 
-// Two below a level, but not below 0.
-fn below(level: u16) -> u16
-    ensures { result ≡ level - 2 }
-{
-    if level < 2 {
-        return 0;
-    }
-    level - 2
-}
-
 // How many spans count, and the story of the watched span.
 #[derive(Clone, Copy)]
 pub struct Flooded {
@@ -209,7 +193,7 @@ pub fn flood_region(
     let seed = Seed {
         area: area[s],
         id,
-        limit: below(level),
+        limit: level.saturating_sub(2),
     };
     ids[s] = id;
     ws[s] = 0;

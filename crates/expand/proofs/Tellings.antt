@@ -3,7 +3,7 @@
 use mathlib.Core.Path.{◌≡◌, refl, sym, ap, ◌∙◌}
 use mathlib.Core.Bool.{Bool, true, false, true≢false}
 use mathlib.Core.List.{List, map}
-use Prim.Native.Nat.{ℕ, suc, ◌+◌, ◌*◌, ◌≤◌, ◌<◌}
+use Prim.Native.Nat.{ℕ, zero, suc, ◌+◌, ◌-◌, ◌*◌, ◌≤◌, ◌<◌}
 use native.Mathlib.Omega.{arith}
 use native.Mathlib.Decide.{ℕ_discrete}
 use lib.ListN.{length, get_or}
@@ -75,24 +75,42 @@ module _ (table : ℕ) (ar ids ws : List ℕ) (s own d a far : ℕ) (v : Sight t
 pub side_is : (table : ℕ) (ar ids ws : List ℕ) (s : ℕ) → Sight table ar ids ws s → (d : ℕ) → d < 4 → (o : ℕ) → o ≡ get_or ws (table + (4 * s + d)) 0 → o ≡ near (net_at table ar ws) s d
 side_is table ar ids ws s v d h o e = e ∙ sym (near-at table ar ws s d v.room v.span h)
 
-module _ (N : Net) (m : Marks) (s far : ℕ) (a : Bool) (ea : a ≡ gives N m s far 0) where
-  pub source_0 : a ≡ true → (o : ℕ) → o ≡ near N s 0 → o ≡ source_at N m s far
-  unfolding source_at when◌then◌else◌
-  source_0 y o eo = rw (sym ea ∙ y) eo
+-- the neighbour in the first of k directions from d that has the sum, or else in the one past them
+pub source_from : Net → Marks → ℕ → ℕ → ℕ → ℕ → ℕ
+source_from N m s far zero d = near N s d
+source_from N m s far (suc k) d = when gives N m s far d then near N s d else source_from N m s far k (d + 1)
 
-  module _ (y : a ≡ false) (b : Bool) (eb : b ≡ gives N m s far 1) where
-    pub source_1 : b ≡ true → (o : ℕ) → o ≡ near N s 1 → o ≡ source_at N m s far
-    unfolding source_at when◌then◌else◌
-    source_1 z o eo = rw (sym ea ∙ y, sym eb ∙ z) eo
+-- at direction d of the first three: what is left to look at gives what all give
+pub record Looking (N : Net) (m : Marks) (s far d : ℕ) : Type 0 where
+  pub few : d ≤ 3
+  pub same : source_at N m s far ≡ source_from N m s far (3 - d) d
 
-    module _ (z : b ≡ false) (c : Bool) (ec : c ≡ gives N m s far 2) where
-      pub source_2 : c ≡ true → (o : ℕ) → o ≡ near N s 2 → o ≡ source_at N m s far
-      unfolding source_at when◌then◌else◌
-      source_2 x o eo = rw (sym ea ∙ y, sym eb ∙ z, sym ec ∙ x) eo
+pub source_start : (N : Net) (m : Marks) (s far : ℕ) → Looking N m s far 0
+unfolding source_at source_from
+source_start N m s far = record { few = omega arith; same = refl }
 
-      pub source_3 : c ≡ false → (o : ℕ) → o ≡ near N s 3 → o ≡ source_at N m s far
-      unfolding source_at when◌then◌else◌
-      source_3 x o eo = rw (sym ea ∙ y, sym eb ∙ z, sym ec ∙ x) eo
+module _ (N : Net) (m : Marks) (s far d : ℕ) (v : Looking N m s far d) where
+  module _ (h : d < 3) (a : Bool) (ea : a ≡ gives N m s far d) where
+    left : 3 - d ≡ suc (3 - (d + 1))
+    left = omega arith
+
+    now_at : source_at N m s far ≡ when a then near N s d else source_from N m s far (3 - (d + 1)) (d + 1)
+    unfolding source_from
+    now_at = rw ea (rw left at v.same)
+
+    pub source_here : a ≡ true → (o : ℕ) → o ≡ near N s d → o ≡ source_at N m s far
+    unfolding when◌then◌else◌
+    source_here z o eo = eo ∙ sym (rw z at now_at)
+
+    pub source_on : a ≡ false → Looking N m s far (d + 1)
+    unfolding when◌then◌else◌
+    source_on z = record { few = omega arith; same = rw z at now_at }
+
+  pub source_last : 3 ≤ d → (o : ℕ) → o ≡ near N s 3 → o ≡ source_at N m s far
+  unfolding source_from
+  source_last h o eo =
+      let z : d ≡ 3 = omega (arith, v.few) in
+      eo ∙ sym (rw z at v.same)
 
 source_is : (N : Net) (m : Marks) (s far : ℕ) → far ≡ (takes N m s).far → source_at N m s far ≡ source N m s
 unfolding source_at source

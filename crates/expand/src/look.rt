@@ -174,14 +174,10 @@ pub(crate) fn source(
         result ≡ source_at net marks span.0 far }
 {
     let own = at8(area, span.0);
-    if gives(area, ids, ws, table, span, own, 0, far) {
-        return neighbour(ws, table, span, 0).0;
-    }
-    if gives(area, ids, ws, table, span, own, 1, far) {
-        return neighbour(ws, table, span, 1).0;
-    }
-    if gives(area, ids, ws, table, span, own, 2, far) {
-        return neighbour(ws, table, span, 2).0;
+    for d in 0..3 {
+        if gives(area, ids, ws, table, span, own, d, far) {
+            return neighbour(ws, table, span, d).0;
+        }
     }
     neighbour(ws, table, span, 3).0
 }

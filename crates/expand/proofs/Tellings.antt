@@ -5,6 +5,8 @@ use mathlib.Core.Bool.{Bool, true, false, true≢false}
 use mathlib.Core.List.{List, map}
 use Prim.Native.Nat.{ℕ, zero, suc, ◌+◌, ◌-◌, ◌*◌, ◌≤◌, ◌<◌}
 use native.Mathlib.Omega.{arith}
+use Rattle.std.specs.Option.{MatchOption}
+use Rattle.std.proofs.Common.{Option, Some, None}
 use native.Mathlib.Decide.{ℕ_discrete}
 use lib.ListN.{length, get_or}
 use borrow.Author.Tests.{eq-eqb, ne_eqb, leb-true, leb-false}
@@ -118,66 +120,40 @@ source_is N m s far e = rw e
 
 -- ---------------------------------------------------------------- the queue
 
--- none of the changes before i is of span s
-pub record Seeking (ws : List ℕ) (e lo hi s i : ℕ) : Type 0 where
-  pub from : lo ≤ i
-  pub to : i ≤ hi
-  pub not_yet : (j : ℕ) → lo ≤ j → j < i → get_or ws (e + 3 * j) 0 ≡ s → ⊥
-
-module _ (ws : List ℕ) (e lo hi s : ℕ) where
-  pub seeking_start : lo ≤ hi → Seeking ws e lo hi s lo
-  seeking_start h = record { from = omega arith; to = h; not_yet = λ j l u z. omega arith }
-
-  module _ (i : ℕ) (v : Seeking ws e lo hi s i) where
-    pub seeking_next : i < hi → (x : ℕ) → x ≡ get_or ws (e + 3 * i) 0 → (x ≡ s → ⊥) → Seeking ws e lo hi s (i + 1)
-    seeking_next h x q z = record {
-      from = omega (arith, v.from);
-      to = omega arith;
-      not_yet = λ j l u y. elim (ℕ_discrete j i) [
-        | yes p ↦ z (q ∙ ap (λ (k : ℕ). get_or ws (e + 3 * k) 0) (sym p) ∙ y)
-        | no p ↦ v.not_yet j l (omega arith) y
-      ];
-    }
-
-    pub seeking_found : i < hi → (x : ℕ) → x ≡ get_or ws (e + 3 * i) 0 → x ≡ s → Sought ws e lo hi s i
-    seeking_found h x q z = record { from = v.from; to = omega arith; found = λ _. sym q ∙ z; nowhere = λ l _. omega arith }
-
-    pub seeking_end : hi ≤ i → Sought ws e lo hi s hi
-    seeking_end h = record {
-      from = omega (arith, v.from, v.to);
-      to = omega arith;
-      found = λ l. absurd (omega arith);
-      nowhere = λ _ q. v.not_yet q.at q.from (omega (arith, q.to)) q.is;
-    }
+-- as `find` gives it
+pub sought_first : (ws : List ℕ) (e lo hi s : ℕ) (r : Option ℕ)
+    → MatchOption r ((k : ℕ) → lo ≤ k → k < hi → get_or ws (e + 3 * k) 0 ≡ s → ⊥)
+    (λ i. (lo ≤ i) × (i < hi) × (get_or ws (e + 3 * i) 0 ≡ s) × ((k : ℕ) → lo ≤ k → k < i → get_or ws (e + 3 * k) 0 ≡ s → ⊥)) → Sought ws e lo hi s r
+sought_first ws e lo hi s (Some i) h = record { found = λ j z. let e : i ≡ j = cc in rw (← e) (h.0, h.1, h.2); nowhere = λ z. cc }
+sought_first ws e lo hi s None h = record { found = λ j z. cc; nowhere = λ _ q. h q.at q.from q.to q.is }
 
 -- what is queued is a span
 pub queued_span : (ws : List ℕ) (n e lo hi s : ℕ) → Spans n e lo hi ws → Queued ws e lo hi s → s < n
 queued_span ws n e lo hi s v q = rw q.is at (v.span q.at q.from q.to)
 
 -- and so is what was sought and found
-pub sought_span : (ws : List ℕ) (n e lo hi s i : ℕ) → Spans n e lo hi ws → Sought ws e lo hi s i → (i ≡ hi → ⊥) → s < n
-sought_span ws n e lo hi s i v k z = let h : i < hi = omega (arith, k.to) in rw (k.found h) at (v.span i k.from h)
+pub sought_span : (ws : List ℕ) (n e lo hi s i : ℕ) (r : Option ℕ) → Spans n e lo hi ws → Sought ws e lo hi s r → r ≡ Some i → s < n
+sought_span ws n e lo hi s i r v k z = let f = k.found i z in rw f.2 at (v.span i f.0 f.1)
 
 module _ (N : Net) (m : Marks) (ws : List ℕ) (n e lo hi : ℕ) (y : Story) (v : Spans n e lo hi ws) where
   -- a build that watches no span
   pub told_none : n ≤ most_spans → y.span ≡ 65535 → RoundTold N m ws e lo hi y y
   told_none h z = record { took = λ q. absurd (let l = queued_span ws n e lo hi y.span v q in omega arith); still = λ _. refl }
 
-  module _ (i : ℕ) (k : Sought ws e lo hi y.span i) where
-    pub told_still : i ≡ hi → RoundTold N m ws e lo hi y y
-    told_still z = record { took = λ q. absurd (k.nowhere (omega arith) q); still = λ _. refl }
+  module _ (r : Option ℕ) (k : Sought ws e lo hi y.span r) where
+    pub told_still : r ≡ None → RoundTold N m ws e lo hi y y
+    told_still z = record { took = λ q. absurd (k.nowhere z q); still = λ _. refl }
 
     -- the change that was found is the watched span's
-    sought_in : (i ≡ hi → ⊥) → i < hi
-    sought_in z = omega (arith, k.to)
-
-    pub told_took : (i ≡ hi → ⊥) → (far : ℕ) → far ≡ get_or ws (e + 3 * i + 2) 0 → (o : ℕ) → o ≡ source_at N m y.span far
+    pub told_took : (i : ℕ) → r ≡ Some i → (far : ℕ) → far ≡ get_or ws (e + 3 * i + 2) 0 → (o : ℕ) → o ≡ source_at N m y.span far
         → RoundTold N m ws e lo hi y (record { span = y.span; from = o; gave = y.gave; objecting = y.objecting })
     unfolding took_from
-    told_took z far ef o eo = record {
-      took = λ _. record { at = i; from = k.from; to = sought_in z; is = k.found (sought_in z); told = rw (← ef, ← eo) refl };
-      still = λ f. absurd (f (record { at = i; from = k.from; to = sought_in z; is = k.found (sought_in z) }));
-    }
+    told_took i z far ef o eo =
+        let f = k.found i z in
+        record {
+          took = λ _. record { at = i; from = f.0; to = f.1; is = f.2; told = rw (← ef, ← eo) refl };
+          still = λ g. absurd (g (record { at = i; from = f.0; to = f.1; is = f.2 }));
+        }
 
 -- and whose id it takes is a number of 16 bits: a span, or none
 near-small : (N : Net) (s d : ℕ) → Closed N → s < spans N → d < 4 → near N s d < 65536

@@ -8,7 +8,6 @@ ghost use Rattle.expand.specs.Front.{Entering, Leaving};
 
 use crate::Stack;
 use field::place::NO_SPAN;
-use field::read::at16;
 
 // A used entry: NO_SPAN in 16 bits.
 const USED: u16 = 65535;
@@ -20,15 +19,15 @@ fn enter_one(ids: &[u16], ws: &mut [u16], flags: usize, i: usize)
     ensures { let entry = fresh ids.now (get_or ws.old i 0) in
         ws.new ≡ flagged flags entry 1 (set ws.old i entry) }
 {
-    let s = at16(ws, i);
+    let s = ws[i] as usize;
     if s == NO_SPAN {
         return;
     }
-    if at16(ids, s) == 0 {
+    if ids[s] == 0 {
         ws[flags + s] = 1;
-        return;
+    } else {
+        ws[i] = USED;
     }
-    ws[i] = USED;
 }
 
 // "first, entries that have an id are marked used"
@@ -49,15 +48,14 @@ fn leave_one(ids: &[u16], ws: &mut [u16], flags: usize, i: usize)
     ensures { let entry = get_or ws.old i 0 in
         ws.new ≡ set (flagged flags entry 0 ws.old) i (fresh ids.now entry) }
 {
-    let s = at16(ws, i);
+    let s = ws[i] as usize;
     if s == NO_SPAN {
         return;
     }
     ws[flags + s] = 0;
-    if at16(ids, s) == 0 {
-        return;
+    if ids[s] != 0 {
+        ws[i] = USED;
     }
-    ws[i] = USED;
 }
 
 // All of the stack.

@@ -77,21 +77,11 @@ fn look(
     }
     let f = source_at(ws, a);
     if MOST_SOURCE < f {
-        return Taken {
-            id: t.id,
-            far: t.far,
-            strays: true,
-            fill1: 0,
-        };
+        return Taken { strays: true, ..t };
     }
     let far = f + 2;
     if far < t.far {
-        return Taken {
-            id: r,
-            far,
-            strays: t.strays,
-            fill1: 0,
-        };
+        return Taken { id: r, far, ..t };
     }
     t
 }

@@ -9,7 +9,6 @@ ghost use Rattle.expand.specs.Front.{front_of, Spans, Writing, Lit, Gone};
 use crate::Stack;
 use crate::story::tell_round;
 use crate::tries::{try_all, try_beside};
-use field::read::at16;
 use flood::story::Story;
 use net::Sections;
 
@@ -19,7 +18,7 @@ fn write_one(ids: &mut [u16], ws: &mut [u16], c: usize)
     ensures ids_after { ids.new ≡ set ids.old (get_or ws.old c 0) (get_or ws.old (c + 1) 0) }
     ensures ws_after { ws.new ≡ set ws.old (get_or ws.old c 0) (get_or ws.old (c + 2) 0) }
 {
-    let s = at16(ws, c);
+    let s = ws[c] as usize;
     ids[s] = ws[c + 1];
     ws[s] = ws[c + 2];
 }

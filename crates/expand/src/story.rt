@@ -46,9 +46,7 @@ pub(crate) fn tell_round(
     };
     let far = at16(ws, at.changes + 3 * i + 2);
     Story {
-        span: story.span,
         from: source(area, ids, ws, at.table, SpanIx(s), far) as u16,
-        gave: story.gave,
-        objecting: story.objecting,
+        ..story
     }
 }

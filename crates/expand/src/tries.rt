@@ -44,27 +44,21 @@ fn try_span(area: &[u8], ids: &[u16], ws: &mut [u16], at: Sections, span: SpanIx
 {
     let x = span.0;
     let i = at.stack + x;
-    if at16(ws, i) == 0 {
+    if ws[i] == 0 {
         return t;
     }
-    let k = t.noted;
     let f = takes(area, ids, ws, at.table, span, t.strays);
     if f.id == RegionId::NONE.0 {
         return Tries {
-            noted: k,
             strays: f.strays,
-            fill1: 0,
-            fill2: 0,
-            fill4: 0,
+            ..t
         };
     }
-    note(ws, i, at.changes + 3 * k, x as u16, f.id, f.far);
+    note(ws, i, at.changes + 3 * t.noted, x as u16, f.id, f.far);
     Tries {
-        noted: k + 1,
+        noted: t.noted + 1,
         strays: f.strays,
-        fill1: 0,
-        fill2: 0,
-        fill4: 0,
+        ..t
     }
 }
 

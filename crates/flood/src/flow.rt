@@ -56,7 +56,7 @@ fn push_one(
     ws[at.stack + height.top] = t as u16;
     Height {
         top: height.top + 1,
-        count: height.count,
+        ..height
     }
 }
 
@@ -139,10 +139,7 @@ fn visit(
         let told = give_back(area, ids, ws, at.table, cons, SpanIx(s), seed, story);
         ids[s] = 0;
         return Visited {
-            height: Height {
-                top,
-                count: height.count,
-            },
+            height: Height { top, ..height },
             story: told,
         };
     }

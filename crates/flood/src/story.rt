@@ -108,9 +108,8 @@ pub(crate) fn give_back(
         return story;
     }
     Story {
-        span: story.span,
-        from: story.from,
         gave: seed.id,
         objecting: objecting(area, ids, ws, table, cons, span, seed),
+        ..story
     }
 }

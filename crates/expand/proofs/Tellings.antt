@@ -9,6 +9,7 @@ use Rattle.std.specs.Option.{MatchOption}
 use Rattle.std.proofs.Common.{Option, Some, None}
 use native.Mathlib.Decide.{ℕ_discrete}
 use lib.ListN.{length, get_or}
+use lib.Dec.{eqb}
 use borrow.Author.Tests.{eq-eqb, ne_eqb, leb-true, leb-false}
 use Rattle.rules.specs.Base.{◌and◌, when◌then◌else◌, any}
 use Rattle.rules.specs.Field.{none}
@@ -21,57 +22,25 @@ use Rattle.laws.proofs.Plain.{plain_zero, plain-flagged, plain_yes}
 use Rattle.net.specs.Table.{net_at, Closed}
 use Rattle.net.proofs.Tables.{area_none, near-at, spans-at}
 use Rattle.flood.specs.Stack.{marks_at}
-use Rattle.expand.specs.Layout.{Sight, fresh, list_at}
+use Rattle.expand.specs.Layout.{offers, Sight, fresh, list_at}
 use Rattle.expand.specs.Front.{Queued, Board, Spans, Front, front_of}
 use Rattle.expand.specs.Told.{Sought, source_at, RoundTold}
 use Rattle.expand.proofs.Waves.{has, keep_in, keep_out, changes}
 use Rattle.expand.proofs.Fronts.{change_queued, queued_change}
-use Rattle.expand.proofs.Looks.{no₁, no₂, no₃, near_a, own_area, at_area, at_id, at-far}
+use Rattle.expand.proofs.Looks.{none₁, guard, at-far}
 
 -- ---------------------------------------------------------------- whose id a span takes
 
-blank : Taken
-blank = record { id = 0; far = 0 }
-
-module _ (table : ℕ) (ar ids ws : List ℕ) (s own d a far : ℕ) (v : Sight table ar ids ws s) (h : d < 4) (q : own ≡ get_or ar s 0) (n : a ≡ get_or ws (table + (4 * s + d)) 0) where
-  pub gives_none : a ≡ none → own < 256 → false ≡ gives (net_at table ar ws) (marks_at (length ar) ids ws) s far d
+module _ (table : ℕ) (ar ids ws : List ℕ) (s own d a far : ℕ) (v : Sight table ar ids ws s) (h : d < 4) (q : own ≡ get_or ar s 0) (n : a ≡ get_or ws (table + (4 * s + d)) 0)
+    (b : Bool) (o : b ≡ offers ar ids own a) where
+  pub gives_none : b ≡ false → false ≡ gives (net_at table ar ws) (marks_at (length ar) ids ws) s far d
   unfolding gives
-  gives_none z o =
-      let N = net_at table ar ws in
-      let e : area_of N (near N s d) ≡ 256 = ap (area_of N) (near_a table ar ids ws s own d a blank false v h q n ∙ z) ∙ area_none N v.closed in
-      let y : area_of N (near N s d) ≡ area_of N s → ⊥ = λ (y : area_of N (near N s d) ≡ area_of N s). omega (arith, own_area table ar ids ws s own d a blank false v h q n) in
-      sym (no₁ _ _ _ (ne_eqb _ _ y))
+  gives_none y = sym (none₁ _ _ (guard table ar ids ws s own d a v h q n b o ∙ y))
 
-  module _ (i : a < length ar) where
-    pub gives_area : (u : ℕ) → u ≡ get_or ar a 0 → (u ≡ own → ⊥) → false ≡ gives (net_at table ar ws) (marks_at (length ar) ids ws) s far d
-    unfolding gives
-    gives_area u e k =
-        sym (no₁ _ _ _ (ne_eqb _ _ (λ y. k (e ∙ sym (at_area table ar ids ws s own d a blank false v h q n i) ∙ y ∙ own_area table ar ids ws s own d a blank false v h q n))))
-
-    module _ (r : ℕ) (o : r ≡ get_or ids a 0) where
-      pub gives_zero : r ≡ 0 → false ≡ gives (net_at table ar ws) (marks_at (length ar) ids ws) s far d
-      unfolding gives
-      gives_zero e = sym (no₂ _ _ _ (plain_zero _ (at_id table ar ids ws s own d a blank false v h q n i ∙ sym o ∙ e)))
-
-      module _ (b : Bool) (eb : b ≡ flagged r) where
-        pub gives_flag : b ≡ true → false ≡ gives (net_at table ar ws) (marks_at (length ar) ids ws) s far d
-        unfolding gives
-        gives_flag y =
-            let g : 0x8000 ≤ r = leb-true _ _ (sym eb ∙ y) in
-            sym (no₂ _ _ _ (plain-flagged _ (rw (o ∙ sym (at_id table ar ids ws s own d a blank false v h q n i)) at g)))
-
-        module _ (f : ℕ) (p : f ≡ get_or ws a 0) where
-          pub gives_less : (f + 2 ≡ far → ⊥) → false ≡ gives (net_at table ar ws) (marks_at (length ar) ids ws) s far d
-          unfolding gives
-          gives_less w = sym (no₃ _ _ _ (rw (at-far table ar ids ws s own d a blank false v h q n i r o b eb f p) (ne_eqb _ _ w)))
-
-          pub gives-sum : (u : ℕ) → u ≡ get_or ar a 0 → u ≡ own → (r ≡ 0 → ⊥) → b ≡ false → f + 2 ≡ far
-              → true ≡ gives (net_at table ar ws) (marks_at (length ar) ids ws) s far d
-          unfolding gives
-          gives-sum u e k z y w = sym (and_both _ _
-              (and_both _ _ (eq-eqb _ _ (at_area table ar ids ws s own d a blank false v h q n i ∙ sym e ∙ k ∙ sym (own_area table ar ids ws s own d a blank false v h q n)))
-              (rw (at_id table ar ids ws s own d a blank false v h q n i ∙ sym o) (plain_yes _ z (leb-false _ _ (sym eb ∙ y)))))
-              (rw (at-far table ar ids ws s own d a blank false v h q n i r o b eb f p) (eq-eqb _ _ w)))
+  pub gives_sum : b ≡ true → a < length ar → (r : Bool) → r ≡ eqb (get_or ws a 0 + 2) far → r ≡ gives (net_at table ar ws) (marks_at (length ar) ids ws) s far d
+  unfolding gives ◌and◌
+  gives_sum y i r e =
+      rw (guard table ar ids ws s own d a v h q n b o ∙ y, at-far table ar ids ws s own d a v h q n b o (record { id = 0; far = 0 }) false y i _ refl) e
 
 -- the neighbour in direction d, as read
 pub side_is : (table : ℕ) (ar ids ws : List ℕ) (s : ℕ) → Sight table ar ids ws s → (d : ℕ) → d < 4 → (o : ℕ) → o ≡ get_or ws (table + (4 * s + d)) 0 → o ≡ near (net_at table ar ws) s d

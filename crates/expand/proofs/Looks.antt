@@ -9,16 +9,15 @@ use native.Mathlib.Decide.{ℕ_discrete}
 use lib.ListN.{length, get_or, get_or-eq_default}
 use lib.Seq.{get_or-take}
 use lib.Dec.{eqb}
-use borrow.Author.Tests.{eq-eqb, ne_eqb, lt-ltb, le-ltb, ltb-true, leb-true, leb-false}
+use borrow.Author.Tests.{eq-eqb, ne_eqb, lt-ltb, le-ltb, ltb-true}
 use Rattle.rules.specs.Base.{◌and◌, ◌or◌, when◌then◌else◌, upto}
 use Rattle.rules.specs.Field.{none}
 use Rattle.rules.specs.Net.{Net, near, area_of}
 use Rattle.rules.specs.Refusals.{most_spans}
 use Rattle.rules.specs.Growth.{Marks, Taken, id_of, flagged, plain, look, takes, exceeds, strays}
 use Rattle.laws.proofs.Basics.{both, if-ind, and_no, get_d_any, and_both, or_no, or_right, upto_next}
-use Rattle.laws.proofs.Plain.{plain_zero, plain-flagged, plain_yes}
 use Rattle.net.specs.Table.{net_at}
-use Rattle.net.proofs.Tables.{area_at, area_none, near-at, net_few, net_inside}
+use Rattle.net.proofs.Tables.{area_at, near-at, net_few, net_inside}
 use Rattle.flood.specs.Stack.{marks_at}
 use Rattle.expand.specs.Layout.{offers, Sight}
 

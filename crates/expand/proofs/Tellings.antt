@@ -10,17 +10,15 @@ use Rattle.std.proofs.Common.{Option, Some, None}
 use native.Mathlib.Decide.{ℕ_discrete}
 use lib.ListN.{length, get_or}
 use lib.Dec.{eqb}
-use borrow.Author.Tests.{eq-eqb, ne_eqb, leb-true, leb-false}
 use Rattle.rules.specs.Base.{◌and◌, when◌then◌else◌, any}
 use Rattle.rules.specs.Field.{none}
-use Rattle.rules.specs.Net.{Net, spans, near, area_of}
-use Rattle.rules.specs.Growth.{Marks, Taken, flagged, takes, finds, Spread, round}
+use Rattle.rules.specs.Net.{Net, spans, near}
+use Rattle.rules.specs.Growth.{Marks, takes, finds, Spread, round}
 use Rattle.rules.specs.Refusals.{most_spans}
 use Rattle.rules.specs.Reasons.{Story, took_from, gives, source, round_tells, rounds_tell}
 use Rattle.laws.proofs.Basics.{and_both, both, if-ind}
-use Rattle.laws.proofs.Plain.{plain_zero, plain-flagged, plain_yes}
 use Rattle.net.specs.Table.{net_at, Closed}
-use Rattle.net.proofs.Tables.{area_none, near-at, spans-at}
+use Rattle.net.proofs.Tables.{near-at, spans-at}
 use Rattle.flood.specs.Stack.{marks_at}
 use Rattle.expand.specs.Layout.{offers, Sight, fresh, list_at}
 use Rattle.expand.specs.Front.{Queued, Board, Spans, Front, front_of}

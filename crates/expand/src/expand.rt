@@ -13,7 +13,6 @@ ghost use Rattle.expand.specs.Front.{Settled};
 use crate::Stack;
 use crate::flags::{enter_all, leave_all};
 use crate::round::rounds;
-use field::read::{at8, at16};
 use flood::story::Story;
 use net::Sections;
 use space::clear_part;

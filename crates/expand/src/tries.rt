@@ -8,7 +8,6 @@ ghost use Rattle.expand.specs.Front.{Board, Moved, Tried, Sides, Beside, Spans, 
 
 use crate::look::takes;
 use field::place::{NO_SPAN, SpanIx};
-use field::read::at16;
 use net::{Sections, neighbour};
 use region::RegionId;
 
@@ -132,7 +131,7 @@ pub(crate) fn try_beside(
         fill4: 0,
     };
     for i in lo..hi {
-        let s = at16(ws, at.changes + 3 * i);
+        let s = ws[at.changes + 3 * i] as usize;
         t = try_around(area, ids, ws, at, SpanIx(s), t);
     }
     t
@@ -148,7 +147,7 @@ fn try_entry(area: &[u8], ids: &[u16], ws: &mut [u16], at: Sections, i: usize, t
     ensures fact_2 { let entry = get_or ws.old i 0 in
         Tried area.now at.changes at.table ids.now ws.old ws.new result.strays entry }
 {
-    let s = at16(ws, i);
+    let s = ws[i] as usize;
     if s == NO_SPAN {
         return t;
     }

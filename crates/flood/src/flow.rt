@@ -12,8 +12,8 @@ ghost use Rattle.flood.specs.Stories.{story_of};
 use crate::look::{Seed, objects};
 use crate::story::{Story, give_back};
 use field::place::{NO_LAYER, SpanIx, connections};
-use field::read::at16;
 use net::{Sections, neighbour};
+use std::mem;
 
 // The stack's height, and how many spans count.
 #[derive(Clone, Copy)]
@@ -93,9 +93,7 @@ fn pop(ws: &mut [u16], i: usize) -> usize
     requires { i < length ws.old }
     ensures { (result ≡ get_or ws.old i 0) × (ws.new ≡ set ws.old i 0) }
 {
-    let entry = at16(ws, i);
-    ws[i] = 0;
-    entry
+    mem::take(&mut ws[i]) as usize
 }
 
 // The stack after a visit, and the story of the watched span.

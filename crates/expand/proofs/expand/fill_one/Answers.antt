@@ -1,13 +1,12 @@
 -- A span that is not walkable or has an id, and one that is stacked: the rule's test in each case (Blanks).
 use mathlib.Core.Path.{refl}
-use borrow.Author.Rules.{rules}
 use Rattle.expand.proofs.Blanks.{push_shut, fill_shut, push_held, fill-held, push_vacant, fill-vacant}
 use Rattle.expand.proofs.expand.fill_one.Goals as goal
 use Rattle.expand.proofs.expand.fill_one.Goals.{then-area-s-eq0-via-then-area-s-eq0, then-area-s-eq0-via-else-area-s-eq0+then-ids-s-ne0}
 
 pub returns-then-area-s-eq0 : goal.returns-then-area-s-eq0
 returns-then-area-s-eq0 c = elim c.then-area-s-eq0.branch [
-  then-area-s-eq0-via-then-area-s-eq0 w ↦ record {
+  | then-area-s-eq0-via-then-area-s-eq0 w ↦ record {
     ws_after = push_shut _ _ _ _ _ _ c.requires.s_in_bounds.0 refl w.if-area-s-eq0.true;
     value = fill_shut _ _ c.args.ws.now _ _ _ c.requires.s_in_bounds.0 refl w.if-area-s-eq0.true;
   }

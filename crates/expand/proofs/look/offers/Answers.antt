@@ -9,7 +9,7 @@ use Rattle.expand.proofs.look.offers.Goals.{then-a-eq-NO_SPAN-via-then-a-eq-NO_S
 
 pub returns-then-a-eq-NO_SPAN : goal.returns-then-a-eq-NO_SPAN
 returns-then-a-eq-NO_SPAN c = elim c.then-a-eq-NO_SPAN.branch [
-  then-a-eq-NO_SPAN-via-then-a-eq-NO_SPAN w ↦ offers_none _ _ _ _ c.requires.area_len_bound.0 c.requires.ids_len.1 w.if-a-eq-NO_SPAN.true
+  | then-a-eq-NO_SPAN-via-then-a-eq-NO_SPAN w ↦ offers_none _ _ _ _ c.requires.area_len_bound.0 c.requires.ids_len.1 w.if-a-eq-NO_SPAN.true
   | then-a-eq-NO_SPAN-via-else-a-eq-NO_SPAN+then-area-a w ↦ offers_area _ _ _ _ (c.requires.area_len_bound.1 w.if-a-eq-NO_SPAN.false) w.if-area-a.true
 ]
 

@@ -1,5 +1,4 @@
 -- What `find` says of the numbers lo .. hi (`sought_first`).
-use native.Mathlib.Omega.{arith}
 use borrow.Author.Rules.{rules}
 use lib.ListN.{get_or}
 use Prim.Native.Nat.{ℕ, ◌+◌, ◌*◌}

@@ -9,7 +9,7 @@ ghost use Rattle.expand.specs.Front.{Entering, Leaving};
 use crate::Stack;
 use field::place::NO_SPAN;
 
-// A used entry: NO_SPAN in 16 bits.
+// A used entry: NO_SPAN in 16 bits, since entries are numbers of the workspace.
 const USED: u16 = 65535;
 
 // The entry at i is marked used if it has an id; if not, its flag rises. Flags begin at `flags`.

@@ -14,7 +14,8 @@ use field::place::{NO_SPAN, SpanIx};
 use net::neighbour;
 use region::RegionId;
 
-// An id, and the source distance that goes with it; and whether a sum exceeded what a source distance can be. Filled up, as `Tries` is.
+// An id, NONE until one is found, and the source distance that goes with it; and whether a sum exceeded what a source distance can be. Filled up, as
+// `Tries` is; an Option would have bytes that no field has.
 #[derive(Clone, Copy)]
 pub struct Taken {
     pub id: u16,

@@ -68,6 +68,7 @@ pub(crate) fn rounds(
     let mut t = try_all(area, ids, ws, at, from, fill);
     let mut left = most;
     let mut told = story;
+    // Each turn goes through what the one before noted: no range fits.
     while lo < t.noted {
         let hi = t.noted;
         told = tell_round(area, ids, ws, at, lo, hi, told);

@@ -195,6 +195,7 @@ pub fn flood_region(
     ws[stack] = s as u16;
     let mut height = Height { top: 1, count: 0 };
     let mut told = story;
+    // A stack that each visit changes: no range fits.
     while 0 < height.top {
         let v = visit(area, con, dist, ids, ws, at, seed, height, told);
         height = v.height;

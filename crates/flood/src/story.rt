@@ -12,7 +12,7 @@ use field::place::{NO_SPAN, SpanIx};
 use net::neighbour;
 
 // The span that is watched; the span whose id it took at an expansion, NOBODY until then; the id of the last flood that gave it back, 0 until then, and
-// the objecting span. Four numbers of 16 bits, since it goes through every flood: so it is one register.
+// the objecting span. Four numbers of 16 bits, since it goes through every flood: so it is one register, which an Option for each would not be.
 #[derive(Clone, Copy)]
 pub struct Story {
     pub span: u16,

@@ -9,7 +9,6 @@ ghost use Rattle.expand.specs.Told.{Sought, RoundTold};
 
 use crate::look::source;
 use field::place::SpanIx;
-use field::read::at16;
 use flood::story::{NOBODY, Story};
 use net::Sections;
 
@@ -18,7 +17,7 @@ fn queued(ws: &[u16], changes: usize, lo: usize, hi: usize, s: usize) -> Option<
     requires { (lo ≤ hi) × (hi ≤ most_spans) × (changes ≤ last_place) × (changes + 3 * hi ≤ length ws.now) }
     ensures { Sought ws.now changes lo hi s result }
 {
-    (lo..hi).find(|&i| at16(ws, changes + 3 * i) == s)
+    (lo..hi).find(|&i| ws[changes + 3 * i] as usize == s)
 }
 
 // The changes lo .. hi are those of the round: the watched span takes an id if it stands among them.
@@ -44,7 +43,7 @@ pub(crate) fn tell_round(
     let Some(i) = queued(ws, at.changes, lo, hi, s) else {
         return story;
     };
-    let far = at16(ws, at.changes + 3 * i + 2);
+    let far = ws[at.changes + 3 * i + 2] as usize;
     Story {
         from: source(area, ids, ws, at.table, SpanIx(s), far) as u16,
         ..story

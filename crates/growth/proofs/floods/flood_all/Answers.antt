@@ -11,8 +11,8 @@ pub loop-j-init : goal.loop-j-init
 loop-j-init c = let past : length c.args.area.now ≤ c.args.at.table = omega (arith, c.requires.lent.1.low, c.requires.lent.1.apart) in
     (flooded_start _ _ _ _ _ _ _ _ _ _ c.requires.lent.0 c.requires.entries_at past c.requires.blank.1, told-start _ _ _ _ _ _ _ _ _ _ c.requires.lent.0 c.requires.entries_at past _)
 
-pub overflow_add-stack : goal.overflow_add-stack
-overflow_add-stack c = omega (arith, c.loop-j-test.true, c.requires.entries_at.close, c.requires.entries_at.entries.filled, c.requires.lent.0.closed.few)
+pub overflow_add-entry : goal.overflow_add-entry
+overflow_add-entry c = omega (arith, c.loop-j-test.true, c.requires.entries_at.close, c.requires.entries_at.entries.filled, c.requires.lent.0.closed.few)
 
 pub bounds-ws-stack : goal.bounds-ws-stack
 bounds-ws-stack c = let past : length c.args.area.now ≤ c.args.at.table = omega (arith, c.requires.lent.1.low, c.requires.lent.1.apart) in

@@ -55,19 +55,13 @@ fn lengths_ok(field: &Heightfield, a: usize, b: usize) -> bool
     ensures { let F = seen field.now in
         result ≡ not (wrong_length F (a ∷ b ∷ [])) }
 {
-    if field.index.len() != field.w * field.h {
-        return false;
-    }
-    if field.count.len() != field.w * field.h {
-        return false;
-    }
-    if field.con.len() != 4 * field.area.len() {
-        return false;
-    }
-    if a != field.area.len() {
-        return false;
-    }
-    b == field.area.len()
+    let cells = field.w * field.h;
+    let spans = field.area.len();
+    field.index.len() == cells
+        && field.count.len() == cells
+        && field.con.len() == 4 * spans
+        && a == spans
+        && b == spans
 }
 
 // The first of refusals 1 to 6 that applies; a and b are the lengths of the entry's own two lists.

@@ -2,7 +2,7 @@
 use native.Mathlib.Omega.{arith}
 use mathlib.Core.Path.{refl, sym, ◌∙◌}
 use mathlib.Core.Bool.{true≢false}
-use borrow.Author.Tests.{ltb-true}
+use borrow.Author.Tests.{ltb-true, le-ltb}
 use Rattle.distance.proofs.Values.{ringed_past, ringed_last, ringed_over}
 use Rattle.distance.proofs.start.surrounded.Goals as goal
 use Rattle.distance.proofs.start.surrounded.Goals.{then-cons-lt-PAST_LAYERS, else-cons-lt-PAST_LAYERS, then-cons-lt-PAST_LAYERS-2, else-cons-lt-PAST_LAYERS-2}
@@ -13,7 +13,7 @@ returns-then-cons-lt-PAST_LAYERS-3 c =
       | then-cons-lt-PAST_LAYERS-2 w ↦ elim c.if-cons-lt-PAST_LAYERS.branch [
         | then-cons-lt-PAST_LAYERS u ↦
             ringed_last _ c.requires u.if-cons-lt-PAST_LAYERS.true (ltb-true _ _ (sym u.value-is ∙ w.if-cons-lt-PAST_LAYERS-2.true)) (ltb-true _ _ (sym w.value-is ∙ c.if-cons-lt-PAST_LAYERS-3.true))
-        | else-cons-lt-PAST_LAYERS u ↦ absurd (true≢false (sym w.if-cons-lt-PAST_LAYERS-2.true ∙ u.value-is))
+        | else-cons-lt-PAST_LAYERS u ↦ absurd (true≢false (sym w.if-cons-lt-PAST_LAYERS-2.true ∙ u.value-is ∙ le-ltb _ _ u.if-cons-lt-PAST_LAYERS.false))
       ]
       | else-cons-lt-PAST_LAYERS-2 w ↦ absurd (true≢false (sym c.if-cons-lt-PAST_LAYERS-3.true ∙ w.value-is ∙ w.if-cons-lt-PAST_LAYERS-2.false))
     ]

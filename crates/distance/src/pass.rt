@@ -28,7 +28,15 @@ fn lower(raw: &[u16], t: usize, n: u16, best: u16) -> u16
 
 // The least of best, neighbour d plus 2, and its neighbour e plus 3, of the span at place p, whose connections are cons; neighbour d is there.
 // It comes last: of all that a span reads, neighbour d may be the one that was written just before.
-fn beside(field: &Heightfield, raw: &[u16], cons: [u8; 4], p: Place, d: usize, e: usize, best: u16) -> u16
+fn beside(
+    field: &Heightfield,
+    raw: &[u16],
+    cons: [u8; 4],
+    p: Place,
+    d: usize,
+    e: usize,
+    best: u16,
+) -> u16
     requires place { let F = seen field.now in
         Reached F × Stands F p.cell p.span.0 × (cons ≡ cons_at F.con p.span.0) × Room F raw.now p.span.0 d e }
     requires sides { (d < 4) × (e < 4) × (get_or cons d 0 ≡ 255 → ⊥) }
@@ -47,7 +55,15 @@ fn beside(field: &Heightfield, raw: &[u16], cons: [u8; 4], p: Place, d: usize, e
 }
 
 // The same where neighbour d may be missing.
-fn side(field: &Heightfield, raw: &[u16], cons: [u8; 4], p: Place, d: usize, e: usize, best: u16) -> u16
+fn side(
+    field: &Heightfield,
+    raw: &[u16],
+    cons: [u8; 4],
+    p: Place,
+    d: usize,
+    e: usize,
+    best: u16,
+) -> u16
     requires place { let F = seen field.now in
         Reached F × Stands F p.cell p.span.0 × (cons ≡ cons_at F.con p.span.0) × Room F raw.now p.span.0 d e }
     requires sides { (d < 4) × (e < 4) }

@@ -1,16 +1,13 @@
 -- The answer's numbers are the outcome's.
 -- Assumes nothing.
-use Prim.Native.Nat.{ℕ, ◌+◌, ◌<◌}
-use native.Mathlib.Omega.{arith}
+use Prim.Native.Nat.{ℕ, ◌+◌}
 use Rattle.std.specs.Prelude.{Result}
-use mathlib.Core.Path.{◌≡◌, refl, sym, ap, ◌∙◌}
+use mathlib.Core.Path.{◌≡◌, refl, ap, ◌∙◌}
 use mathlib.Core.List.{List, [], ◌∷◌}
-use lib.ListN.{length, set, length-set}
+use lib.ListN.{length}
 use Rattle.rules.specs.Field.{Field, spans}
 use Rattle.rules.specs.Refusals.{refusal}
 use Rattle.rules.specs.Refresh.{Rect, RefreshOutcome, refresh_outcome}
-use Rattle.checker.specs.Answer.{number_of}
-use Rattle.checker.specs.declared.Refusal.{Refusal}
 use Rattle.refresh.specs.Answer.{refresh_refused_by, refresh_given}
 use Rattle.refresh.specs.Into.{numbers_of, GivesInto}
 use Rattle.refresh.specs.declared.RefreshRefusal.{RefreshRefusal}

@@ -1,7 +1,6 @@
 -- A sound verdict gives what the stages require; a refusal is given before anything is written.
 use Rattle.std.proofs.lemmas.Result.{err_from_is_err_and}
 use Rattle.refresh.proofs.Entries.{stages_refused, stages_sound, stages_sizes, stages_done}
-use borrow.Author.Rules.{rules}
 use Rattle.refresh.proofs.build_distance_stages.Goals as goal
 
 pub build_stages-requires : goal.build_stages-requires

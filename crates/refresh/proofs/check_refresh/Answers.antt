@@ -1,7 +1,6 @@
 -- Refusals 1 to 6 are the checker's; 11 and 31 come after them.
 use Rattle.std.proofs.lemmas.Result.{err_from_is_err_and}
 use Rattle.refresh.proofs.Entries.{check_refused, check_11, check_31, check_0}
-use borrow.Author.Rules.{rules}
 use Rattle.refresh.proofs.check_refresh.Goals as goal
 
 pub returns-in_err-check_three : goal.returns-in_err-check_three

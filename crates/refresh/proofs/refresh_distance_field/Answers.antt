@@ -1,7 +1,6 @@
 -- What is not refused gives what the refresh requires; a refusal is given before anything is written.
 use Rattle.std.proofs.lemmas.Result.{err_from_is_err_and}
 use Rattle.refresh.proofs.Entries.{out_refused, fine_sound, fine_rows, fine_low1, fine_low2, fine_blurred, out_done}
-use borrow.Author.Rules.{rules}
 use Rattle.refresh.proofs.refresh_distance_field.Goals as goal
 
 pub refresh_rows-requires : goal.refresh_rows-requires

@@ -3,7 +3,7 @@ ghost use Rattle.std.specs.Prelude.{◌≡◌, true, ◌+◌, ◌*◌, ◌-◌, 
 ghost use Rattle.rules.specs.Distance as rules;
 ghost use Rattle.field.specs.Lent.{Reached, Stands, cons_at};
 ghost use Rattle.rules.specs.Rows.{over_cell, from_start, pass1_row, pass2_row};
-ghost use Rattle.distance.specs.Value.{least, least_from, ringed, Goes, Passing, PassedTo, LowBefore, Low, Room};
+ghost use Rattle.distance.specs.Value.{run_end, least, least_from, ringed, Goes, Passing, PassedTo, LowBefore, Low, Room};
 ghost use Rattle.distance.specs.Walk.{columns_up, columns_down, spans_up, high_to, cells_of};
 ghost use Rattle.distance.specs.Value as value;
 ghost use Rattle.field.specs.Seen.{seen};
@@ -196,31 +196,22 @@ pub fn pass1_row(field: &Heightfield, raw: &mut [u16], y: usize)
     }
 }
 
-// Where a run of spans ends, and whether a span stands there. Both are told, so that who goes on from there need not ask again.
-#[derive(Clone, Copy)]
-struct Run {
-    at: usize,
-    more: bool,
-}
-
-// 0 for each span from s on that lacks a neighbour, up to the first that has four, or to the end.
-fn edges(field: &Heightfield, raw: &mut [u16], s: usize) -> Run
+// 0 for each span from s on that lacks a neighbour, up to the first that has four, which is given, or to the end.
+fn edges(field: &Heightfield, raw: &mut [u16], s: usize) -> Option<usize>
     requires { let F = seen field.now in
         Reached F × (s ≤ length F.area) × PassedTo F s raw.old }
     ensures { let F = seen field.now in
-        (raw.new ≡ spans_up (from_start F) s (result.at - s) raw.old) × PassedTo F result.at raw.new × (s ≤ result.at)
-        × Goes (length F.area) F.con result.at result.more }
+        let at = run_end (length F.area) result in
+        (raw.new ≡ spans_up (from_start F) s (at - s) raw.old) × PassedTo F at raw.new × (s ≤ at) × Goes (length F.area) F.con result }
 {
-    let mut k = s;
-    while k < field.area.len() {
+    for k in s..field.area.len() {
         let cons = connections(field.con, SpanIx(k));
         if surrounded(cons) {
-            return Run { at: k, more: true };
+            return Some(k);
         }
         raw[k] = 0;
-        k += 1;
     }
-    Run { at: k, more: false }
+    None
 }
 
 // The start and pass 1 over all spans; cells has the cell of each. Spans that lack a neighbour have a loop of their own. As that stands within it, the
@@ -231,15 +222,14 @@ pub fn pass1(field: &Heightfield, raw: &mut [u16], cells: &[u16])
     ensures { let F = seen field.now in
         (raw.new ≡ rules.pass1 F (rules.start F)) × Low F raw.new }
 {
-    let mut r = edges(field, raw, 0);
-    while r.more {
-        let s = r.at;
+    let mut next = edges(field, raw, 0);
+    while let Some(s) = next {
         let p = Place {
             cell: at16(cells, s),
             span: SpanIx(s),
         };
         raw[s] = from_inside(field, raw, p);
-        r = edges(field, raw, s + 1);
+        next = edges(field, raw, s + 1);
     }
 }
 

@@ -10,7 +10,7 @@ use lib.ListN.{length, get_or}
 use lib.Dec.{eqb, ltb}
 use borrow.Author.Tests.{eq-eqb, ne_eqb, lt-ltb, le-ltb, eqb-true, ltb-false}
 use Rattle.rules.specs.Base.{when◌then◌else◌}
-use Rattle.rules.specs.Field.{Field, spans, near, area_of, cell_of, cell_to, con_of}
+use Rattle.rules.specs.Field.{Field, near, area_of, cell_of, cell_to, con_of}
 use Rattle.rules.specs.Distance.{same, start_at}
 use Rattle.laws.proofs.Basics.{get_d_any, if-ind, every-at, every_all, four_ways, same_test}
 use Rattle.laws.proofs.Passes.{missing_not-same, same_fewer}

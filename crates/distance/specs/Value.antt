@@ -1,5 +1,5 @@
 -- What a stage gives a span, and the bounds that keep every sum within 65,535.
-use Rattle.std.specs.Prelude.{ℕ, ◌+◌, ◌*◌, ◌-◌, ◌%◌, ◌≤◌, ◌<◌, min, ◌≡◌, Bool, true, false, not, List, length, get_or, eqb, Option, Some, None}
+use Rattle.std.specs.Prelude.{ℕ, ◌+◌, ◌*◌, ◌-◌, ◌%◌, ◌≤◌, ◌<◌, min, ◌≡◌, Bool, true, not, List, length, get_or, eqb, Option, Some, None}
 use Rattle.rules.specs.Base.{every}
 use Rattle.rules.specs.Field.{Field, spans, near, cell_of}
 use Rattle.rules.specs.Distance.{far}

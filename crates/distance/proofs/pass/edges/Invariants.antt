@@ -1,5 +1,5 @@
 -- Invariant: the spans from s to k lack a neighbour, so that pass 1 gives each of them 0, and the list is that of pass 1 up to k.
-use Prim.Native.Nat.{◌≤◌, ◌-◌}
+use Prim.Native.Nat.{◌-◌}
 use mathlib.Core.Path.{◌≡◌}
 use Rattle.rules.specs.Rows.{from_start}
 use Rattle.field.specs.Seen.{seen}

@@ -1,6 +1,6 @@
 -- Invariant: pass 1 has gone through the spans before the next that has four neighbours, or through all, each of which came to at most twice its column,
 -- that is 510. What a span reads is earlier in the order of spans.
-use Prim.Native.Nat.{◌≤◌, ◌-◌}
+use Prim.Native.Nat.{◌-◌}
 use mathlib.Core.Path.{◌≡◌}
 use lib.ListN.{length}
 use Rattle.rules.specs.Rows.{from_start}

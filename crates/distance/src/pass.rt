@@ -8,11 +8,11 @@ ghost use Rattle.distance.specs.Walk.{columns_up, columns_down, spans_up, high_t
 ghost use Rattle.distance.specs.Value as value;
 ghost use Rattle.field.specs.Seen.{seen};
 
+use crate::read::{at8, at16, at32};
 use crate::start::{FARTHEST, start_span, surrounded};
 use field::block::{block_of, is_empty};
 use field::lent::Heightfield;
 use field::place::{NO_LAYER, Place, SpanIx, connections, follow};
-use field::read::{at8, at16, at32};
 
 // The least of best and the value of span t plus n.
 fn lower(raw: &[u16], t: usize, n: u16, best: u16) -> u16

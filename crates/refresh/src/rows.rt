@@ -5,7 +5,7 @@ ghost use Rattle.refresh.specs.Part.{FirstCell, LastCell, RowPart, part_to, same
 ghost use Rattle.field.specs.Seen.{seen};
 
 use field::lent::Heightfield;
-use field::read::{at8, at32};
+use distance::read::{at8, at32};
 
 // Spans from number `from` on, up to number `to`, which is not among them.
 #[derive(Clone, Copy)]

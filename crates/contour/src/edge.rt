@@ -45,7 +45,13 @@ pub(crate) fn is_solid_edge(
 }
 
 // The first solid direction of four, or none.
-pub fn first_solid(ids: &[u16], ws: &[u16], table: usize, cons: [u8; 4], span: SpanIx) -> Option<usize>
+pub fn first_solid(
+    ids: &[u16],
+    ws: &[u16],
+    table: usize,
+    cons: [u8; 4],
+    span: SpanIx,
+) -> Option<usize>
     requires { AtSpan table ids.now ws.now cons span.0 }
     ensures { let net = net_at table ids.now ws.now in
         result ≡ edge_of (first_solid net ids.now span.0) }

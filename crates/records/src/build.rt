@@ -12,9 +12,7 @@ use crate::fresh::renew;
 use crate::grow::{Plan, add_cell, add_contour};
 use field::lent::Heightfield;
 use field::place::{Layer, SpanIx};
-use field::read::{at8, at32};
 use region::RegionId;
-use table::at;
 
 // A span of a region is added to its record. Gives the pool's new end.
 fn count_span(
@@ -32,7 +30,7 @@ fn count_span(
     requires knowing_from { KnowingFrom ids.now plan.records cell prior ws.old }
     ensures { Added plan area.now ids.now cell span.0 ws.old result ws.new }
 {
-    let r = at(ids, span.0);
+    let r = ids[span.0] as usize;
     add_cell(ids, ws, plan.records, top, span, r, cell, prior);
     add_contour(area, con, ids, ws, plan, span, r, top)
 }
@@ -53,12 +51,8 @@ fn add_span(
     requires knowing_from { KnowingFrom ids.now plan.records cell prior ws.old }
     ensures { Added plan area.now ids.now cell span.0 ws.old result ws.new }
 {
-    let s = span.0;
-    let r = ids[s];
-    if r == RegionId::NONE.0 {
-        return top;
-    }
-    if RegionId(r).is_border() {
+    let r = ids[span.0];
+    if r == RegionId::NONE.0 || RegionId(r).is_border() {
         return top;
     }
     count_span(area, con, ids, ws, plan, cell, prior, span, top)
@@ -102,8 +96,8 @@ fn spans_of(index: &[u32], count: &[u8], c: usize) -> Spans
     ensures { result ≡ spans_at index.now count.now c }
 {
     Spans {
-        from: at32(index, c),
-        size: at8(count, c),
+        from: index[c] as usize,
+        size: count[c] as usize,
     }
 }
 
@@ -138,12 +132,10 @@ fn add_cell_at(
     if cell.size == 0 {
         return t;
     }
-    let last = t.last;
-    let back = look_back(ids, last, cell);
-    let next = back.last;
+    let back = look_back(ids, t.last, cell);
     SoFar {
         top: add_spans(area, con, ids, ws, plan, cell, back.prior, t.top),
-        last: next,
+        last: back.last,
     }
 }
 

@@ -28,21 +28,6 @@ impl Spans {
     }
 }
 
-// Are the lists the same, number by number? They are equally long.
-fn same(l: &[u16], k: &[u16]) -> bool
-    requires { length k.now ≡ length l.now }
-    ensures { (result ≡ true → k.now ≡ l.now) × (result ≡ false → k.now ≡ l.now → ⊥) }
-{
-    let mut i = 0;
-    while i < l.len() {
-        if k[i] != l[i] {
-            return false;
-        }
-        i += 1;
-    }
-    true
-}
-
 // Have the spans of two cells with as many the same ids, layer by layer? A no decides only how fast.
 fn alike(ids: &[u16], last: Spans, cell: Spans) -> bool
     requires { (length ids.now ≤ most_spans) × Lies ids.now last × Lies ids.now cell × (0 < cell.size) × (last.size ≡ cell.size) }
@@ -51,7 +36,7 @@ fn alike(ids: &[u16], last: Spans, cell: Spans) -> bool
     let n = cell.size;
     let a = last.from;
     let b = cell.from;
-    same(&ids[b..b + n], &ids[a..a + n])
+    &ids[b..b + n] == &ids[a..a + n]
 }
 
 // The last cell with several spans, and where the one begins from which the records of this one's have something; NO_SPAN where that is none. A cell that
@@ -97,14 +82,7 @@ fn met(ids: &[u16], other: SpanIx, span: SpanIx, own: u16, before: bool) -> bool
     requires { other.0 < length ids.now }
     ensures { result ≡ (before or twin ids.now other.0 span.0 own) }
 {
-    let t = other.0;
-    if t == span.0 {
-        return before;
-    }
-    if own == ids[t] {
-        return true;
-    }
-    before
+    (other.0 != span.0 && own == ids[other.0]) || before
 }
 
 // Of a floor list: its length, and the place after that of the id that joined last, where the next one is looked for first.
@@ -120,12 +98,10 @@ fn find(part: &[u16], n: usize, r: u16, guess: usize) -> usize
     requires { n ≤ length part.now }
     ensures { Found part.now n r result }
 {
-    if guess < n {
-        if r == part[guess] {
-            return guess;
-        }
+    if guess < n && r == part[guess] {
+        return guess;
     }
-    place(&part[0..n], r)
+    place(&part[..n], r)
 }
 
 // r joins the list once.
@@ -154,15 +130,11 @@ fn join_one(ids: &[u16], part: &mut [u16], span: SpanIx, other: SpanIx, l: Liste
         JoinedOne joined l.len part.new result.len }
     ensures len_value { other.0 ≡ span.0 → result.len ≡ l.len }
 {
-    let t = other.0;
-    if t == span.0 {
+    if other.0 == span.0 {
         return l;
     }
-    let r = ids[t];
-    if r == RegionId::NONE.0 {
-        return l;
-    }
-    if RegionId(r).is_border() {
+    let r = ids[other.0];
+    if r == RegionId::NONE.0 || RegionId(r).is_border() {
         return l;
     }
     add_unique_floor_region(part, l, r)
@@ -200,11 +172,8 @@ fn join_changed(
         JoinedOne joined l.len part.new result.len }
     ensures len_value { other.0 ≡ span.0 → result.len ≡ l.len }
 {
-    if near {
-        let t = other.0;
-        if ids[t] == ids[before] {
-            return l;
-        }
+    if near && ids[other.0] == ids[before] {
+        return l;
     }
     join_one(ids, part, span, other, l)
 }

@@ -13,12 +13,11 @@ ghost use Rattle.records.specs.Stock.{Reach};
 ghost use Rattle.records.specs.Build.{KnowingFrom};
 
 use crate::cell::{Spans, join};
-use contour::edge::{Edge, first_solid};
+use contour::edge::first_solid;
 use contour::walk::{Contour, Pool, walk_contour};
 use field::place::{SpanIx, connections};
-use field::read::at8;
 use table::map::{AREAS, CUTS, FLOOR_ROOM, FLOORS, LISTS, OVERLAPS, POOL};
-use table::{at, end_of, set_part, start_of};
+use table::{end_of, set_part, start_of};
 
 // Overlap is set where another span of a cell has the id r too.
 fn add_overlap(ws: &mut [u16], m: usize, r: usize, twin: bool)
@@ -52,14 +51,13 @@ fn add_floors(
 {
     let start = start_of(ws, m, FLOORS * m, r);
     let end = end_of(ws, m, FLOORS * m, r);
-    let limit = start + FLOOR_ROOM * at(ws, m + r);
+    let limit = start + FLOOR_ROOM * ws[m + r] as usize;
     let len = end - start;
     let taken = join(ids, &mut ws[start..limit], span, cell, prior, len);
-    let listed = taken.len;
-    if listed == len {
+    if taken.len == len {
         return taken.twin;
     }
-    set_part(ws, m, FLOORS * m, r, start, start + listed);
+    set_part(ws, m, FLOORS * m, r, start, start + taken.len);
     taken.twin
 }
 
@@ -72,8 +70,8 @@ fn trace(con: &[u8], ids: &[u16], ws: &mut [u16], pool: Pool, span: SpanIx, top:
 {
     let cons = connections(con, span);
     match first_solid(ids, ws, pool.table, cons, span) {
-        Edge::At(d) => walk_contour(con, ids, ws, pool, span, d, top),
-        Edge::Nowhere => Contour {
+        Some(d) => walk_contour(con, ids, ws, pool, span, d, top),
+        None => Contour {
             end: top,
             cut: false,
         },
@@ -121,11 +119,9 @@ fn add_list(
         table: plan.table,
     };
     let c = trace(con, ids, ws, pool, span, top);
-    let end = c.end;
-    let cut = c.cut;
-    set_part(ws, m, LISTS * m, r, POOL * m + top, POOL * m + end);
-    add_cut(ws, m, r, cut);
-    end
+    set_part(ws, m, LISTS * m, r, POOL * m + top, POOL * m + c.end);
+    add_cut(ws, m, r, c.cut);
+    c.end
 }
 
 // While record r has no list it takes the span's area, and its contour. Gives the pool's new end.
@@ -150,8 +146,7 @@ pub(crate) fn add_contour(
     if start_of(ws, m, LISTS * m, r) < end_of(ws, m, LISTS * m, r) {
         return top;
     }
-    let a = at8(area, span.0);
-    ws[AREAS * m + r] = a as u16;
+    ws[AREAS * m + r] = area[span.0] as u16;
     add_list(con, ids, ws, plan, span, r, top)
 }
 

@@ -11,8 +11,8 @@ offset_bounds-ids-before c = let u = c.requires.unchanged c.if-near.true in
 pub bounds-ids-before : goal.bounds-ids-before
 bounds-ids-before c = (c.requires.unchanged c.if-near.true).inside
 
-pub returns-then-ids-t : goal.returns-then-ids-t
-returns-then-ids-t c = record {
-  fact = join_listed _ _ _ _ _ _ c.requires.len_in_bounds (c.requires.unchanged c.if-near.true) c.if-ids-t.true;
+pub returns-then-ids-other : goal.returns-then-ids-other
+returns-then-ids-other c = record {
+  fact = join_listed _ _ _ _ _ _ c.requires.len_in_bounds (c.requires.unchanged c.if-near.true) c.if-ids-other.true;
   len_value = λ _. refl;
 }

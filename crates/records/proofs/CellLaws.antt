@@ -8,7 +8,7 @@ use mathlib.Core.Path.{◌≡◌, refl, sym, ap, ◌∙◌}
 use mathlib.Core.Bool.{Bool, true, false, not, false≢true}
 use mathlib.Core.List.{List, [], ◌∷◌, map}
 use lib.ListN.{length, get_or, set, take, drop, length-set, length-take}
-use lib.Seq.{ext_get_or, get_or-take, get_or-drop, take-suc-set}
+use lib.Seq.{get_or-take, get_or-drop, take-suc-set}
 use lib.Dec.{eqb, leb-suc-suc}
 use borrow.Author.Tests.{eqb-true, eq-eqb, ne_eqb, lt-ltb, le-ltb, leb-true, leb-false}
 use Rattle.rules.specs.Base.{◌and◌, ◌or◌, when◌then◌else◌, keep, tab, any}

@@ -21,7 +21,7 @@ use Rattle.net.proofs.Tables.{spans-at}
 use Rattle.contour.specs.Ways.{Ways, edge_of}
 use Rattle.contour.specs.Pool.{pooled, Start}
 use Rattle.contour.specs.declared.walk.Pool.{Pool}
-use Rattle.std.proofs.Common.{Option, Some, None}
+use Rattle.std.proofs.Common.{Some, None}
 use Rattle.contour.proofs.EdgeLaws.{edge_at, edge_none}
 use Rattle.contour.proofs.PoolLaws.{start_laid, laid_whole, pooled-length, pooled_frame, pooled_list, pooled-blank, pooled-at}
 use Rattle.contour.proofs.WalkLaws.{ways_answered}

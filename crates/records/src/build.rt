@@ -22,7 +22,7 @@ fn count_span(
     ws: &mut [u16],
     plan: Plan,
     cell: Spans,
-    prior: usize,
+    prior: Option<usize>,
     span: SpanIx,
     top: usize,
 ) -> usize
@@ -43,7 +43,7 @@ fn add_span(
     ws: &mut [u16],
     plan: Plan,
     cell: Spans,
-    prior: usize,
+    prior: Option<usize>,
     span: SpanIx,
     top: usize,
 ) -> usize
@@ -66,7 +66,7 @@ fn add_spans(
     ws: &mut [u16],
     plan: Plan,
     cell: Spans,
-    prior: usize,
+    prior: Option<usize>,
     top: usize,
 ) -> usize
     requires entering { Entering plan area.now con.now ids.now cell top ws.old }

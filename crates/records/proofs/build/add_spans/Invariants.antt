@@ -1,6 +1,5 @@
 -- The invariant `Entered`: the first j spans of the cell are added, and what is past the records is as it was.
 -- It starts with none of them.
-use Prim.Native.Nat.{◌-◌}
 use Rattle.records.specs.Build.{Entered}
 use Rattle.records.proofs.build.add_spans.Given as goal
 

@@ -1,7 +1,7 @@
 -- The invariant `Running`: after the cells before c the records are the rule's after those cells' spans, and what is past them is as it was; and
 -- `Knowing`: those of the last cell's spans have what they take from it.
 -- It starts with new records.
-use Prim.Native.Nat.{◌+◌, ◌-◌, ◌*◌}
+use Prim.Native.Nat.{◌+◌}
 use Rattle.field.specs.Seen.{seen}
 use Rattle.records.specs.Build.{Knowing}
 use Rattle.records.proofs.BuildLaws.{Running}

@@ -110,31 +110,32 @@ pub struct SoFar {
 
 // The spans of cell c are added. An empty cell is passed over at once.
 fn add_cell_at(
-    index: &[u32],
-    count: &[u8],
-    area: &[u8],
-    con: &[u8],
+    field: &Heightfield,
     ids: &[u16],
     ws: &mut [u16],
     plan: Plan,
     c: usize,
     t: SoFar,
 ) -> SoFar
-    requires c_in_bounds { (c < length index.now) × (c < length count.now) }
-    requires fact { let cell = spans_at index.now count.now c in
-        Entering plan area.now con.now ids.now cell t.top ws.old × Knowing ids.now plan.records t.last ws.old }
-    ensures { let cell = spans_at index.now count.now c in
-        let ids₀ = ids.now in
-        Entered plan area.now ids₀ cell cell.size t.top ws.old result.top ws.new
-        × Knowing ids₀ plan.records result.last ws.new }
+    requires c_in_bounds { let F = seen field.now in
+        (c < length F.index) × (c < length F.count) }
+    requires fact { let F = seen field.now in
+        let cell = spans_at F.index F.count c in
+        Entering plan F.area F.con ids.now cell t.top ws.old × Knowing ids.now plan.records t.last ws.old }
+    ensures { let F = seen field.now in
+        let cell = spans_at F.index F.count c in
+        Entered plan F.area ids.now cell cell.size t.top ws.old result.top ws.new
+        × Knowing ids.now plan.records result.last ws.new }
 {
-    let cell = spans_of(index, count, c);
+    let cell = spans_of(field.index, field.count, c);
     if cell.size == 0 {
         return t;
     }
     let back = look_back(ids, t.last, cell);
     SoFar {
-        top: add_spans(area, con, ids, ws, plan, cell, back.prior, t.top),
+        top: add_spans(
+            field.area, field.con, ids, ws, plan, cell, back.prior, t.top,
+        ),
         last: back.last,
     }
 }
@@ -156,16 +157,6 @@ pub fn build_records(field: &Heightfield, ids: &[u16], ws: &mut [u16], table: us
         last: Spans { from: 0, size: 0 },
     };
     for c in 0..field.w * field.h {
-        t = add_cell_at(
-            field.index,
-            field.count,
-            field.area,
-            field.con,
-            ids,
-            ws,
-            plan,
-            c,
-            t,
-        );
+        t = add_cell_at(field, ids, ws, plan, c, t);
     }
 }

@@ -31,7 +31,7 @@ use space::{clear, clear_part, copy, copy_part};
 use table::any_above;
 use wipe::wipe;
 
-// The sizes that a caller gives: the border's, the least area that a room keeps, and the greatest that is merged away.
+// The sizes that a caller gives: the border's, the least area that a room keeps, and the greatest that is merged away. C gives the entries three numbers.
 #[derive(Clone, Copy)]
 pub struct RegionSizes {
     pub border: u16,
@@ -121,7 +121,7 @@ pub(crate) fn grow_regions(
     g
 }
 
-// The refusal that stops growth.
+// The refusal that stops growth, which gives it as a number.
 fn stop_refusal(stop: u16) -> Refusal
     requires { (stop ≡ 12) ⊎ (stop ≡ 13) }
     ensures { number_of result ≡ stop }
@@ -207,7 +207,7 @@ fn build_form(
     Ok(give_form(form, sizes.border, ids, r))
 }
 
-// The dense form: the ids in use are 1 to max_region.
+// The dense form: the ids in use are 1 to max_region. Each form has an entry of its own, as C has.
 pub fn build_regions(
     field: &Heightfield,
     dist: &[u16],

@@ -39,11 +39,14 @@ pub struct RegionSizes {
     pub merge: u16,
 }
 
+// The greatest max_distance that is taken.
+const FARTHEST: u16 = 510;
+
 // Refusal 8.
 fn too_far(dist: &[u16], max_distance: u16) -> bool
     ensures { result ≡ too_far dist.now max_distance }
 {
-    510 < max_distance || any_above(dist, max_distance)
+    FARTHEST < max_distance || any_above(dist, max_distance)
 }
 
 // The first of refusals 1 to 8 that applies; work and own are the lengths of the workspace and of the list of ids.

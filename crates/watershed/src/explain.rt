@@ -27,6 +27,7 @@ use trail::write_trail;
 use wipe::wipe;
 
 // What is told of a span: 0 or the refusal number, and the reason. Numbers that a reason does not have are 0.
+// Numbers, not enums: C gets them so (`into`).
 #[derive(Clone, Copy, Default)]
 pub struct Explanation {
     pub refusal: u16,
@@ -59,6 +60,7 @@ const EXPANDED: u16 = 6;
 const NO_SUCH_SPAN: u16 = 14;
 
 // The first of refusals 1 to 8 and 14 that applies, 0 for none; work and own are the lengths of the workspace and of the trail's list.
+// A number, as an `Explanation` gives it: 14 is no refusal of a field.
 fn check_explain(
     field: &Heightfield,
     dist: &[u16],

@@ -38,23 +38,16 @@ pub(crate) fn lower(r: u16, d: u16) -> u16
     r.saturating_sub(d)
 }
 
-// All ids.
-fn lower_all(ids: &mut [u16], d: u16)
-    ensures { ids.new ≡ map (lower d) ids.old }
-{
-    for r in ids.iter_mut() {
-        *r = lower(*r, d);
-    }
-}
-
-// The same; less 0 they are as they were.
+// All ids; less 0 they are as they were, and none is read.
 fn lower_ids(ids: &mut [u16], d: u16)
     ensures { ids.new ≡ map (lower d) ids.old }
 {
     if d == 0 {
         return;
     }
-    lower_all(ids, d);
+    for r in ids.iter_mut() {
+        *r = lower(*r, d);
+    }
 }
 
 // Numbers of the compared form, in the form that is asked for. The ids in use are those from the first on, all up to the last but one number

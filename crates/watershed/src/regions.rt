@@ -31,7 +31,7 @@ use space::{clear, clear_part, copy, copy_part};
 use table::any_above;
 use wipe::wipe;
 
-// The sizes that a caller gives: the border's, the least area that a room keeps, and the greatest that is merged away.
+// The sizes that a caller gives: the border's, the least area that a room keeps, and the greatest that is merged away. C gives the entries three numbers.
 #[derive(Clone, Copy)]
 pub struct RegionSizes {
     pub border: u16,
@@ -39,11 +39,14 @@ pub struct RegionSizes {
     pub merge: u16,
 }
 
+// The greatest max_distance that is taken.
+const FARTHEST: u16 = 510;
+
 // Refusal 8.
 fn too_far(dist: &[u16], max_distance: u16) -> bool
     ensures { result ≡ too_far dist.now max_distance }
 {
-    510 < max_distance || any_above(dist, max_distance)
+    FARTHEST < max_distance || any_above(dist, max_distance)
 }
 
 // The first of refusals 1 to 8 that applies; work and own are the lengths of the workspace and of the list of ids.
@@ -121,7 +124,7 @@ pub(crate) fn grow_regions(
     g
 }
 
-// The refusal that stops growth.
+// The refusal that stops growth, which gives it as a number.
 fn stop_refusal(stop: u16) -> Refusal
     requires { (stop ≡ 12) ⊎ (stop ≡ 13) }
     ensures { number_of result ≡ stop }
@@ -207,7 +210,7 @@ fn build_form(
     Ok(give_form(form, sizes.border, ids, r))
 }
 
-// The dense form: the ids in use are 1 to max_region.
+// The dense form: the ids in use are 1 to max_region. Each form has an entry of its own, as C has.
 pub fn build_regions(
     field: &Heightfield,
     dist: &[u16],

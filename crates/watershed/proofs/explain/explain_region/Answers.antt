@@ -34,7 +34,7 @@ pub overflow_sub-first_id : goal.overflow_sub-first_id
 overflow_sub-first_id c = omega (arith, c.first_id.ensures, first_some c.args.sizes.border)
 
 pub without_room-requires : goal.without_room-requires
-without_room-requires c = group_small _ _ _ _ _ _ _ _ _ _ _ _ _ _ _ c.requires.0 c.args.field.now.codes _ c.links_past-end.ensures _ c.ready_records.auto.ws c.ready_records.ensures _ c.build_in.auto.ws c.build_in.ensures _ _ _ _ _ _ _ _ refl c.merge_and_filter_told-t.ensures
+without_room-requires c = omega (arith, group_small _ _ _ _ _ _ _ _ _ _ _ _ _ _ _ c.requires.0 c.args.field.now.codes _ c.links_past-end.ensures _ c.ready_records.auto.ws c.ready_records.ensures _ c.build_in.auto.ws c.build_in.ensures _ _ _ _ _ _ _ _ refl c.merge_and_filter_told-t.ensures)
 
 pub shape_of-ws-then-t-eq0 : goal.shape_of-ws-then-t-eq0
 shape_of-ws-then-t-eq0 c = c.merge_and_filter_told-t.auto.ws ∙ c.build_in.auto.ws ∙ c.ready_records.auto.ws

@@ -12,7 +12,6 @@ use crate::tally::links_in;
 use field::block::{block_of, is_empty};
 use field::lent::Heightfield;
 use field::place::{Layer, NO_LAYER, SpanIx, cell_across, connections, span_at};
-use field::read::{at8, at32};
 
 // The connection k of the span in layer j of cell c, in a direction d that does not leave the grid, is none, or leads to a span that leads back.
 fn link_ok(field: &Heightfield, c: usize, j: Layer, k: Layer, d: usize) -> bool
@@ -54,10 +53,7 @@ fn inner_ok(field: &Heightfield, c: usize, j: Layer, cons: [u8; 4]) -> bool
     ensures { let F = seen field.now in
         result ≡ half_at F (span_in F c j.0) }
 {
-    if link_ok(field, c, j, Layer(cons[0]), 0) {} else {
-        return false;
-    }
-    link_ok(field, c, j, Layer(cons[1]), 1)
+    link_ok(field, c, j, Layer(cons[0]), 0) && link_ok(field, c, j, Layer(cons[1]), 1)
 }
 
 // The same of cell c in column x of row z, wherever that is.
@@ -67,10 +63,8 @@ fn edge_ok(field: &Heightfield, c: usize, j: Layer, cons: [u8; 4], x: usize, z: 
     ensures { let F = seen field.now in
         result ≡ half_at F (span_in F c j.0) }
 {
-    if side_ok(field, c, j, Layer(cons[0]), 0, 0 < x) {} else {
-        return false;
-    }
-    side_ok(field, c, j, Layer(cons[1]), 1, z + 1 < field.h)
+    side_ok(field, c, j, Layer(cons[0]), 0, 0 < x)
+        && side_ok(field, c, j, Layer(cons[1]), 1, z + 1 < field.h)
 }
 
 // The same of span s, in layer j of cell c, in column x of row z; inner: it has a cell on both sides.
@@ -101,10 +95,10 @@ fn cell_ok(field: &Heightfield, c: usize, x: usize, z: usize, inner: bool) -> bo
     ensures { let F = seen field.now in
         result ≡ in_cell F (half_at F) c }
 {
-    let i = at32(field.index, c);
-    let k = at8(field.count, c);
+    let i = field.index[c] as usize;
+    let k = field.count[c];
     for j in 0..k {
-        if span_ok(field, c, SpanIx(i + j), Layer(j as u8), x, z, inner) {} else {
+        if !span_ok(field, c, SpanIx(i + j as usize), Layer(j), x, z, inner) {
             return false;
         }
     }
@@ -116,10 +110,7 @@ fn is_inner(w: usize, h: usize, x: usize, z: usize) -> bool
     requires { (x < w) × (z < h) }
     ensures { result ≡ inner_at w h x z }
 {
-    if x == 0 {
-        return false;
-    }
-    z + 1 < h
+    0 < x && z + 1 < h
 }
 
 // The cell in column x of row z.
@@ -141,7 +132,7 @@ fn columns_ok(field: &Heightfield, x: usize, k: usize, z: usize) -> bool
         result ≡ in_columns F (half_at F) z x k }
 {
     for j in 0..k {
-        if column_ok(field, x + j, z) {} else {
+        if !column_ok(field, x + j, z) {
             return false;
         }
     }
@@ -155,10 +146,7 @@ fn block_ok(field: &Heightfield, x: usize, k: usize, z: usize) -> bool
     ensures { let F = seen field.now in
         result ≡ in_columns F (half_at F) z x k }
 {
-    if is_empty(field.count, field.w * z + x, k) {
-        return true;
-    }
-    columns_ok(field, x, k, z)
+    is_empty(field.count, field.w * z + x, k) || columns_ok(field, x, k, z)
 }
 
 // Row z, block by block.
@@ -171,11 +159,10 @@ fn row_ok(field: &Heightfield, z: usize) -> bool
     let mut x: usize = 0;
     while x < field.w {
         let k = block_of(field.w - x);
-        if block_ok(field, x, k, z) {
-            x += k;
-        } else {
+        if !block_ok(field, x, k, z) {
             return false;
         }
+        x += k;
     }
     true
 }
@@ -187,7 +174,7 @@ fn rows_ok(field: &Heightfield) -> bool
         result ≡ every (spans F) (half_at F) }
 {
     for z in 0..field.h {
-        if row_ok(field, z) {} else {
+        if !row_ok(field, z) {
             return false;
         }
     }
@@ -201,8 +188,5 @@ pub(crate) fn links_ok(field: &Heightfield) -> bool
     ensures { let F = seen field.now in
         result ≡ (every (spans F) (reach_at F) and every (spans F) (back_at F)) }
 {
-    if rows_ok(field) {} else {
-        return false;
-    }
-    links_in(field.con, 2) == links_in(field.con, 0)
+    rows_ok(field) && links_in(field.con, 2) == links_in(field.con, 0)
 }

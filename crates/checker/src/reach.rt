@@ -8,23 +8,18 @@ ghost use Rattle.field.specs.Seen.{seen};
 
 use field::lent::Heightfield;
 use field::place::{Layer, NO_LAYER, SpanIx, cell_across, connections};
-use field::read::{at8, at32};
 
 // There is no cell across.
 pub fn leaves_grid(w: usize, h: usize, c: usize, d: usize) -> bool
     requires { (0 < w) × (c < 65536) × (d < 4) }
     ensures { result ≡ leaves w h c d }
 {
-    if d == 0 {
-        return c % w == 0;
+    match d {
+        0 => c % w == 0,
+        1 => h <= c / w + 1,
+        2 => w <= c % w + 1,
+        _ => c / w == 0,
     }
-    if d == 1 {
-        return h <= c / w + 1;
-    }
-    if d == 2 {
-        return w <= c % w + 1;
-    }
-    c / w == 0
 }
 
 // Connection k, in direction d, of a span in cell c is none, or stays in the grid and names a layer of the cell across.
@@ -48,7 +43,7 @@ fn span_ok(w: usize, h: usize, count: &[u8], c: usize, cons: [u8; 4]) -> bool
     ensures { result ≡ every 4 (names_at w h count.now c cons) }
 {
     for d in 0..4 {
-        if con_ok(w, h, count, c, Layer(cons[d]), d) {} else {
+        if !con_ok(w, h, count, c, Layer(cons[d]), d) {
             return false;
         }
     }
@@ -62,11 +57,11 @@ fn cell_ok(field: &Heightfield, c: usize) -> bool
     ensures { let F = seen field.now in
         result ≡ in_cell F (reach_at F) c }
 {
-    let i = at32(field.index, c);
-    let k = at8(field.count, c);
+    let i = field.index[c] as usize;
+    let k = field.count[c];
     for j in 0..k {
-        let cons = connections(field.con, SpanIx(i + j));
-        if span_ok(field.w, field.h, field.count, c, cons) {} else {
+        let cons = connections(field.con, SpanIx(i + j as usize));
+        if !span_ok(field.w, field.h, field.count, c, cons) {
             return false;
         }
     }
@@ -80,7 +75,7 @@ pub(crate) fn reach_ok(field: &Heightfield) -> bool
         result ≡ every (spans F) (reach_at F) }
 {
     for c in 0..field.count.len() {
-        if cell_ok(field, c) {} else {
+        if !cell_ok(field, c) {
             return false;
         }
     }

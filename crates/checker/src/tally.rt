@@ -11,10 +11,7 @@ use field::place::NO_LAYER;
 fn at_most(n: usize) -> u8
     ensures { result ≡ (when ltb n 224 then n else 224) }
 {
-    if n < 224 {
-        return n as u8;
-    }
-    224
+    if n < 224 { n as u8 } else { 224 }
 }
 
 // Connection x counts a, none counts nothing.
@@ -22,10 +19,7 @@ fn counted(k: u8, x: u8, a: u8) -> u8
     requires { k + a < 256 }
     ensures { result ≡ (when eqb x 255 then k else k + a) }
 {
-    if x == NO_LAYER {
-        return k;
-    }
-    k + a
+    if x == NO_LAYER { k } else { k + a }
 }
 
 // How many of the m connections from b on, the first of a span, are in the half o. A weight, not a branch, tells the direction.
@@ -34,10 +28,8 @@ fn part(con: &[u8], b: usize, m: u8, o: u8) -> u8
     ensures { result ≡ links_in con.now o b m }
 {
     let mut k: u8 = 0;
-    let mut j: u8 = 0;
-    while j < m {
+    for j in 0..m {
         k = counted(k, con[b + j as usize], (j + o) % 4 / 2);
-        j += 1;
     }
     k
 }

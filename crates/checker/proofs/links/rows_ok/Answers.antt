@@ -9,8 +9,8 @@ pub loop-z-init : goal.loop-z-init
 unfolding every
 loop-z-init c = search rules
 
-pub returns-else-row_ok : goal.returns-else-row_ok
-returns-else-row_ok c = search (rules, rows_halt)
+pub returns-then-not-row_ok : goal.returns-then-not-row_ok
+returns-then-not-row_ok c = search (rules, rows_halt)
 
 pub loop-z-preserved : goal.loop-z-preserved
 loop-z-preserved c = (search rules, search (rules, every_go))

@@ -9,8 +9,8 @@ pub loop-c-init : goal.loop-c-init
 unfolding every
 loop-c-init c = search rules
 
-pub returns-else-cell_ok : goal.returns-else-cell_ok
-returns-else-cell_ok c = search (rules, cells_halt)
+pub returns-then-not-cell_ok : goal.returns-then-not-cell_ok
+returns-then-not-cell_ok c = search (rules, cells_halt)
 
 pub loop-c-preserved : goal.loop-c-preserved
 loop-c-preserved c = (search rules, search rules, search (rules, every_go))

@@ -9,9 +9,9 @@ pub loop-d-init : goal.loop-d-init
 unfolding every
 loop-d-init c = search rules
 
-pub returns-else-con_ok : goal.returns-else-con_ok
+pub returns-then-not-con_ok : goal.returns-then-not-con_ok
 unfolding names_at
-returns-else-con_ok c = search (rules, every_halt)
+returns-then-not-con_ok c = search (rules, every_halt)
 
 pub loop-d-preserved : goal.loop-d-preserved
 unfolding names_at

@@ -3,7 +3,7 @@ use Rattle.std.specs.Prelude.{ℕ, ◌+◌, ◌*◌, ◌-◌, ◌%◌, ◌≤◌
 use Rattle.rules.specs.Base.{every}
 use Rattle.rules.specs.Field.{Field, spans, near, cell_of}
 use Rattle.rules.specs.Distance.{far}
-use Rattle.field.specs.Lent.{Spot, Leaf, cons_at}
+use Rattle.field.specs.Lent.{cons_at}
 
 -- a span with the connections cons has a neighbour in each direction
 unfoldable pub ringed : List ℕ → Bool
@@ -52,22 +52,8 @@ pub record Low (F : Field) (l : List ℕ) : Type 0 where
   pub size : length l ≡ spans F
   pub low : (t : ℕ) → t < spans F → far l t ≤ 510
 
--- a list with a value for each span of a field that is lent, of which span s stands in cell c
-pub record Sized (w : ℕ) (index con l : List ℕ) (c s : ℕ) : Type 0 where
-  pub F : Field
-  pub spot : Spot F w index con c s
-  pub size : length l ≡ spans F
-
--- the same with no more of the connections than the four of span s
-pub record SizedLeaf (w : ℕ) (index cons l : List ℕ) (c s : ℕ) : Type 0 where
-  pub F : Field
-  pub leaf : Leaf F w index cons c s
-  pub size : length l ≡ spans F
-
--- a sized list with room for the sums that neighbour a and its neighbour b make
-pub record Room (w : ℕ) (index con l : List ℕ) (c s a b : ℕ) : Type 0 where
-  pub F : Field
-  pub spot : Spot F w index con c s
+-- a list with a value for each span, with room for the sums that neighbour a of span s and its neighbour b make
+pub record Room (F : Field) (l : List ℕ) (s a b : ℕ) : Type 0 where
   pub size : length l ≡ spans F
   pub first : near F s a < spans F → far l (near F s a) ≤ 510
   pub second : near F (near F s a) b < spans F → far l (near F (near F s a) b) ≤ 510

@@ -1,11 +1,9 @@
 // The greatest value, and the box blur.
 ghost use Rattle.std.specs.Prelude.{◌≡◌, ◌+◌, ◌<◌, ◌≤◌, max, length};
-ghost use Rattle.rules.specs.Field.{Field};
 ghost use Rattle.rules.specs.Distance as rules;
-ghost use Rattle.field.specs.Lent.{lent, Reached, Spot, cons_at};
+ghost use Rattle.field.specs.Lent.{Reached, Stands, cons_at};
 ghost use Rattle.rules.specs.Rows.{over_cell, blur_to, blur_row};
 ghost use Rattle.distance.specs.Walk.{columns_up, cells_of};
-ghost use Rattle.distance.specs.Value.{Sized};
 ghost use Rattle.field.specs.Seen.{seen};
 
 use field::block::{block_of, is_empty};
@@ -16,73 +14,56 @@ use field::read::{at8, at16, at32};
 // A raw value of at most this stays.
 pub const THRESHOLD: usize = 2;
 
-fn larger(a: u16, b: u16) -> u16
-    ensures { result ≡ max a b }
-{
-    if a < b {
-        return b;
-    }
-    a
-}
-
 // The greatest value of a list, 0 for none.
 pub fn greatest(raw: &[u16]) -> u16
     ensures { result ≡ rules.greatest raw.now }
 {
     let mut best: u16 = 0;
-    for i in 0..raw.len() {
-        best = larger(best, raw[i]);
+    for x in raw {
+        best = best.max(*x);
     }
     best
 }
 
 // The terms of direction d for the span at place p, which holds v: its neighbour and its corner neighbour, or v for each that is missing.
-fn term(
-    w: usize,
-    index: &[u32],
-    con: &[u8],
-    raw: &[u16],
-    cons: [u8; 4],
-    p: Place,
-    d: usize,
-    v: usize,
-) -> usize
-    requires { Sized w index.now con.now raw.now p.cell p.span.0 × (cons ≡ cons_at con.now p.span.0) × (d < 4) × (v < 65536) }
-    ensures { ((F : Field) → Spot F w index.now con.now p.cell p.span.0
-        → result ≡ rules.term F raw.now p.span.0 v d) × (result ≤ 131070) }
+fn term(field: &Heightfield, raw: &[u16], cons: [u8; 4], p: Place, d: usize, v: usize) -> usize
+    requires place { let F = seen field.now in
+        Reached F × Stands F p.cell p.span.0 × (cons ≡ cons_at F.con p.span.0) × (length raw.now ≡ length F.area) }
+    requires size { (d < 4) × (v < 65536) }
+    ensures { let F = seen field.now in
+        (result ≡ rules.term F raw.now p.span.0 v d) × (result ≤ 131070) }
 {
     if cons[d] == NO_LAYER {
         return v * 2;
     }
-    let q = follow(w, index, cons, p.cell, d);
+    let q = follow(field.w, field.index, cons, p.cell, d);
     let t = q.span;
     let x = at16(raw, t.0);
-    let next = connections(con, t);
+    let next = connections(field.con, t);
     let e = (d + 1) % 4;
     if next[e] == NO_LAYER {
         return x + v;
     }
-    let k = follow(w, index, next, q.cell, e);
+    let k = follow(field.w, field.index, next, q.cell, e);
     x + at16(raw, k.span.0)
 }
 
 // The blurred value of the span at place p.
-fn blur_span(w: usize, index: &[u32], con: &[u8], raw: &[u16], p: Place) -> u16
-    requires { Sized w index.now con.now raw.now p.cell p.span.0 }
-    ensures { (F : Field) → Spot F w index.now con.now p.cell p.span.0
-        → result ≡ rules.blur_at F raw.now p.span.0 }
+fn blur_span(field: &Heightfield, raw: &[u16], p: Place) -> u16
+    requires { let F = seen field.now in
+        Reached F × Stands F p.cell p.span.0 × (length raw.now ≡ length F.area) }
+    ensures { let F = seen field.now in
+        result ≡ rules.blur_at F raw.now p.span.0 }
 {
-    let s = p.span;
-    let i = p.span.0;
-    let v = at16(raw, i);
+    let v = at16(raw, p.span.0);
     if v <= THRESHOLD {
         return v as u16;
     }
-    let cons = connections(con, s);
-    let a = term(w, index, con, raw, cons, p, 0, v);
-    let b = term(w, index, con, raw, cons, p, 1, v);
-    let c = term(w, index, con, raw, cons, p, 2, v);
-    let d = term(w, index, con, raw, cons, p, 3, v);
+    let cons = connections(field.con, p.span);
+    let a = term(field, raw, cons, p, 0, v);
+    let b = term(field, raw, cons, p, 1, v);
+    let c = term(field, raw, cons, p, 2, v);
+    let d = term(field, raw, cons, p, 3, v);
     ((v + a + b + c + d + 5) / 9) as u16
 }
 
@@ -101,7 +82,7 @@ fn blur_cell(field: &Heightfield, raw: &[u16], blurred: &mut [u16], c: usize)
             cell: c,
             span: SpanIx(s),
         };
-        blurred[s] = blur_span(field.w, field.index, field.con, raw, p);
+        blurred[s] = blur_span(field, raw, p);
     }
 }
 
@@ -158,6 +139,6 @@ pub fn box_blur(field: &Heightfield, raw: &[u16], blurred: &mut [u16])
             cell: at16(blurred, s),
             span: SpanIx(s),
         };
-        blurred[s] = blur_span(field.w, field.index, field.con, raw, p);
+        blurred[s] = blur_span(field, raw, p);
     }
 }

@@ -1,8 +1,7 @@
 // The start and the two passes: each span takes the least of itself and of what its neighbours on two sides hold, plus 2, or plus 3 at a corner.
 ghost use Rattle.std.specs.Prelude.{◌≡◌, true, ◌+◌, ◌*◌, ◌-◌, ◌<◌, ◌≤◌, min, length, get_or};
-ghost use Rattle.rules.specs.Field.{Field};
 ghost use Rattle.rules.specs.Distance as rules;
-ghost use Rattle.field.specs.Lent.{lent, Reached, Stands, Spot, cons_at};
+ghost use Rattle.field.specs.Lent.{Reached, Stands, cons_at};
 ghost use Rattle.rules.specs.Rows.{over_cell, from_start, pass1_row, pass2_row};
 ghost use Rattle.distance.specs.Value.{least, least_from, ringed, Goes, Passing, PassedTo, LowBefore, Low, Room};
 ghost use Rattle.distance.specs.Walk.{columns_up, columns_down, spans_up, high_to, cells_of};
@@ -29,121 +28,88 @@ fn lower(raw: &[u16], t: usize, n: u16, best: u16) -> u16
 
 // The least of best, neighbour d plus 2, and its neighbour e plus 3, of the span at place p, whose connections are cons; neighbour d is there.
 // It comes last: of all that a span reads, neighbour d may be the one that was written just before.
-fn beside(
-    w: usize,
-    index: &[u32],
-    con: &[u8],
-    raw: &[u16],
-    cons: [u8; 4],
-    p: Place,
-    d: usize,
-    e: usize,
-    best: u16,
-) -> u16
-    requires room { Room w index.now con.now raw.now p.cell p.span.0 d e × (cons ≡ cons_at con.now p.span.0) × (d < 4) × (e < 4) }
-    requires fact { get_or cons d 0 ≡ 255 → ⊥ }
-    ensures { (F : Field) → Spot F w index.now con.now p.cell p.span.0
-        → result ≡ min best (value.side F raw.now p.span.0 d e) }
+fn beside(field: &Heightfield, raw: &[u16], cons: [u8; 4], p: Place, d: usize, e: usize, best: u16) -> u16
+    requires place { let F = seen field.now in
+        Reached F × Stands F p.cell p.span.0 × (cons ≡ cons_at F.con p.span.0) × Room F raw.now p.span.0 d e }
+    requires sides { (d < 4) × (e < 4) × (get_or cons d 0 ≡ 255 → ⊥) }
+    ensures { let F = seen field.now in
+        result ≡ min best (value.side F raw.now p.span.0 d e) }
 {
-    let q = follow(w, index, cons, p.cell, d);
+    let q = follow(field.w, field.index, cons, p.cell, d);
     let t = q.span;
-    let next = connections(con, t);
+    let next = connections(field.con, t);
     if next[e] == NO_LAYER {
         return lower(raw, t.0, 2, best);
     }
-    let k = follow(w, index, next, q.cell, e);
+    let k = follow(field.w, field.index, next, q.cell, e);
     let b = lower(raw, k.span.0, 3, best);
     lower(raw, t.0, 2, b)
 }
 
 // The same where neighbour d may be missing.
-fn side(
-    w: usize,
-    index: &[u32],
-    con: &[u8],
-    raw: &[u16],
-    cons: [u8; 4],
-    p: Place,
-    d: usize,
-    e: usize,
-    best: u16,
-) -> u16
-    requires { Room w index.now con.now raw.now p.cell p.span.0 d e × (cons ≡ cons_at con.now p.span.0) × (d < 4) × (e < 4) }
-    ensures { (F : Field) → Spot F w index.now con.now p.cell p.span.0
-        → result ≡ min best (value.side F raw.now p.span.0 d e) }
+fn side(field: &Heightfield, raw: &[u16], cons: [u8; 4], p: Place, d: usize, e: usize, best: u16) -> u16
+    requires place { let F = seen field.now in
+        Reached F × Stands F p.cell p.span.0 × (cons ≡ cons_at F.con p.span.0) × Room F raw.now p.span.0 d e }
+    requires sides { (d < 4) × (e < 4) }
+    ensures { let F = seen field.now in
+        result ≡ min best (value.side F raw.now p.span.0 d e) }
 {
     if cons[d] == NO_LAYER {
         return best;
     }
-    beside(w, index, con, raw, cons, p, d, e, best)
+    beside(field, raw, cons, p, d, e, best)
 }
 
 // What pass 2 gives the span at place p. The neighbour in the span's own row comes last, see beside.
-fn least_at(w: usize, index: &[u32], con: &[u8], raw: &[u16], p: Place) -> u16
-    requires { Room w index.now con.now raw.now p.cell p.span.0 2 1 × Room w index.now con.now raw.now p.cell p.span.0 1 0 }
-    ensures { (F : Field) → Spot F w index.now con.now p.cell p.span.0
-        → result ≡ least F 2 1 1 0 p.span.0 raw.now }
+fn least_at(field: &Heightfield, raw: &[u16], p: Place) -> u16
+    requires { let F = seen field.now in
+        Reached F × Stands F p.cell p.span.0 × Room F raw.now p.span.0 2 1 × Room F raw.now p.span.0 1 0 }
+    ensures { let F = seen field.now in
+        result ≡ least F 2 1 1 0 p.span.0 raw.now }
 {
-    let s = p.span;
-    let i = p.span.0;
-    let own = raw[i];
-    let cons = connections(con, s);
-    let best = side(w, index, con, raw, cons, p, 1, 0, own);
-    side(w, index, con, raw, cons, p, 2, 1, best)
+    let own = raw[p.span.0];
+    let cons = connections(field.con, p.span);
+    let best = side(field, raw, cons, p, 1, 0, own);
+    side(field, raw, cons, p, 2, 1, best)
 }
 
 // A value of at most this can't become less, since at least 2 is added to each other.
 const SETTLED: u16 = 2;
 
 // The same, where the value is not settled yet.
-fn lowered(w: usize, index: &[u32], con: &[u8], raw: &[u16], p: Place) -> u16
-    requires { Room w index.now con.now raw.now p.cell p.span.0 2 1 × Room w index.now con.now raw.now p.cell p.span.0 1 0 }
-    ensures { (F : Field) → Spot F w index.now con.now p.cell p.span.0
-        → result ≡ least F 2 1 1 0 p.span.0 raw.now }
+fn lowered(field: &Heightfield, raw: &[u16], p: Place) -> u16
+    requires { let F = seen field.now in
+        Reached F × Stands F p.cell p.span.0 × Room F raw.now p.span.0 2 1 × Room F raw.now p.span.0 1 0 }
+    ensures { let F = seen field.now in
+        result ≡ least F 2 1 1 0 p.span.0 raw.now }
 {
-    let i = p.span.0;
-    let own = raw[i];
+    let own = raw[p.span.0];
     if own <= SETTLED {
         return own;
     }
-    least_at(w, index, con, raw, p)
+    least_at(field, raw, p)
 }
 
 // What pass 1 gives the span at place p, which has four neighbours: one that starts above 0 starts above all that its neighbours make of it.
 fn from_inside(field: &Heightfield, raw: &[u16], p: Place) -> u16
-    requires fact { let F = seen field.now in
-        Reached F × Stands F p.cell p.span.0 }
-    requires room { let F = seen field.now in
-        Room F.w F.index F.con raw.now p.cell p.span.0 0 3 × Room F.w F.index F.con raw.now p.cell p.span.0 3 2 }
+    requires place { let F = seen field.now in
+        Reached F × Stands F p.cell p.span.0 × Room F raw.now p.span.0 0 3 × Room F raw.now p.span.0 3 2 }
     requires span_value { ringed (cons_at field.now.con.now p.span.0) ≡ true }
     ensures { let F = seen field.now in
         result ≡ least_from F (rules.start_at F p.span.0) 0 3 3 2 p.span.0 raw.now }
 {
-    let s = p.span;
-    let cons = connections(field.con, s);
-    if start_span(field.w, field.index, field.area, cons, p) == 0 {
+    let cons = connections(field.con, p.span);
+    if start_span(field, cons, p) == 0 {
         return 0;
     }
-    let best = beside(
-        field.w,
-        field.index,
-        field.con,
-        raw,
-        cons,
-        p,
-        3,
-        2,
-        FARTHEST,
-    );
-    beside(field.w, field.index, field.con, raw, cons, p, 0, 3, best)
+    let best = beside(field, raw, cons, p, 3, 2, FARTHEST);
+    beside(field, raw, cons, p, 0, 3, best)
 }
 
 // The same for any span: one that lacks a neighbour starts at 0.
 fn from_start(field: &Heightfield, raw: &[u16], p: Place) -> u16
-    requires fact { let F = seen field.now in
-        Reached F × Stands F p.cell p.span.0 }
-    requires room { let F = seen field.now in
-        Room F.w F.index F.con raw.now p.cell p.span.0 0 3 × Room F.w F.index F.con raw.now p.cell p.span.0 3 2 }
+    requires { let F = seen field.now in
+        Reached F × Stands F p.cell p.span.0 × Room F raw.now p.span.0 0 3 × Room F raw.now p.span.0 3 2 }
     ensures { let F = seen field.now in
         result ≡ least_from F (rules.start_at F p.span.0) 0 3 3 2 p.span.0 raw.now }
 {
@@ -276,7 +242,7 @@ fn pass2_cell(field: &Heightfield, raw: &mut [u16], c: usize)
             cell: c,
             span: SpanIx(s),
         };
-        raw[s] = lowered(field.w, field.index, field.con, raw, p);
+        raw[s] = lowered(field, raw, p);
     }
 }
 
@@ -288,9 +254,7 @@ fn pass2_columns(field: &Heightfield, raw: &mut [u16], x: usize, k: usize, y: us
         (raw.new ≡ columns_down F (rules.lower F 2 1 1 0) y x k raw.old) × Low F raw.new }
 {
     let first = field.w * y + x;
-    let mut j = k;
-    while 0 < j {
-        j -= 1;
+    for j in (0..k).rev() {
         pass2_cell(field, raw, first + j);
     }
 }
@@ -328,12 +292,10 @@ fn unsettled(raw: &[u16], s: usize) -> usize
     requires { s ≤ length raw.now }
     ensures { result ≡ high_to raw.now s }
 {
-    let mut k = s;
-    while 0 < k {
-        if SETTLED < raw[k - 1] {
-            return k;
+    for k in (0..s).rev() {
+        if SETTLED < raw[k] {
+            return k + 1;
         }
-        k -= 1;
     }
     0
 }
@@ -357,6 +319,6 @@ pub fn pass2(field: &Heightfield, raw: &mut [u16], cells: &[u16])
             cell: at16(cells, s),
             span: SpanIx(s),
         };
-        raw[s] = least_at(field.w, field.index, field.con, raw, p);
+        raw[s] = least_at(field, raw, p);
     }
 }

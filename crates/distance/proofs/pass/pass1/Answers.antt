@@ -19,8 +19,7 @@ at16-requires c = let n = cells_sized _ _ c.requires.2 in
 pub from_inside-requires : goal.from_inside-requires
 from_inside-requires c = let st = cell_stands _ _ _ _ _ c.requires.2 (c.loop-r.invariant.3.there c.loop-r-test.true) refl c.at16.ensures.0 in
     record {
-      fact = (search rules, st);
-      room = (flat-left _ c.requires.0 _ _ _ c.loop-r.invariant.2 st, flat_up _ c.requires.0 _ _ _ c.loop-r.invariant.2 st);
+      place = (search rules, st, flat-left _ c.requires.0 _ _ _ c.loop-r.invariant.2 st, flat_up _ c.requires.0 _ _ _ c.loop-r.invariant.2 st);
       span_value = c.loop-r.invariant.3.four c.loop-r-test.true;
     }
 

@@ -23,10 +23,7 @@ unfolding upto
 loop-j-init c = (search rules, search rules, search rules, search rules, λ t h. absurd (omega arith))
 
 pub from_start-requires : goal.from_start-requires
-from_start-requires c = record {
-  fact = (search rules, search (rules, layer_stood));
-  room = (search (rules, room_left), search (rules, room_up));
-}
+from_start-requires c = (search rules, search (rules, layer_stood), search (rules, room_left), search (rules, room_up))
 
 pub bounds-raw-s : goal.bounds-raw-s
 bounds-raw-s c = search (rules, passing_in)

@@ -17,11 +17,11 @@ at16-requires c = let n = cells_sized _ _ c.requires.2 in search rules
 
 pub least_at-requires : goal.least_at-requires
 least_at-requires c = let st = last_stands _ _ _ _ c.requires.2 c.loop-s-test.true c.loop-s.invariant.0 c.at16.ensures.0 in
-    (low_room _ c.requires.0 _ _ _ c.loop-s.invariant.2 st _ _, low_room _ c.requires.0 _ _ _ c.loop-s.invariant.2 st _ _)
+    (search rules, st, low_room _ _ c.loop-s.invariant.2 _ _ _, low_room _ _ c.loop-s.invariant.2 _ _ _)
 
 pub loop-s-preserved : goal.loop-s-preserved
 loop-s-preserved c = let st = last_stands _ _ _ _ c.requires.2 c.loop-s-test.true c.loop-s.invariant.0 c.at16.ensures.0 in
-    (search rules, down_go _ _ _ _ _ c.loop-s-test.true c.loop-s.invariant.1 (down_next _ c.requires.0 _ _ _ c.loop-s.invariant.2 st _ c.least_at.ensures), low_next _ c.requires.0 _ _ _ c.loop-s.invariant.2 st _ c.least_at.ensures)
+    (search rules, down_go _ _ _ _ _ c.loop-s-test.true c.loop-s.invariant.1 (down_next _ _ c.loop-s.invariant.2 _ st.span _ c.least_at.ensures), low_next _ _ c.loop-s.invariant.2 _ st.span _ c.least_at.ensures)
 
 pub returns : goal.returns
 returns c = search (rules, pass2-end)

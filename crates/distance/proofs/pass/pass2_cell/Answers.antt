@@ -1,7 +1,7 @@
 -- The answers that the check does not find alone.
 use Rattle.rules.specs.Base.{upto}
 use Rattle.distance.proofs.Walks.{cell-end}
-use Rattle.distance.proofs.Bounds.{room_low, low_in, pass_go, low_go}
+use Rattle.distance.proofs.Bounds.{layer_stood, room_low, low_in, pass_go, low_go}
 use borrow.Author.Rules.{rules}
 use Rattle.distance.proofs.pass.pass2_cell.Goals as goal
 
@@ -10,7 +10,7 @@ unfolding upto
 loop-j-init c = search rules
 
 pub lowered-requires : goal.lowered-requires
-lowered-requires c = (search (rules, room_low), search (rules, room_low))
+lowered-requires c = (search rules, search (rules, layer_stood), search (rules, room_low), search (rules, room_low))
 
 pub bounds-raw-s : goal.bounds-raw-s
 bounds-raw-s c = search (rules, low_in)

@@ -1,35 +1,14 @@
 // One span's id from a stored result.
 ghost use Rattle.std.specs.Prelude.{◌≤◌};
 
-use console::{fail, has_more, read_full};
+use console::{fail, has_more, number, print_refused, read_full};
 use field::read::at32;
 use std::io::{Read, Result};
 use stored::into::id_at_into;
 
 // The number that the text is; one that no stored result has where it is none or above 99,999,999.
-const NO_NUMBER: u32 = 4294967295;
-
 pub(crate) fn span(text: &[u8]) -> u32 {
-    if text.len() == 0 {
-        return NO_NUMBER;
-    }
-    let mut v: u32 = 0;
-    let mut i: usize = 0;
-    while i < text.len() {
-        let b = text[i];
-        if b < 48 {
-            return NO_NUMBER;
-        }
-        if 57 < b {
-            return NO_NUMBER;
-        }
-        if 9999999 < v {
-            return NO_NUMBER;
-        }
-        v = v * 10 + (b - 48) as u32;
-        i += 1;
-    }
-    v
+    number(text, 99999999).unwrap_or(u32::MAX)
 }
 
 fn print_found(rt: &impl Print, bytes: &[u8], span: u32) -> Result<()> {

@@ -3,7 +3,7 @@ use Rattle.std.specs.Prelude.{ℕ, List}
 use Rattle.rules.specs.Field.{Field}
 use Rattle.field.specs.Lent.{lent}
 use Rattle.mend.specs.Walk.{ground}
-use Rattle.mend.specs.declared.Grid.{Grid}
+use Rattle.mend.specs.declared.grid.Grid.{Grid}
 
 -- without connections
 abbrev pub bare : Grid → Field

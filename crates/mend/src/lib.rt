@@ -3,6 +3,8 @@
 
 #![tactic(auto)]
 
+mod grid;
+
 ghost use Rattle.std.specs.Prelude.{◌≡◌, ◌+◌, ◌*◌, ◌<◌, length, get_or, []};
 ghost use Rattle.rules.specs.Refusals.{refusal, most_spans};
 ghost use Rattle.rules.specs.Mend.{stays, mend_outcome};
@@ -12,6 +14,7 @@ ghost use Rattle.mend.specs.Walk.{state, noted, step, walk, Ready};
 ghost use Rattle.mend.specs.Grid.{bare, linked};
 ghost use Rattle.mend.specs.Answer.{mend_number, outcome, before_links};
 
+use crate::grid::Grid;
 use checker::links::side_ok;
 use checker::reach::leaves_grid;
 use checker::{Refusal, check};
@@ -35,16 +38,6 @@ impl MendRefusal {
             MendRefusal::NoRoom => 27,
         }
     }
-}
-
-// The field but for its connections, which the walk writes.
-#[derive(Clone, Copy)]
-struct Grid<'a> {
-    w: usize,
-    h: usize,
-    index: &'a [u32],
-    count: &'a [u8],
-    area: &'a [u8],
 }
 
 // Change number k in its place.

@@ -1,5 +1,5 @@
 // From a column, a row and a layer to a span's number, and back.
-ghost use Rattle.std.specs.Prelude.{◌+◌, ◌≤◌, length};
+ghost use Rattle.std.specs.Prelude.{◌<◌, ◌≤◌, IfSome};
 
 use field::lent::Heightfield;
 
@@ -32,15 +32,19 @@ fn below(asked: Option<u32>, limit: usize) -> Option<usize>
     asked.map(|n| n as usize).filter(|&n| n < limit)
 }
 
-// The cell asked for, of a field that is no more than 65,535 cells wide and high.
-fn cell_of(asked: Asked, field: &Heightfield) -> Option<usize> {
+// The cell asked for, of a field as wide and high as a file can have it.
+fn cell_of(asked: Asked, field: &Heightfield) -> Option<usize>
+    requires { (field.now.w ≤ 65535) × (field.now.h ≤ 65535) }
+{
     let x = below(asked.x, field.w)?;
     let z = below(asked.z, field.h)?;
     Some(x + z * field.w)
 }
 
 // The span asked for, of a field whose indices are right.
-pub(crate) fn find(asked: Asked, field: &Heightfield) -> Result<u32, Missing> {
+pub(crate) fn find(asked: Asked, field: &Heightfield) -> Result<u32, Missing>
+    requires { (field.now.w ≤ 65535) × (field.now.h ≤ 65535) }
+{
     let cell = cell_of(asked, field).ok_or(Missing::NoCell)?;
     let layers = *field.count.get(cell).ok_or(Missing::NoCell)?;
     let layer = below(asked.layer, layers as usize).ok_or(Missing::NoLayer(layers))?;

@@ -47,7 +47,9 @@ fn tell_field(
     blurred: &mut [u16],
     workspace: &mut [u16],
     trail: &mut [u16],
-) -> Result<()> {
+) -> Result<()>
+    requires { (field.now.w ≤ 65535) × (field.now.h ≤ 65535) }
+{
     let most = match build_distance_field(field, raw, blurred) {
         Ok(m) => m,
         Err(r) => return print_refused(rt, r.number()),

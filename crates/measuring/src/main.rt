@@ -42,7 +42,11 @@ fn main(rt: HostRuntime) -> Result<()> {
     let mut text = buffer();
     match arg(&rt, 1, &mut text) {
         // No scale is 0.
-        Ok(n) => print_input(&rt, &mut rt.stdin(), number(&text[..n], 999).unwrap_or(0) as u16),
+        Ok(n) => print_input(
+            &rt,
+            &mut rt.stdin(),
+            number(&text[..n], 999).unwrap_or(0) as u16,
+        ),
         Err(e) => fail(&rt, "the scale", &e),
     }
 }

@@ -1,8 +1,7 @@
 // One span's id from a stored result.
 ghost use Rattle.std.specs.Prelude.{◌≤◌};
 
-use console::{fail, has_more, number, print_refused, read_full};
-use field::read::at32;
+use console::{fail, has_more, number, read_full};
 use std::io::{Read, Result};
 use stored::into::id_at_into;
 
@@ -11,15 +10,15 @@ pub(crate) fn span(text: &[u8]) -> u32 {
     number(text, 99999999).unwrap_or(u32::MAX)
 }
 
+// In the form that C gets, since it has a refusal's number.
 fn print_found(rt: &impl Print, bytes: &[u8], span: u32) -> Result<()> {
     let mut answer = [0u32; 3];
     let refusal = id_at_into(bytes, span, &mut answer);
     if refusal != 0 {
-        println!(rt; "refused {refusal}")
-    } else {
-        let id = at32(&answer, 1);
-        println!(rt; "{id}")
+        return println!(rt; "refused {refusal}");
     }
+    let id = answer[1];
+    println!(rt; "{id}")
 }
 
 // Reads the stored result: 330,076 bytes are the most that 65,000 spans take.

@@ -19,10 +19,6 @@ use Rattle.checker.specs.Links.{names, names_at, reach_at, in_cell}
 use Rattle.field.proofs.Loops.{every_halt, every-end, every_ext, every_join}
 use Rattle.field.proofs.Places.{layer_stands, con_at, first_of, first_is, total_is, room_left, room_up}
 
-pub not-not : (b : Bool) → b ≡ not (not b)
-not-not true = refl
-not-not false = refl
-
 pub flip : (r b : Bool) (s : Bool) → r ≡ not b → r ≡ s → b ≡ not s
 flip r true s e f = rw (← f) (ap not (sym e))
 flip r false s e f = rw (← f) (ap not (sym e))
@@ -68,14 +64,6 @@ cells_every F ok p (suc c) =
 
 pub every_cells : (F : Field) → Celled F → (p : ℕ → Bool) → every (length F.count) (in_cell F p) ≡ every (spans F) p
 every_cells F ok p = rw ok.counted (sym (cells_every F ok p (F.w * F.h)) ∙ rw (total_is F ok))
-
--- the loop over the cells
-module _ (F : Field) (ok : Celled F) (p : ℕ → Bool) where
-  pub cells_halt : (c : ℕ) (r : Bool) → c < length F.count → r ≡ in_cell F p c → r ≡ false → false ≡ every (spans F) p
-  cells_halt c r h e z = every_halt (in_cell F p) (length F.count) c r h e z ∙ every_cells F ok p
-
-  pub cells_end : (c : ℕ) → every c (in_cell F p) ≡ true → c ≤ length F.count → length F.count ≤ c → true ≡ every (spans F) p
-  cells_end c a h g = every-end (in_cell F p) (length F.count) c a h g ∙ every_cells F ok p
 
 -- the loop over the layers of cell c, with the cell's index and count read before it, as i and k
 module _ (F : Field) (p : ℕ → Bool) (c i k j : ℕ) (e : i ≡ get_or F.index c 0) (f : k ≡ get_or F.count c 0) where

@@ -149,7 +149,7 @@ fn block_ok(field: &Heightfield, x: usize, k: usize, z: usize) -> bool
     is_empty(field.count, field.w * z + x, k) || columns_ok(field, x, k, z)
 }
 
-// Row z, block by block.
+// Row z, block by block: the loop strides.
 fn row_ok(field: &Heightfield, z: usize) -> bool
     requires { let F = seen field.now in
         Celled F × (z < F.h) }
@@ -173,12 +173,7 @@ fn rows_ok(field: &Heightfield) -> bool
     ensures { let F = seen field.now in
         result ≡ every (spans F) (half_at F) }
 {
-    for z in 0..field.h {
-        if !row_ok(field, z) {
-            return false;
-        }
-    }
-    true
+    (0..field.h).all(|z| row_ok(field, z))
 }
 
 // Every connection. Each in directions 0 and 1 is asked. One that is good has an answer of its own in 2 or 3:

@@ -1,4 +1,4 @@
-// Refusal 5: a loop over the directions of a span, over the layers of a cell, and over the cells.
+// Refusal 5: over the directions of a span, over the layers of a cell, and over the cells.
 ghost use Rattle.std.specs.Prelude.{◌≡◌, ◌*◌, ◌<◌, ◌≤◌, length};
 ghost use Rattle.rules.specs.Base.{every};
 ghost use Rattle.rules.specs.Field.{spans, leaves};
@@ -42,12 +42,7 @@ fn span_ok(w: usize, h: usize, count: &[u8], c: usize, cons: [u8; 4]) -> bool
     requires { (w ≤ 256) × (c < 65536) × (c < w * h) × (length count.now ≡ w * h) }
     ensures { result ≡ every 4 (names_at w h count.now c cons) }
 {
-    for d in 0..4 {
-        if !con_ok(w, h, count, c, Layer(cons[d]), d) {
-            return false;
-        }
-    }
-    true
+    (0..4).all(|d| con_ok(w, h, count, c, Layer(cons[d]), d))
 }
 
 // The spans of cell c.
@@ -74,10 +69,5 @@ pub(crate) fn reach_ok(field: &Heightfield) -> bool
     ensures { let F = seen field.now in
         result ≡ every (spans F) (reach_at F) }
 {
-    for c in 0..field.count.len() {
-        if !cell_ok(field, c) {
-            return false;
-        }
-    }
-    true
+    (0..field.count.len()).all(|c| cell_ok(field, c))
 }

@@ -34,7 +34,7 @@ fn part(con: &[u8], b: usize, m: u8, o: u8) -> u8
     k
 }
 
-// How many connections are in the half o: 2 for directions 0 and 1, 0 for directions 2 and 3.
+// How many connections are in the half o: 2 for directions 0 and 1, 0 for directions 2 and 3. The loop strides, by a part.
 pub(crate) fn links_in(con: &[u8], o: u8) -> usize
     requires { (length con.now % 4 ≡ 0) × (length con.now ≤ 4 * most_spans) × (o ≤ 2) }
     ensures { result ≡ links_in con.now o 0 (length con.now) }

@@ -1,12 +1,12 @@
 -- What the two sides of a pass come to: a value that is there is read with room for the sum, and one that is not changes nothing,
 -- since where there is no span the rule reads 65,535 and adds to it.
-use Prim.Native.Nat.{ℕ, ◌+◌, ◌*◌, ◌≤◌, ◌<◌, min}
+use Prim.Native.Nat.{ℕ, ◌+◌, ◌≤◌, ◌<◌, min}
 use native.Mathlib.Omega.{arith}
-use mathlib.Core.Path.{◌≡◌, refl, sym, ap, ◌∙◌}
+use mathlib.Core.Path.{◌≡◌, sym, ap, ◌∙◌}
 use mathlib.Core.Bool.{Bool, false}
 use mathlib.Core.List.{List}
 use lib.ListN.{length, get_or, get_or-eq_default}
-use Rattle.rules.specs.Field.{Field, spans, near, cell_to}
+use Rattle.rules.specs.Field.{Field, near, cell_to}
 use Rattle.rules.specs.Distance.{far, start_at}
 use Rattle.rules.specs.Refusals.{most_spans}
 use Rattle.laws.proofs.Basics.{get_d_any}

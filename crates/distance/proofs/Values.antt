@@ -10,13 +10,13 @@ use lib.ListN.{length, get_or}
 use lib.Dec.{eqb, ltb}
 use borrow.Author.Tests.{eq-eqb, ne_eqb, lt-ltb, le-ltb, eqb-true, ltb-false}
 use Rattle.rules.specs.Base.{when◌then◌else◌}
-use Rattle.rules.specs.Field.{Field, spans, near, area_of, cell_of, cell_to, con_of}
+use Rattle.rules.specs.Field.{Field, near, area_of, cell_of, cell_to, con_of}
 use Rattle.rules.specs.Distance.{same, start_at}
 use Rattle.laws.proofs.Basics.{get_d_any, if-ind, every-at, every_all, four_ways, same_test}
 use Rattle.laws.proofs.Passes.{missing_not-same, same_fewer}
 use Rattle.field.specs.Lent.{Reached, Stands, Leaf, SomeLeaf, cons_at, lent}
 use Rattle.field.proofs.Places.{con_at, cell_is, reaches, near_stands, leaf_none}
-use Rattle.distance.specs.Value.{ringed, Layers, Goes}
+use Rattle.distance.specs.Value.{ringed, Layers}
 
 -- ---------------------------------------------------------------- a span at its place, and a step to a neighbour
 
@@ -97,14 +97,6 @@ module _ (cs cons : List ℕ) (s : ℕ) (q : cons ≡ cons_at cs s) where
 
     pub ringed-each : (d : ℕ) → d < 4 → get_or cons d 0 ≡ 255 → ⊥
     ringed-each d g z = ringed_there cons d ringed_cons g z
-
--- where a run of spans that lack a neighbour ends
-pub goes_on : (n : ℕ) (cs cons : List ℕ) (s : ℕ) (r : Bool) → cons ≡ cons_at cs s → r ≡ ringed cons → r ≡ true → s < n → Goes n cs s true
-goes_on n cs cons s r q e z h =
-    record { within = omega arith; there = λ _. h; four = λ _. ringed-at cs cons s q r e z; last = λ o. absurd (true≢false o) }
-
-pub goes_off : (n : ℕ) (cs : List ℕ) (s : ℕ) → s ≤ n → n ≤ s → Goes n cs s false
-goes_off n cs s h g = record { within = h; there = λ o. absurd (false≢true o); four = λ o. absurd (false≢true o); last = λ _. g }
 
 -- ---------------------------------------------------------------- the start
 

@@ -6,10 +6,10 @@ ghost use Rattle.rules.specs.Rows.{over_cell, blur_to, blur_row};
 ghost use Rattle.distance.specs.Walk.{columns_up, cells_of};
 ghost use Rattle.field.specs.Seen.{seen};
 
+use crate::read::{at8, at16, at32};
 use field::block::{block_of, is_empty};
 use field::lent::Heightfield;
 use field::place::{NO_LAYER, Place, SpanIx, connections, follow};
-use field::read::{at8, at16, at32};
 
 // A raw value of at most this stays.
 pub const THRESHOLD: usize = 2;

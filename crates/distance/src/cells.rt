@@ -5,9 +5,9 @@ ghost use Rattle.rules.specs.Rows.{over_cell};
 ghost use Rattle.distance.specs.Walk.{note_cell, cells_up, cells_of};
 ghost use Rattle.field.specs.Seen.{seen};
 
+use crate::read::{at8, at32};
 use field::block::{block_of, is_empty};
 use field::lent::Heightfield;
-use field::read::{at8, at32};
 
 // For the spans of cell c. Most have one, for which a loop sets up more than it does.
 fn spread_cell(field: &Heightfield, cells: &mut [u16], c: usize)

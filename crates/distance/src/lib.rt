@@ -6,4 +6,5 @@ pub mod blur;
 pub mod cells;
 pub mod distances;
 pub mod pass;
+pub mod read;
 pub mod start;

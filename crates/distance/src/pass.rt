@@ -3,16 +3,16 @@ ghost use Rattle.std.specs.Prelude.{◌≡◌, true, ◌+◌, ◌*◌, ◌-◌, 
 ghost use Rattle.rules.specs.Distance as rules;
 ghost use Rattle.field.specs.Lent.{Reached, Stands, cons_at};
 ghost use Rattle.rules.specs.Rows.{over_cell, from_start, pass1_row, pass2_row};
-ghost use Rattle.distance.specs.Value.{least, least_from, ringed, Goes, Passing, PassedTo, LowBefore, Low, Room};
+ghost use Rattle.distance.specs.Value.{run_end, least, least_from, ringed, Goes, Passing, PassedTo, LowBefore, Low, Room};
 ghost use Rattle.distance.specs.Walk.{columns_up, columns_down, spans_up, high_to, cells_of};
 ghost use Rattle.distance.specs.Value as value;
 ghost use Rattle.field.specs.Seen.{seen};
 
+use crate::read::{at8, at16, at32};
 use crate::start::{FARTHEST, start_span, surrounded};
 use field::block::{block_of, is_empty};
 use field::lent::Heightfield;
 use field::place::{NO_LAYER, Place, SpanIx, connections, follow};
-use field::read::{at8, at16, at32};
 
 // The least of best and the value of span t plus n.
 fn lower(raw: &[u16], t: usize, n: u16, best: u16) -> u16
@@ -28,7 +28,15 @@ fn lower(raw: &[u16], t: usize, n: u16, best: u16) -> u16
 
 // The least of best, neighbour d plus 2, and its neighbour e plus 3, of the span at place p, whose connections are cons; neighbour d is there.
 // It comes last: of all that a span reads, neighbour d may be the one that was written just before.
-fn beside(field: &Heightfield, raw: &[u16], cons: [u8; 4], p: Place, d: usize, e: usize, best: u16) -> u16
+fn beside(
+    field: &Heightfield,
+    raw: &[u16],
+    cons: [u8; 4],
+    p: Place,
+    d: usize,
+    e: usize,
+    best: u16,
+) -> u16
     requires place { let F = seen field.now in
         Reached F × Stands F p.cell p.span.0 × (cons ≡ cons_at F.con p.span.0) × Room F raw.now p.span.0 d e }
     requires sides { (d < 4) × (e < 4) × (get_or cons d 0 ≡ 255 → ⊥) }
@@ -47,7 +55,15 @@ fn beside(field: &Heightfield, raw: &[u16], cons: [u8; 4], p: Place, d: usize, e
 }
 
 // The same where neighbour d may be missing.
-fn side(field: &Heightfield, raw: &[u16], cons: [u8; 4], p: Place, d: usize, e: usize, best: u16) -> u16
+fn side(
+    field: &Heightfield,
+    raw: &[u16],
+    cons: [u8; 4],
+    p: Place,
+    d: usize,
+    e: usize,
+    best: u16,
+) -> u16
     requires place { let F = seen field.now in
         Reached F × Stands F p.cell p.span.0 × (cons ≡ cons_at F.con p.span.0) × Room F raw.now p.span.0 d e }
     requires sides { (d < 4) × (e < 4) }
@@ -180,31 +196,22 @@ pub fn pass1_row(field: &Heightfield, raw: &mut [u16], y: usize)
     }
 }
 
-// Where a run of spans ends, and whether a span stands there. Both are told, so that who goes on from there need not ask again.
-#[derive(Clone, Copy)]
-struct Run {
-    at: usize,
-    more: bool,
-}
-
-// 0 for each span from s on that lacks a neighbour, up to the first that has four, or to the end.
-fn edges(field: &Heightfield, raw: &mut [u16], s: usize) -> Run
+// 0 for each span from s on that lacks a neighbour, up to the first that has four, which is given, or to the end.
+fn edges(field: &Heightfield, raw: &mut [u16], s: usize) -> Option<usize>
     requires { let F = seen field.now in
         Reached F × (s ≤ length F.area) × PassedTo F s raw.old }
     ensures { let F = seen field.now in
-        (raw.new ≡ spans_up (from_start F) s (result.at - s) raw.old) × PassedTo F result.at raw.new × (s ≤ result.at)
-        × Goes (length F.area) F.con result.at result.more }
+        let at = run_end (length F.area) result in
+        (raw.new ≡ spans_up (from_start F) s (at - s) raw.old) × PassedTo F at raw.new × (s ≤ at) × Goes (length F.area) F.con result }
 {
-    let mut k = s;
-    while k < field.area.len() {
+    for k in s..field.area.len() {
         let cons = connections(field.con, SpanIx(k));
         if surrounded(cons) {
-            return Run { at: k, more: true };
+            return Some(k);
         }
         raw[k] = 0;
-        k += 1;
     }
-    Run { at: k, more: false }
+    None
 }
 
 // The start and pass 1 over all spans; cells has the cell of each. Spans that lack a neighbour have a loop of their own. As that stands within it, the
@@ -215,15 +222,14 @@ pub fn pass1(field: &Heightfield, raw: &mut [u16], cells: &[u16])
     ensures { let F = seen field.now in
         (raw.new ≡ rules.pass1 F (rules.start F)) × Low F raw.new }
 {
-    let mut r = edges(field, raw, 0);
-    while r.more {
-        let s = r.at;
+    let mut next = edges(field, raw, 0);
+    while let Some(s) = next {
         let p = Place {
             cell: at16(cells, s),
             span: SpanIx(s),
         };
         raw[s] = from_inside(field, raw, p);
-        r = edges(field, raw, s + 1);
+        next = edges(field, raw, s + 1);
     }
 }
 

@@ -40,7 +40,11 @@ pub(crate) fn start_span(field: &Heightfield, cons: [u8; 4], p: Place) -> u16
     ensures { let F = seen field.now in
         result ≡ rules.start_at F p.span.0 }
 {
-    if same(field, cons, p, 0) && same(field, cons, p, 1) && same(field, cons, p, 2) && same(field, cons, p, 3) {
+    if same(field, cons, p, 0)
+        && same(field, cons, p, 1)
+        && same(field, cons, p, 2)
+        && same(field, cons, p, 3)
+    {
         return FARTHEST;
     }
     0

@@ -5,4 +5,3 @@
 pub mod block;
 pub mod lent;
 pub mod place;
-pub mod read;

@@ -153,10 +153,8 @@ pub(crate) fn turns(
         turn: 7,
     };
     let mut id = next;
-    let mut left = count;
     let mut told = story;
-    while left > 0 {
-        left -= 1;
+    for left in (0..count).rev() {
         let t = turn(area, con, dist, ids, ws, at, l, 2 * left, id, told);
         if t.stop != GOES_ON {
             return Growth {

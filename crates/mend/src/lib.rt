@@ -179,7 +179,7 @@ fn mend_all(grid: &Grid, con: &mut [u8], changes: &mut [u16]) -> Result<u32, Men
 }
 
 // The entry: any input; how many connections were set to none. A sound field is left as it is after the checker's one pass.
-// Of the refusals that the checker gives, those past 4 are about connections, and are what is mended.
+// Of the refusals that the checker gives, those past 4 are about connections, and are what is mended: so no `?` on the checker's answer.
 pub fn mend(
     w: u16,
     h: u16,

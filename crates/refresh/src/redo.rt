@@ -3,7 +3,7 @@
 ghost use Rattle.std.specs.Prelude.{◌≡◌, ◌+◌, ◌-◌, ◌<◌, ◌≤◌, length};
 ghost use Rattle.rules.specs.Rows.{pass1_row};
 ghost use Rattle.rules.specs.Refresh.{Rows, as_stored, values_row, from_pass1, onward, backward, blur_rows};
-ghost use Rattle.field.specs.Lent.{lent, Sound};
+ghost use Rattle.field.specs.Lent.{Sound};
 ghost use Rattle.distance.specs.Value.{Low};
 ghost use Rattle.refresh.specs.Part.{RowPart};
 ghost use Rattle.refresh.specs.Redo.{redone, pass1_rows, pass2_rows, Kept};
@@ -50,12 +50,10 @@ pub(crate) fn settle1(field: &Heightfield, pass1: &mut [u16], kept: &mut [u16], 
         (redone pass1.new result ≡ onward F z1 (F.h - (z1 + 1)) (z1 + 1) pass1.old) × (z1 ≤ result) × (result < F.h)
         × Low F pass1.new × Kept F (z1 + 1) (result + 1) kept.old kept.new }
 {
-    let mut y = z1 + 1;
-    while y < field.h {
+    for y in z1 + 1..field.h {
         if redo1_row(field, pass1, kept, y) {
             return y;
         }
-        y += 1;
     }
     field.h - 1
 }
@@ -78,9 +76,7 @@ pub(crate) fn pass2_rows(field: &Heightfield, pass1: &[u16], raw: &mut [u16], a:
     ensures { let F = seen field.now in
         (raw.new ≡ pass2_rows F pass1.now a b raw.old) × Low F raw.new }
 {
-    let mut y = b;
-    while a < y {
-        y -= 1;
+    for y in (a..b).rev() {
         let part = row_part(field, y);
         pass2_from(field, pass1, raw, y, part.from, part.to);
     }
@@ -122,9 +118,7 @@ pub(crate) fn settle2(
         (redone raw.new result ≡ backward F (first + 1) pass1.now (first + 1) raw.old) × (result ≤ first)
         × Low F raw.new × Kept F result (first + 1) kept.old kept.new }
 {
-    let mut y = first + 1;
-    while 0 < y {
-        y -= 1;
+    for y in (0..first + 1).rev() {
         if redo2_row(field, pass1, raw, kept, y) {
             return y;
         }

@@ -1,11 +1,11 @@
 // The spans of a row, which follow each other, and the part of a list that they are.
 ghost use Rattle.std.specs.Prelude.{◌≡◌, ◌+◌, ◌<◌, ◌≤◌, length};
-ghost use Rattle.field.specs.Lent.{lent, Sound};
+ghost use Rattle.field.specs.Lent.{Sound};
 ghost use Rattle.refresh.specs.Part.{FirstCell, LastCell, RowPart, part_to, same_part};
 ghost use Rattle.field.specs.Seen.{seen};
 
 use field::lent::Heightfield;
-use field::read::{at8, at32};
+use distance::read::{at8, at32};
 
 // Spans from number `from` on, up to number `to`, which is not among them.
 #[derive(Clone, Copy)]
@@ -20,7 +20,7 @@ fn first_cell(count: &[u8], c: usize, w: usize) -> usize
     ensures { FirstCell count.now c w result }
 {
     for x in 0..w {
-        if at8(count, c + x) != 0 {
+        if count[c + x] != 0 {
             return x;
         }
     }
@@ -32,10 +32,8 @@ fn last_cell(count: &[u8], c: usize, w: usize) -> usize
     requires { (c + w ≤ length count.now) × (c + w ≤ 65536) }
     ensures { LastCell count.now c w result }
 {
-    let mut x = w;
-    while 0 < x {
-        x -= 1;
-        if at8(count, c + x) != 0 {
+    for x in (0..w).rev() {
+        if count[c + x] != 0 {
             return x + 1;
         }
     }

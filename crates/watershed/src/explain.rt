@@ -9,12 +9,12 @@ ghost use Rattle.table.specs.Map.{records_end};
 ghost use Rattle.records.specs.Stock.{Given, Blank, Built};
 ghost use Rattle.trail.specs.Noted.{mergings_from};
 ghost use Rattle.reasons.specs.Why.{Means};
+ghost use Rattle.watershed.specs.Form.{sizes_of};
 ghost use Rattle.watershed.specs.Explain.{explained, without_room, with_room, room_reason, Grown, Living, Explains};
 ghost use Rattle.field.specs.Seen.{seen};
 
-use crate::form::{first_id, less, lower};
-use crate::regions::{MORE_RECORDS, check_regions, grow_regions, ready_records};
-use checker::{Verdict, refusal_number};
+use crate::form::{first_id, lower};
+use crate::regions::{MORE_RECORDS, RegionSizes, check_regions, grow_regions, ready_records};
 use field::lent::Heightfield;
 use flood::story::{NOBODY, Story};
 use growth::turns::GOES_ON;
@@ -27,7 +27,7 @@ use trail::write_trail;
 use wipe::wipe;
 
 // What is told of a span: 0 or the refusal number, and the reason. Numbers that a reason does not have are 0.
-#[derive(Clone, Copy)]
+#[derive(Clone, Copy, Default)]
 pub struct Explanation {
     pub refusal: u16,
     pub reason: u16,
@@ -71,8 +71,8 @@ fn check_explain(
         result ≡ explain_refusal F own work dist.now max_distance span }
 {
     match check_regions(field, dist, max_distance, work, own) {
-        Verdict::Refused(r) => refusal_number(r),
-        Verdict::Sound => {
+        Err(r) => r.number(),
+        Ok(()) => {
             if span < field.area.len() {
                 return 0;
             }
@@ -87,35 +87,23 @@ fn refused(refusal: u16) -> Explanation
 {
     Explanation {
         refusal,
-        reason: 0,
-        strip: 0,
-        group_count: 0,
-        least_area: 0,
-        grown_id: 0,
-        from_span: 0,
-        trail_length: 0,
-        number: 0,
-        gave_back_id: 0,
-        objecting_span: 0,
+        ..Explanation::default()
     }
 }
 
-// One of reasons 1 to 4.
-fn without_room(reason: u16, strip: u16, group: u16, least: u16, story: Story) -> Explanation
+// One of reasons 1 to 4. The group is under the least area.
+fn without_room(reason: u16, strip: u16, group: usize, least: u16, story: Story) -> Explanation
+    requires { group ≤ least }
     ensures { (l : List ℕ) → explained result [] l ≡ without_room reason strip group least (story_of story) l }
 {
     Explanation {
-        refusal: 0,
         reason,
         strip,
-        group_count: group,
+        group_count: group as u16,
         least_area: least,
-        grown_id: 0,
-        from_span: 0,
-        trail_length: 0,
-        number: 0,
         gave_back_id: story.gave,
         objecting_span: story.objecting,
+        ..Explanation::default()
     }
 }
 
@@ -125,17 +113,14 @@ fn with_room(reason: u16, from: u16, id: u16, long: usize, number: u16, story: S
     ensures { (l : List ℕ) → explained result [] l ≡ with_room reason from id long number (story_of story) l }
 {
     Explanation {
-        refusal: 0,
         reason,
-        strip: 0,
-        group_count: 0,
-        least_area: 0,
         grown_id: id,
         from_span: from,
         trail_length: long as u16,
         number,
         gave_back_id: story.gave,
         objecting_span: story.objecting,
+        ..Explanation::default()
     }
 }
 
@@ -177,9 +162,7 @@ fn explain_region(
     field: &Heightfield,
     dist: &[u16],
     max_distance: u16,
-    border_size: u16,
-    min_region_area: u16,
-    merge_region_area: u16,
+    sizes: RegionSizes,
     ws: &mut [u16],
     ids: &mut [u16],
     table: usize,
@@ -188,10 +171,10 @@ fn explain_region(
     story: Story,
 ) -> Explanation
     requires { let F = seen field.now in
-        Grown F dist.now max_distance border_size table span next (story_of story) ids.old ws.old
+        Grown F dist.now max_distance sizes.border table span next (story_of story) ids.old ws.old
         × Living F.area ids.old span }
     ensures { (let F = seen field.now in
-        let z : Sizes = record { border = border_size; least = min_region_area; merge = merge_region_area } in
+        let z = sizes_of sizes in
         explained result [] ids.new
         ≡ explains (length F.area) (reason_of F dist.now max_distance z span) (story_of story) 0) }
 {
@@ -207,15 +190,15 @@ fn explain_region(
         end,
         next + 1,
         n,
-        min_region_area,
-        merge_region_area,
+        sizes.least,
+        sizes.merge,
         r as usize,
     );
     if t.id == 0 {
         clear(ids);
-        return without_room(FILTERED_OUT, 0, t.group as u16, min_region_area, story);
+        return without_room(FILTERED_OUT, 0, t.group, sizes.least, story);
     }
-    let number = lower(ids[span], less(first_id(border_size), 1));
+    let number = lower(ids[span], first_id(sizes.border) - 1);
     let long = lay_trail(ws, end, t.merges, r, ids);
     in_room(r, long, number, story)
 }
@@ -225,9 +208,7 @@ fn explain_grown(
     field: &Heightfield,
     dist: &[u16],
     max_distance: u16,
-    border_size: u16,
-    min_region_area: u16,
-    merge_region_area: u16,
+    sizes: RegionSizes,
     ws: &mut [u16],
     ids: &mut [u16],
     table: usize,
@@ -236,9 +217,9 @@ fn explain_grown(
     story: Story,
 ) -> Explanation
     requires { let F = seen field.now in
-        Grown F dist.now max_distance border_size table span next (story_of story) ids.old ws.old }
+        Grown F dist.now max_distance sizes.border table span next (story_of story) ids.old ws.old }
     ensures { (let F = seen field.now in
-        let z : Sizes = record { border = border_size; least = min_region_area; merge = merge_region_area } in
+        let z = sizes_of sizes in
         explained result [] ids.new
         ≡ explains (length F.area) (reason_of F dist.now max_distance z span) (story_of story) 0) }
 {
@@ -259,9 +240,7 @@ fn explain_grown(
         field,
         dist,
         max_distance,
-        border_size,
-        min_region_area,
-        merge_region_area,
+        sizes,
         ws,
         ids,
         table,
@@ -276,9 +255,7 @@ fn explain_found(
     field: &Heightfield,
     dist: &[u16],
     max_distance: u16,
-    border_size: u16,
-    min_region_area: u16,
-    merge_region_area: u16,
+    sizes: RegionSizes,
     ws: &mut [u16],
     span: usize,
     trail: &mut [u16],
@@ -287,7 +264,7 @@ fn explain_found(
         (region_refusal F (length dist.now ∷ length trail.old ∷ []) (length ws.old) dist.now max_distance ≡ 0)
         × (span < length F.area) }
     ensures { (let F = seen field.now in
-        let z : Sizes = record { border = border_size; least = min_region_area; merge = merge_region_area } in
+        let z = sizes_of sizes in
         Explains F dist.now max_distance z span (length ws.old) trail.old
         (explained result ws.new trail.new)) }
 {
@@ -297,7 +274,7 @@ fn explain_found(
         field,
         dist,
         max_distance,
-        border_size,
+        sizes.border,
         ws,
         trail,
         table,
@@ -312,9 +289,7 @@ fn explain_found(
         field,
         dist,
         max_distance,
-        border_size,
-        min_region_area,
-        merge_region_area,
+        sizes,
         ws,
         trail,
         table,
@@ -361,9 +336,11 @@ pub fn explain_span(
         field,
         dist,
         max_distance,
-        border_size,
-        min_region_area,
-        merge_region_area,
+        RegionSizes {
+            border: border_size,
+            least: min_region_area,
+            merge: merge_region_area,
+        },
         workspace,
         span as usize,
         trail,

@@ -4,7 +4,6 @@ ghost use Rattle.rules.specs.Base.{any};
 ghost use Rattle.rules.specs.Field.{Bytes};
 ghost use Rattle.rules.specs.Refusals.{most_spans, too_far, region_refusal};
 ghost use Rattle.rules.specs.Numbering.{dense, compared};
-ghost use Rattle.rules.specs.Numbering as rules;
 ghost use Rattle.rules.specs.Outcomes.{Sizes, region_outcome};
 ghost use Rattle.rules.specs.Reasons.{story};
 ghost use Rattle.space.specs.Space.{sec, Clear};
@@ -13,13 +12,13 @@ ghost use Rattle.flood.specs.Stories.{story_of};
 ghost use Rattle.growth.specs.Grow.{growth_room};
 ghost use Rattle.table.specs.Map.{floors_from};
 ghost use Rattle.checker.specs.Answer.{number_of, verdict_number};
-ghost use Rattle.watershed.specs.Answer.{AnswersRegions, GivesRooms};
-ghost use Rattle.watershed.specs.Form.{form_of};
-ghost use Rattle.watershed.specs.Stages.{Admitted, Raised, Readied, Finds, own_refusal, table_at};
+ghost use Rattle.watershed.specs.Answer.{regions_refused_by, regions_of, AnswersRegions, GivesRooms};
+ghost use Rattle.watershed.specs.Form.{form_of, sizes_of};
+ghost use Rattle.watershed.specs.Stages.{Admitted, Raised, Readied, Finds, table_at};
 ghost use Rattle.field.specs.Seen.{seen};
 
 use crate::form::{Form, give_form};
-use checker::{Refusal, Verdict, check};
+use checker::{Refusal, check};
 use field::lent::Heightfield;
 use flood::story::NOBODY;
 use growth::grow::{GROWTH_ROOM, grow};
@@ -32,34 +31,19 @@ use space::{clear, clear_part, copy, copy_part};
 use table::any_above;
 use wipe::wipe;
 
-// What the region entry gives: the refusal, or max_region, the overlap count, and the number of records cut short.
+// The sizes that a caller gives: the border's, the least area that a room keeps, and the greatest that is merged away.
 #[derive(Clone, Copy)]
-pub enum RegionAnswer {
-    Refused(Refusal),
-    Done(u16, u16, u16),
+pub struct RegionSizes {
+    pub border: u16,
+    pub least: u16,
+    pub merge: u16,
 }
 
 // Refusal 8.
 fn too_far(dist: &[u16], max_distance: u16) -> bool
     ensures { result ≡ too_far dist.now max_distance }
 {
-    if 510 < max_distance {
-        return true;
-    }
-    any_above(dist, max_distance)
-}
-
-// Refusal 7 or 8: the workspace is too short, or a distance is too far.
-fn own_refusal(short: bool, far: bool) -> Verdict
-    ensures { verdict_number result ≡ own_refusal short far }
-{
-    if short {
-        return Verdict::Refused(Refusal::TooShort);
-    }
-    if far {
-        return Verdict::Refused(Refusal::TooFar);
-    }
-    Verdict::Sound
+    510 < max_distance || any_above(dist, max_distance)
 }
 
 // The first of refusals 1 to 8 that applies; work and own are the lengths of the workspace and of the list of ids.
@@ -69,18 +53,18 @@ pub(crate) fn check_regions(
     max_distance: u16,
     work: usize,
     own: usize,
-) -> Verdict
+) -> Result<(), Refusal>
     ensures { let F = seen field.now in
         verdict_number result ≡ region_refusal F (length dist.now ∷ own ∷ []) work dist.now max_distance }
 {
-    match check(field, dist.len(), own) {
-        Verdict::Refused(r) => Verdict::Refused(r),
-        Verdict::Sound => {
-            let short = work < 128 * field.area.len() + 4096;
-            let far = too_far(dist, max_distance);
-            own_refusal(short, far)
-        }
+    check(field, dist.len(), own)?;
+    if work < 128 * field.area.len() + 4096 {
+        return Err(Refusal::TooShort);
     }
+    if too_far(dist, max_distance) {
+        return Err(Refusal::TooFar);
+    }
+    Ok(())
 }
 
 // "Records run from 0 to the next id, both included", and the next id is at most n + 5: so many more than there are spans.
@@ -161,30 +145,19 @@ pub(crate) fn ready_records(ws: &mut [u16], m: usize, n: usize)
     }
 }
 
-// What growth and the stages after it find: the refusal that stops growth, and the regions.
-#[derive(Clone, Copy)]
-pub struct Found {
-    pub stop: u16,
-    pub regions: Regions,
-}
-
-// The regions of a field that is not refused. The table of neighbours stands past the most that the records take.
+// The regions of a field that 1 to 8 let pass, or what stops growth. The table of neighbours stands past the most that the records take.
 fn find_regions(
     field: &Heightfield,
     dist: &[u16],
     max_distance: u16,
-    border_size: u16,
-    min_region_area: u16,
-    merge_region_area: u16,
+    sizes: RegionSizes,
     ws: &mut [u16],
     ids: &mut [u16],
-) -> Found
+) -> Result<Regions, Refusal>
     requires { Admitted (seen field.now) dist.now ws.old ids.old }
     ensures fact { (let F = seen field.now in
-        let z : Sizes = record { border = border_size; least = min_region_area; merge = merge_region_area } in
-        let v = result.regions in
-        let found : rules.Regions = record { ids = ids.new; most = v.max_region; over = v.overlaps; cut = v.cut } in
-        Finds F dist.now max_distance z ids.old result.stop found) }
+        let z = sizes_of sizes in
+        Finds F dist.now max_distance z ids.old (regions_refused_by result) (regions_of result ids.new)) }
     ensures ws_after { ws.new ≡ replicate (length ws.old) 0 }
     ensures bytes { Bytes (seen field.now) }
 {
@@ -194,7 +167,7 @@ fn find_regions(
         field,
         dist,
         max_distance,
-        border_size,
+        sizes.border,
         ws,
         ids,
         table,
@@ -202,24 +175,14 @@ fn find_regions(
     );
     if g.stop != GOES_ON {
         wipe(ws);
-        return Found {
-            stop: g.stop,
-            regions: Regions {
-                max_region: 0,
-                overlaps: 0,
-                cut: 0,
-            },
-        };
+        return Err(stop_refusal(g.stop));
     }
     let next = g.next as usize;
     ready_records(ws, next + 1, n);
     build_records(field, ids, ws, table, next);
-    let r = merge_and_filter_regions(ws, ids, next + 1, n, min_region_area, merge_region_area);
+    let r = merge_and_filter_regions(ws, ids, next + 1, n, sizes.least, sizes.merge);
     wipe(ws);
-    Found {
-        stop: GOES_ON,
-        regions: r,
-    }
+    Ok(r)
 }
 
 // Ids of the regions of any lists, in either form: a field that is refused leaves ids and workspace as they were.
@@ -228,39 +191,20 @@ fn build_form(
     field: &Heightfield,
     dist: &[u16],
     max_distance: u16,
-    border_size: u16,
-    min_region_area: u16,
-    merge_region_area: u16,
+    sizes: RegionSizes,
     workspace: &mut [u16],
     ids: &mut [u16],
-) -> RegionAnswer
+) -> Result<Regions, Refusal>
     ensures fact { (let F = seen field.now in
-        let z : Sizes = record { border = border_size; least = min_region_area; merge = merge_region_area } in
+        let z = sizes_of sizes in
         let o = region_outcome (form_of form) F dist.now max_distance z workspace.old ids.old in
         AnswersRegions o result workspace.new ids.new) }
     ensures rooms { let F = seen field.now in
-        GivesRooms (form_of form) F border_size result ids.new }
+        GivesRooms (form_of form) F sizes.border result ids.new }
 {
-    match check_regions(field, dist, max_distance, workspace.len(), ids.len()) {
-        Verdict::Refused(r) => RegionAnswer::Refused(r),
-        Verdict::Sound => {
-            let f = find_regions(
-                field,
-                dist,
-                max_distance,
-                border_size,
-                min_region_area,
-                merge_region_area,
-                workspace,
-                ids,
-            );
-            if f.stop != GOES_ON {
-                return RegionAnswer::Refused(stop_refusal(f.stop));
-            }
-            let x = give_form(form, border_size, ids, f.regions);
-            RegionAnswer::Done(x.max_region, x.overlaps, x.cut)
-        }
-    }
+    check_regions(field, dist, max_distance, workspace.len(), ids.len())?;
+    let r = find_regions(field, dist, max_distance, sizes, workspace, ids)?;
+    Ok(give_form(form, sizes.border, ids, r))
 }
 
 // The dense form: the ids in use are 1 to max_region.
@@ -273,7 +217,7 @@ pub fn build_regions(
     merge_region_area: u16,
     workspace: &mut [u16],
     ids: &mut [u16],
-) -> RegionAnswer
+) -> Result<Regions, Refusal>
     ensures fact { (let F = seen field.now in
         let z : Sizes = record { border = border_size; least = min_region_area; merge = merge_region_area } in
         let o = region_outcome dense F dist.now max_distance z workspace.old ids.old in
@@ -286,9 +230,11 @@ pub fn build_regions(
         field,
         dist,
         max_distance,
-        border_size,
-        min_region_area,
-        merge_region_area,
+        RegionSizes {
+            border: border_size,
+            least: min_region_area,
+            merge: merge_region_area,
+        },
         workspace,
         ids,
     )
@@ -304,7 +250,7 @@ pub fn build_regions_compared(
     merge_region_area: u16,
     workspace: &mut [u16],
     ids: &mut [u16],
-) -> RegionAnswer
+) -> Result<Regions, Refusal>
     ensures fact { (let F = seen field.now in
         let z : Sizes = record { border = border_size; least = min_region_area; merge = merge_region_area } in
         let o = region_outcome compared F dist.now max_distance z workspace.old ids.old in
@@ -317,9 +263,11 @@ pub fn build_regions_compared(
         field,
         dist,
         max_distance,
-        border_size,
-        min_region_area,
-        merge_region_area,
+        RegionSizes {
+            border: border_size,
+            least: min_region_area,
+            merge: merge_region_area,
+        },
         workspace,
         ids,
     )

@@ -2,7 +2,6 @@
 use native.Mathlib.Omega.{arith}
 use Rattle.distance.proofs.Values.{con_in}
 use Rattle.distance.proofs.Sides.{least_is}
-use borrow.Author.Rules.{rules}
 use Rattle.distance.proofs.pass.least_at.Goals as goal
 
 pub bounds-raw-p : goal.bounds-raw-p

@@ -1,7 +1,6 @@
 -- `lowered` is the rule's least: a value of at most 2 is the least at once.
 use native.Mathlib.Omega.{arith}
 use Rattle.distance.proofs.Sides.{least_low}
-use borrow.Author.Rules.{rules}
 use Rattle.distance.proofs.pass.lowered.Goals as goal
 
 pub bounds-raw-p : goal.bounds-raw-p

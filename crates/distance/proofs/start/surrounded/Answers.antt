@@ -1,6 +1,6 @@
 -- `surrounded` is the rule's test of four connections; the first that is none decides.
 use native.Mathlib.Omega.{arith}
-use mathlib.Core.Path.{refl, sym, ◌∙◌}
+use mathlib.Core.Path.{sym, ◌∙◌}
 use mathlib.Core.Bool.{true≢false}
 use borrow.Author.Tests.{ltb-true, le-ltb}
 use Rattle.distance.proofs.Values.{ringed_past, ringed_last, ringed_over}

@@ -28,9 +28,6 @@ returns-then-t-ne-GOES_ON c = record {
   story_value = λ z. absurd (c.if-t-ne-GOES_ON.true z);
 }
 
-pub loop-left-smaller : goal.loop-left-smaller
-loop-left-smaller c = omega (arith, c.loop-left-test.true)
-
 pub loop-left-preserved : goal.loop-left-preserved
 loop-left-preserved c = let e : c.args.count - (c.loop-left.left - 1) ≡ suc (c.args.count - c.loop-left.left) = omega (arith, c.loop-left-test.true, c.loop-left.invariant.0) in (
   omega (arith, c.loop-left.invariant.0),

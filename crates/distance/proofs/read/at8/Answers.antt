@@ -1,7 +1,7 @@
 -- `at8` reads one element. What is read is a byte of the list, which is all that the cast and the bound ask.
 use native.Mathlib.Omega.{arith}
 use borrow.Author.Rules.{rules}
-use Rattle.field.proofs.read.at8.Goals as goal
+use Rattle.distance.proofs.read.at8.Goals as goal
 
 pub overflow_cast-result : goal.overflow_cast-result
 overflow_cast-result c = omega (arith, c.type_inv.s c.args.i)

@@ -1,7 +1,7 @@
 -- `at32` reads one element. What is read is a u32 of the list, which is all that the cast and the bound ask.
 use native.Mathlib.Omega.{arith}
 use borrow.Author.Rules.{rules}
-use Rattle.field.proofs.read.at32.Goals as goal
+use Rattle.distance.proofs.read.at32.Goals as goal
 
 pub overflow_cast-result : goal.overflow_cast-result
 overflow_cast-result c = omega (arith, c.type_inv.s c.args.i)

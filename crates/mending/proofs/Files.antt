@@ -4,7 +4,7 @@ use Prim.Native.Nat.{ℕ, ◌*◌, ◌≤◌}
 use native.Mathlib.Omega.{arith}
 use mathlib.Core.Path.{◌≡◌, sym, ap, subst, ◌∙◌}
 use mathlib.Core.List.{List}
-use Rattle.std.specs.Prelude.{⊥, Result, Ok, Err}
+use Rattle.std.specs.Prelude.{Result, Ok, Err}
 use lib.ListN.{length}
 use borrow.Author.Tests.{ne_eqb}
 use Rattle.rules.specs.Base.{when◌then◌else◌}
@@ -22,9 +22,10 @@ use Rattle.file.specs.declared.read.FileRefusal.{FileRefusal}
 use Rattle.file.specs.declared.read.Header.{Header}
 use Rattle.file.specs.declared.read.FileReading.{FileReading}
 use Rattle.file.specs.declared.read.FileReading.TheVariants as file
-use Rattle.mending.specs.Patch.{MendedFile, bytes_mended, field_mended, read_mended, mended_file, Placed}
+use Rattle.mending.specs.Patch.{MendedFile, filed, bytes_mended, field_mended, read_mended, mended_file, Placed}
 use Rattle.mending.specs.declared.whole.Mended.{Mended}
 use Rattle.mending.specs.declared.whole.FiledRefusal.{FiledRefusal}
+use Rattle.mending.specs.declared.whole.FiledRefusal.TheVariants as why
 
 mend-number_pos : (r : MendRefusal) → mend_number r ≡ 0 → ⊥
 mend-number_pos (Field r) e = omega (arith, number_pos r, e)
@@ -34,7 +35,7 @@ module _ (F : rules.Field) (changes bytes con l : List ℕ) (a : Result ℕ Mend
   as_case : (b : Result ℕ MendRefusal) → a ≡ b → mend_outcome F changes ≡ outcome b con l
   as_case b z = sym e ∙ ap (λ (v : Result ℕ MendRefusal). outcome v con l) z
 
-  pub field_refused : (r : MendRefusal) → a ≡ Err r → ◌≡◌ {A = MendedFile} (record { number = mend_number r; bytes = bytes }) (field_mended F changes bytes)
+  pub field_refused : (r : MendRefusal) → a ≡ Err r → filed (Err (why.Field r)) bytes ≡ field_mended F changes bytes
   unfolding field_mended when◌then◌else◌
   field_refused r z = rw (as_case (Err r) z, ne_eqb (mend_number r) 0 (mend-number_pos r))
 

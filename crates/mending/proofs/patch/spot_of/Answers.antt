@@ -8,3 +8,9 @@ loop-cell-init c = (search (rules, cell-start), search (rules, layer_start))
 
 pub loop-cell-preserved : goal.loop-cell-preserved
 loop-cell-preserved c = (search (rules, cell_on_lem), search (rules, layer_on))
+
+pub returns-then-left-k : goal.returns-then-left-k
+returns-then-left-k c = (search (rules, cell_found), search (rules, layer_found), search rules)
+
+pub returns : goal.returns
+returns c = (search (rules, cell-end), search (rules, layer_end), search rules)

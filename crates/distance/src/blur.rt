@@ -112,7 +112,7 @@ fn blur_block(field: &Heightfield, raw: &[u16], blurred: &mut [u16], x: usize, k
     blur_columns(field, raw, blurred, x, k, y);
 }
 
-// Row y, block by block.
+// Row y, block by block: the loop strides.
 pub fn blur_row(field: &Heightfield, raw: &[u16], blurred: &mut [u16], y: usize)
     requires { let F = seen field.now in
         Reached F × (length raw.now ≡ length F.area) × (length blurred.old ≡ length F.area) × (y < F.h) }

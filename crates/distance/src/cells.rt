@@ -52,7 +52,7 @@ fn spread_block(field: &Heightfield, cells: &mut [u16], c: usize, k: usize)
     spread_cells(field, cells, c, k);
 }
 
-// For all spans, block by block.
+// For all spans, block by block: the loop strides.
 pub fn spread(field: &Heightfield, cells: &mut [u16])
     requires { let F = seen field.now in
         Reached F × (length cells.old ≡ length F.area) }

@@ -54,7 +54,7 @@ fn beside(
     lower(raw, t.0, 2, b)
 }
 
-// The same where neighbour d may be missing.
+// The same where neighbour d may be missing. Pass 1 does without the test here, since it has asked all four at once.
 fn side(
     field: &Heightfield,
     raw: &[u16],
@@ -181,7 +181,7 @@ fn pass1_block(field: &Heightfield, raw: &mut [u16], x: usize, k: usize, y: usiz
     pass1_columns(field, raw, x, k, y);
 }
 
-// The start and pass 1 over row y, columns upward, block by block: what row y and the rows after it held is not looked at.
+// The start and pass 1 over row y, columns upward, block by block, so that the loop strides: what row y and the rows after it held is not looked at.
 pub fn pass1_row(field: &Heightfield, raw: &mut [u16], y: usize)
     requires { let F = seen field.now in
         Reached F × (y < F.h) × LowBefore F (F.w * y) raw.old }
@@ -278,7 +278,7 @@ fn pass2_block(field: &Heightfield, raw: &mut [u16], x: usize, k: usize, y: usiz
     pass2_columns(field, raw, x, k, y);
 }
 
-// Pass 2 over row y, columns downward, block by block.
+// Pass 2 over row y, columns downward, block by block: the loop strides.
 pub fn pass2_row(field: &Heightfield, raw: &mut [u16], y: usize)
     requires { let F = seen field.now in
         Reached F × (y < F.h) × Low F raw.old }
@@ -307,7 +307,7 @@ fn unsettled(raw: &[u16], s: usize) -> usize
 }
 
 // Pass 2 over all spans from the last to the first; cells has the cell of each. A cell's layers do not read each other, so their order is free.
-// Those that can't become less have a loop of their own, as in pass 1.
+// Those that can't become less have a loop of their own, as in pass 1, and the loop here jumps over them.
 pub fn pass2(field: &Heightfield, raw: &mut [u16], cells: &[u16])
     requires { let F = seen field.now in
         Reached F × Low F raw.old × (cells.now ≡ cells_of F) }

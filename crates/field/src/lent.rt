@@ -2,7 +2,7 @@
 
 ghost use Rattle.std.specs.Prelude.{ℕ, ◌<◌, get_or};
 
-// Width and height in cells; of each cell the index of its first span and the count of its spans; of each span its area and four connections. An area code is a byte.
+// Width and height in cells; of each cell the index of its first span and the count of its spans; of each span its area and four connections.
 #[derive(Clone, Copy)]
 pub struct Heightfield<'a> {
     pub w: usize,
@@ -11,5 +11,6 @@ pub struct Heightfield<'a> {
     pub count: &'a [u8],
     pub area: &'a [u8],
     pub con: &'a [u8],
+    // An area code is a byte.
     ghost codes: { (i : ℕ) → get_or area.now i 0 < 256 },
 }

@@ -1,4 +1,4 @@
-// What the walk reads.
+// What a walk that writes connections is lent to read.
 ghost use Rattle.std.specs.Prelude.{ℕ, ◌<◌, get_or};
 
 // The field but for its connections, which the walk writes. An area code is a byte.

@@ -82,7 +82,7 @@ pub(crate) fn pass2_rows(field: &Heightfield, pass1: &[u16], raw: &mut [u16], a:
     }
 }
 
-// Row y of pass 2: whether it comes out as stored.
+// Row y of pass 2: whether it comes out as stored. Its twin redo1_row reads no second list; one function for both has no shorter clause.
 fn redo2_row(
     field: &Heightfield,
     pass1: &[u16],

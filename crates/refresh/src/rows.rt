@@ -59,7 +59,7 @@ pub(crate) fn row_part(field: &Heightfield, y: usize) -> Part
     }
 }
 
-// A part of one list into another.
+// A part of one list into another, place by place as its rule has it.
 pub(crate) fn copy_part(values: &[u16], to: &mut [u16], a: usize, b: usize)
     requires { (a ≤ b) × (b ≤ length values.now) × (b ≤ length to.old) }
     ensures { to.new ≡ part_to values.now a b to.old }

@@ -12,9 +12,9 @@ mod whole;
 
 ghost use Rattle.std.specs.Prelude.{◌≤◌};
 
-use crate::place::{Asked, NO_NUMBER, number};
+use crate::place::Asked;
 use crate::whole::tell_file;
-use console::{arg, arg_count, buffer, fail, read_first};
+use console::{arg, arg_count, buffer, fail, number, read_first};
 use file::read::{FilePlace, place};
 use std::io::{Read, Result};
 use std::rt::Env;
@@ -42,13 +42,11 @@ fn tell_input(
     }
 }
 
-// Argument k as a number.
-fn argument(rt: &impl Env, k: usize) -> u32 {
+// Argument k as a number of at most five places.
+fn argument(rt: &impl Env, k: usize) -> Option<u32> {
     let mut text = buffer();
-    match arg(rt, k, &mut text) {
-        Ok(n) => number(&text[..n]),
-        Err(_) => NO_NUMBER,
-    }
+    let n = arg(rt, k, &mut text).ok()?;
+    number(&text[..n], 99999)
 }
 
 fn main(rt: HostRuntime) -> Result<()> {

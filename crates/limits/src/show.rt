@@ -1,19 +1,17 @@
 // A call of the entry, and what it gave.
-ghost use Rattle.field.specs.Seen.{seen};
-
-use checker::refusal_number;
+use checker::Refusal;
 use field::lent::Heightfield;
-use std::io::Result;
-use watershed::{DistanceAnswer, build_distance_field};
+use std::io;
+use watershed::build_distance_field;
 
 // A line for the answer: refused and its number, or max_distance and its value.
-fn answer(rt: &impl Print, r: DistanceAnswer) -> Result<()> {
+fn answer(rt: &impl Print, r: Result<u16, Refusal>) -> io::Result<()> {
     match r {
-        DistanceAnswer::Refused(k) => {
-            let n = refusal_number(k);
+        Ok(m) => println!(rt; "max_distance {m}"),
+        Err(r) => {
+            let n = r.number();
             println!(rt; "refused {n}")
         }
-        DistanceAnswer::Done(m) => println!(rt; "max_distance {m}"),
     }
 }
 
@@ -23,26 +21,18 @@ fn mix(h: u64, v: u16) -> u64 {
 }
 
 fn digest(l: &[u16]) -> u64 {
-    let mut h: u64 = 0;
-    for i in 0..l.len() {
-        h = mix(h, l[i]);
-    }
-    h
+    l.iter().fold(0, |h, &v| mix(h, v))
 }
 
-fn number(rt: &impl Print, v: u16) -> Result<()> {
-    print!(rt; " {v}")
-}
-
-fn numbers(rt: &impl Print, l: &[u16]) -> Result<()> {
-    for i in 0..l.len() {
-        number(rt, l[i])?;
+fn numbers(rt: &impl Print, l: &[u16]) -> io::Result<()> {
+    for v in l {
+        print!(rt; " {v}")?;
     }
     Ok(())
 }
 
 // The numbers of a short list; of a long one its length and a digest.
-pub(crate) fn list(rt: &impl Print, name: &str, l: &[u16]) -> Result<()> {
+pub(crate) fn list(rt: &impl Print, name: &str, l: &[u16]) -> io::Result<()> {
     print!(rt; "{name}")?;
     if 64 < l.len() {
         let length = l.len();
@@ -55,7 +45,12 @@ pub(crate) fn list(rt: &impl Print, name: &str, l: &[u16]) -> Result<()> {
 }
 
 // A call, its answer, and the two lists after it.
-fn call(rt: &impl Print, field: &Heightfield, raw: &mut [u16], blurred: &mut [u16]) -> Result<()> {
+fn call(
+    rt: &impl Print,
+    field: &Heightfield,
+    raw: &mut [u16],
+    blurred: &mut [u16],
+) -> io::Result<()> {
     let r = build_distance_field(field, raw, blurred);
     answer(rt, r)?;
     list(rt, "raw", raw)?;
@@ -70,11 +65,8 @@ fn lend(
     b: &mut [u16],
     m: usize,
     n: usize,
-) -> Result<()> {
-    if a.len() < m {
-        return Ok(());
-    }
-    if b.len() < n {
+) -> io::Result<()> {
+    if a.len() < m || b.len() < n {
         return Ok(());
     }
     call(rt, field, &mut a[..m], &mut b[..n])
@@ -87,7 +79,7 @@ pub(crate) fn run(
     field: &Heightfield,
     raws: usize,
     blurs: usize,
-) -> Result<()> {
+) -> io::Result<()> {
     print!(rt; "{name}: ")?;
     let mut a = [7u16; 65001];
     let mut b = [7u16; 65001];

@@ -11,31 +11,10 @@ mod whole;
 ghost use Rattle.std.specs.Prelude.{◌≤◌};
 
 use crate::whole::print_file;
-use console::{arg, arg_count, buffer, fail, read_first};
+use console::{arg, arg_count, buffer, fail, number, read_first};
 use file::read::{FilePlace, place};
 use std::io::{Read, Result};
 use std::rt::Env;
-
-// The number that the text is, 0 where it is none or above 999: no scale is 0.
-fn scale(text: &[u8]) -> u16 {
-    let mut v: u16 = 0;
-    let mut i: usize = 0;
-    while i < text.len() {
-        let b = text[i];
-        if b < 48 {
-            return 0;
-        }
-        if 57 < b {
-            return 0;
-        }
-        if 99 < v {
-            return 0;
-        }
-        v = v * 10 + (b - 48) as u16;
-        i += 1;
-    }
-    v
-}
 
 fn tell_place(rt: &impl Eprint, bytes: &[u8]) -> Result<()> {
     match place(bytes) {
@@ -62,7 +41,12 @@ fn main(rt: HostRuntime) -> Result<()> {
     }
     let mut text = buffer();
     match arg(&rt, 1, &mut text) {
-        Ok(n) => print_input(&rt, &mut rt.stdin(), scale(&text[..n])),
+        // No scale is 0.
+        Ok(n) => print_input(
+            &rt,
+            &mut rt.stdin(),
+            number(&text[..n], 999).unwrap_or(0) as u16,
+        ),
         Err(e) => fail(&rt, "the scale", &e),
     }
 }

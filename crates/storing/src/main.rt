@@ -45,12 +45,9 @@ fn read_input(rt: &(impl Env + Print + Eprint + Alloc), from: &mut impl Read) ->
 }
 
 fn main(rt: HostRuntime) -> Result<()> {
-    let n = arg_count(&rt, 3);
-    if n == 1 {
-        return store_input(&rt, &mut rt.stdin());
+    match arg_count(&rt, 3) {
+        1 => store_input(&rt, &mut rt.stdin()),
+        2 => read_input(&rt, &mut rt.stdin()),
+        _ => eprintln!(rt; "usage: storing <FIELD, or storing SPAN <RESULT"),
     }
-    if n == 2 {
-        return read_input(&rt, &mut rt.stdin());
-    }
-    eprintln!(rt; "usage: storing <FIELD, or storing SPAN <RESULT")
 }

@@ -14,6 +14,7 @@ use Rattle.checker.specs.Answer.{number_of, verdict_number}
 use Rattle.checker.specs.declared.Refusal.{Refusal}
 use Rattle.std.specs.Prelude.{Result, Ok, Err}
 use Rattle.field.proofs.Passed.{reached_of}
+use Rattle.watershed.specs.Stages.{own_refusal}
 use Rattle.checker.proofs.Numbers.{number_pos}
 
 module _ (dist : List ℕ) (most : ℕ) where
@@ -58,3 +59,9 @@ module _ (F : Field) (lens : List ℕ) (work : ℕ) (dist : List ℕ) (most : �
       pub then_none : false ≡ too_far dist most → 0 ≡ region_refusal F lens work dist most
       unfolding region_refusal when◌then◌else◌ too_short
       then_none f = rw (eq-eqb (refusal F lens) 0 none, le-ltb work (128 * spans F + 4096) h, ← f)
+
+    -- both in their order, as one number
+    pub then_own : (short far : Bool) → short ≡ ltb work (128 * spans F + 4096) → far ≡ too_far dist most → (u : Result Unit Refusal) → verdict_number u ≡ own_refusal short far
+        → verdict_number u ≡ region_refusal F lens work dist most
+    unfolding region_refusal when◌then◌else◌ too_short own_refusal
+    then_own short far p q u h = h ∙ rw (eq-eqb (refusal F lens) 0 none, p, q)

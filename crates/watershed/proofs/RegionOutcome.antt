@@ -71,14 +71,11 @@ module _ (F : Field) (dist : List ℕ) (most : ℕ) (ws ids : List ℕ) (v : Res
     passes : not (eqb (region_refusal F (length dist ∷ length ids ∷ []) (length ws) dist most) 0) ≡ false
     passes = rw (eq-eqb (region_refusal F (length dist ∷ length ids ∷ []) (length ws) dist most) 0 none) refl
 
-    -- what the stages find, x: where growth is stopped
-    module _ (z : Sizes) (x : Result numbering.Regions Refusal) (ids₁ : List ℕ) (g : Finds F dist most z ids (regions_refused_by x) (regions_of x ids₁))
-        (ws' : List ℕ) (q : ws' ≡ replicate (length ws) 0) where
-      pub regions_stopped : (form : Form) (r : Refusal) → x ≡ Err r → AnswersRegions (region_outcome form F dist most z ws ids) (Err r) ws' ids₁
+    -- what the stages find, g, where growth is stopped
+    module _ (z : Sizes) (stop : ℕ) (v₁ : Regions) (g : Finds F dist most z ids stop v₁) (ws' : List ℕ) (q : ws' ≡ replicate (length ws) 0) where
+      pub regions_stopped : (form : Form) (r : Refusal) → number_of r ≡ stop → (stop ≡ 0 → ⊥) → AnswersRegions (region_outcome form F dist most z ws ids) (Err r) ws' v₁.ids
       unfolding region_outcome when◌then◌else◌
-      regions_stopped form r t =
-          let e : number_of r ≡ regions_refused_by x = ap regions_refused_by (sym t) in
-          let o : regions_refused_by x ≡ 0 → ⊥ = λ k. omega (arith, number_pos r, e, k) in
+      regions_stopped form r e o =
           let p : not (eqb (stops F dist most z.border) 0) ≡ true = rw (ne_eqb (stops F dist most z.border) 0 (λ k. o (g.stops ∙ k))) refl in
           record {
             refused = rw (passes, p) (e ∙ g.stops);
@@ -88,6 +85,14 @@ module _ (F : Field) (dist : List ℕ) (most : ℕ) (ws ids : List ℕ) (v : Res
             workspace = rw (passes, p) q;
             ids = rw (passes, p) (g.back o);
           }
+
+    -- what they find, as a result x: a refusal is handed on
+    module _ (z : Sizes) (x : Result numbering.Regions Refusal) (ids₁ : List ℕ) (g : Finds F dist most z ids (regions_refused_by x) (regions_of x ids₁))
+        (ws' : List ℕ) (q : ws' ≡ replicate (length ws) 0) where
+      pub regions_handed : (form : Form) (r : Refusal) → x ≡ Err r → AnswersRegions (region_outcome form F dist most z ws ids) (Err r) ws' ids₁
+      regions_handed form r t =
+          let e : number_of r ≡ regions_refused_by x = ap regions_refused_by (sym t) in
+          regions_stopped z (regions_refused_by x) (regions_of x ids₁) g ws' q form r e (λ k. omega (arith, number_pos r, e, k))
 
       -- and what the form makes of it, y, where it is not
       pub regions_done : (form : Form) (v y : numbering.Regions) (ids' : List ℕ) → x ≡ Ok v → Bytes F

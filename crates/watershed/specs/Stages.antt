@@ -1,5 +1,6 @@
 -- What refusals 1 to 8 leave to the stages of the region entry.
-use Rattle.std.specs.Prelude.{ℕ, ◌+◌, ◌*◌, ◌≤◌, ◌≡◌, List, length, get_or}
+use Rattle.std.specs.Prelude.{ℕ, ◌+◌, ◌*◌, ◌≤◌, Bool, ◌≡◌, List, length, get_or}
+use Rattle.rules.specs.Base.{when◌then◌else◌}
 use Rattle.rules.specs.Field.{Field, spans}
 use Rattle.rules.specs.Net.{net_of}
 use Rattle.rules.specs.Growth.{grown, stops}
@@ -16,6 +17,10 @@ pub record Admitted (F : Field) (dist ws ids : List ℕ) : Type 0 where
   pub distances : length dist ≡ spans F
   pub idents : length ids ≡ spans F
   pub room : 128 * spans F + 4096 ≤ length ws
+
+-- 7 and 8 in their order: the workspace is too short, a distance is too far
+unfoldable pub own_refusal : Bool → Bool → ℕ
+own_refusal short far = when short then 7 else when far then 8 else 0
 
 -- where the table of neighbours begins, of n spans: past the records, of which there are at most n + 6, from 0 to the next id
 abbrev pub table_at : ℕ → ℕ

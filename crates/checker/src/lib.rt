@@ -69,6 +69,8 @@ pub fn check(field: &Heightfield, a: usize, b: usize) -> Result<(), Refusal>
     ensures { let F = seen field.now in
         verdict_number result ≡ refusal F (a ∷ b ∷ []) }
 {
+    // A copy of its own, so that the compiler keeps it in registers.
+    let field = &{ *field };
     if MOST_CELLS_A_SIDE < field.w {
         return Err(Refusal::TooWide);
     }

@@ -134,6 +134,8 @@ pub fn box_blur(field: &Heightfield, raw: &[u16], blurred: &mut [u16])
     ensures { let F = seen field.now in
         blurred.new ≡ rules.blur F raw.now }
 {
+    // A copy of its own, so that the compiler keeps it in registers.
+    let field = &{ *field };
     for s in 0..field.area.len() {
         let p = Place {
             cell: at16(blurred, s),

@@ -58,6 +58,8 @@ pub fn spread(field: &Heightfield, cells: &mut [u16])
         Reached F × (length cells.old ≡ length F.area) }
     ensures { cells.new ≡ cells_of (seen field.now) }
 {
+    // A copy of its own, so that the compiler keeps it in registers.
+    let field = &{ *field };
     let all = field.w * field.h;
     let mut c: usize = 0;
     while c < all {

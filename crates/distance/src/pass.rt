@@ -222,6 +222,8 @@ pub fn pass1(field: &Heightfield, raw: &mut [u16], cells: &[u16])
     ensures { let F = seen field.now in
         (raw.new ≡ rules.pass1 F (rules.start F)) × Low F raw.new }
 {
+    // A copy of its own, so that the compiler keeps it in registers.
+    let field = &{ *field };
     let mut next = edges(field, raw, 0);
     while let Some(s) = next {
         let p = Place {
@@ -314,6 +316,8 @@ pub fn pass2(field: &Heightfield, raw: &mut [u16], cells: &[u16])
     ensures { let F = seen field.now in
         raw.new ≡ rules.pass2 F raw.old }
 {
+    // A copy of its own, so that the compiler keeps it in registers.
+    let field = &{ *field };
     let mut s = field.area.len();
     while 0 < s {
         s -= 1;

@@ -147,6 +147,8 @@ pub fn build_records(field: &Heightfield, ids: &[u16], ws: &mut [u16], table: us
     ensures { let F = seen field.now in
         Built F ids.now next ws.old ws.new }
 {
+    // A copy of its own, so that the compiler keeps it in registers.
+    let field = &{ *field };
     let plan = Plan {
         records: next + 1,
         table,

@@ -16,16 +16,6 @@ pub enum FiledRefusal {
     Field(MendRefusal),
 }
 
-impl From<MendRefusal> for FiledRefusal {
-    ghost use Rattle.mending.specs.declared.whole.FiledRefusal.TheVariants.{Field};
-
-    ghost from_gives = { λ r e. e ≡ Field r };
-
-    fn from(r: MendRefusal) -> FiledRefusal {
-        FiledRefusal::Field(r)
-    }
-}
-
 impl FiledRefusal {
     // The number that is printed.
     pub fn number(self) -> u16
@@ -61,12 +51,18 @@ fn mend_field(
         filed result bytes.new ≡ field_mended F changes.old bytes.old }
     ensures placed { Placed result changes.new }
 {
-    let made = mend(w, h, index, count, area, con, changes)? as usize;
-    mend_bytes(bytes, count, changes, made);
-    Ok(Mended {
-        width: w as usize,
-        changes: made,
-    })
+    // No `?`: the proof of its way out did not close.
+    match mend(w, h, index, count, area, con, changes) {
+        Ok(made) => {
+            let k = made as usize;
+            mend_bytes(bytes, count, changes, k);
+            Ok(Mended {
+                width: w as usize,
+                changes: k,
+            })
+        }
+        Err(r) => Err(FiledRefusal::Field(r)),
+    }
 }
 
 // The field that the lists hold at their beginning: the header's cells, and n spans.

@@ -4,8 +4,8 @@ ghost use Rattle.field.specs.Lent.{Sound};
 ghost use Rattle.refresh.specs.Part.{FirstCell, LastCell, RowPart, part_to, same_part};
 ghost use Rattle.field.specs.Seen.{seen};
 
-use field::lent::Heightfield;
 use distance::read::{at8, at32};
+use field::lent::Heightfield;
 
 // Spans from number `from` on, up to number `to`, which is not among them.
 #[derive(Clone, Copy)]

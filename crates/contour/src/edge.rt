@@ -56,10 +56,16 @@ pub fn first_solid(
     ensures { let net = net_at table ids.now ws.now in
         result ≡ edge_of (first_solid net ids.now span.0) }
 {
-    for d in 0..4 {
-        if is_solid_edge(ids, ws, table, cons, span, d) {
-            return Some(d);
+    // The form that document 01 asks for here: a loop that yields the direction by `break`.
+    let mut d: usize = 0;
+    let found = loop {
+        if d == 4 {
+            break None;
         }
-    }
-    None
+        if is_solid_edge(ids, ws, table, cons, span, d) {
+            break Some(d);
+        }
+        d += 1;
+    };
+    found
 }

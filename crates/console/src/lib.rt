@@ -91,7 +91,9 @@ pub fn text(bytes: &[u8]) -> Result<&str>
 }
 
 // Argument k as text, in buf.
-pub fn arg_text<'a>(rt: &impl Env, k: usize, buf: &'a mut [u8]) -> Result<&'a str> {
+pub fn arg_text<'a>(rt: &impl Env, k: usize, buf: &'a mut [u8]) -> Result<&'a str>
+    ensures { IfOk result (λ t. length t.now ≤ length buf.old) }
+{
     let n = arg(rt, k, buf)?;
     text(&buf[..n])
 }

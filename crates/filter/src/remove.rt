@@ -36,7 +36,7 @@ fn lists_flagged(l: &[u16]) -> bool
     any_above(l, LAST_UNFLAGGED)
 }
 
-// Does one of the f found list a flagged id? `any` over the range was tried, and its proof stayed open.
+// Does one of the f found list a flagged id?
 fn any_flagged(ws: &[u16], m: usize, f: usize) -> bool
     requires { Gathered m f ws.now }
     ensures { result ≡ any_flagged (recs_of ws.now m) (found_in ws.now m f) }

@@ -25,12 +25,15 @@ fn rename_list(ws: &mut [u16], m: usize, x: usize, names: Renaming)
     }
 }
 
+// The id of a record that is dead.
+const DEAD: u16 = 0;
+
 // The same, of any record but the pair; a dead record's list stays.
 fn rename_one(ws: &mut [u16], m: usize, x: usize, pair: Pair, names: Renaming)
     requires { Parts m (lists_at m) ws.old × (x < m) × (floor_parts_at m ≤ list_start ws.old m x) }
     ensures { Passed m x pair.absorbed pair.absorber names.old names.new ws.old ws.new }
 {
-    if ws[x] != 0 && x != pair.absorbed && x != pair.absorber {
+    if ws[x] != DEAD && x != pair.absorbed && x != pair.absorber {
         rename_list(ws, m, x, names);
     }
 }

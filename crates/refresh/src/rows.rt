@@ -4,7 +4,6 @@ ghost use Rattle.field.specs.Lent.{Sound};
 ghost use Rattle.refresh.specs.Part.{FirstCell, LastCell, RowPart, part_to, same_part};
 ghost use Rattle.field.specs.Seen.{seen};
 
-use distance::read::{at8, at32};
 use field::lent::Heightfield;
 
 // Spans from number `from` on, up to number `to`, which is not among them.
@@ -54,8 +53,8 @@ pub(crate) fn row_part(field: &Heightfield, y: usize) -> Part
     }
     let last = c + z - 1;
     Part {
-        from: at32(field.index, c + a),
-        to: at32(field.index, last) + at8(field.count, last),
+        from: field.index[c + a] as usize,
+        to: field.index[last] as usize + field.count[last] as usize,
     }
 }
 

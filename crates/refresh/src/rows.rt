@@ -58,14 +58,12 @@ pub(crate) fn row_part(field: &Heightfield, y: usize) -> Part
     }
 }
 
-// A part of one list into another, place by place as its rule has it.
+// A part of one list into another.
 pub(crate) fn copy_part(values: &[u16], to: &mut [u16], a: usize, b: usize)
     requires { (a ≤ b) × (b ≤ length values.now) × (b ≤ length to.old) }
     ensures { to.new ≡ part_to values.now a b to.old }
 {
-    for i in a..b {
-        to[i] = values[i];
-    }
+    to[a..b].copy_from_slice(&values[a..b]);
 }
 
 // Whether a part of one list holds what another holds there.
@@ -73,10 +71,5 @@ pub(crate) fn same_part(old: &[u16], new: &[u16], a: usize, b: usize) -> bool
     requires { (a ≤ b) × (b ≤ length old.now) × (b ≤ length new.now) }
     ensures { result ≡ same_part old.now new.now a b }
 {
-    for i in a..b {
-        if new[i] != old[i] {
-            return false;
-        }
-    }
-    true
+    &new[a..b] == &old[a..b]
 }

@@ -6,7 +6,6 @@ ghost use Rattle.rules.specs.Rows.{over_cell, blur_to, blur_row};
 ghost use Rattle.distance.specs.Walk.{columns_up, cells_of};
 ghost use Rattle.field.specs.Seen.{seen};
 
-use crate::read::{at8, at16, at32};
 use field::block::{block_of, is_empty};
 use field::lent::Heightfield;
 use field::place::{NO_LAYER, Place, SpanIx, connections, follow};
@@ -38,14 +37,14 @@ fn term(field: &Heightfield, raw: &[u16], cons: [u8; 4], p: Place, d: usize, v: 
     }
     let q = follow(field.w, field.index, cons, p.cell, d);
     let t = q.span;
-    let x = at16(raw, t.0);
+    let x = raw[t.0] as usize;
     let next = connections(field.con, t);
     let e = (d + 1) % 4;
     if next[e] == NO_LAYER {
         return x + v;
     }
     let k = follow(field.w, field.index, next, q.cell, e);
-    x + at16(raw, k.span.0)
+    x + raw[k.span.0] as usize
 }
 
 // The blurred value of the span at place p.
@@ -55,7 +54,7 @@ fn blur_span(field: &Heightfield, raw: &[u16], p: Place) -> u16
     ensures { let F = seen field.now in
         result ≡ rules.blur_at F raw.now p.span.0 }
 {
-    let v = at16(raw, p.span.0);
+    let v = raw[p.span.0] as usize;
     if v <= THRESHOLD {
         return v as u16;
     }
@@ -74,8 +73,8 @@ fn blur_cell(field: &Heightfield, raw: &[u16], blurred: &mut [u16], c: usize)
     ensures { let F = seen field.now in
         blurred.new ≡ over_cell F (blur_to F raw.now) c blurred.old }
 {
-    let i = at32(field.index, c);
-    let k = at8(field.count, c);
+    let i = field.index[c] as usize;
+    let k = field.count[c] as usize;
     for j in 0..k {
         let s = i + j;
         let p = Place {
@@ -138,7 +137,7 @@ pub fn box_blur(field: &Heightfield, raw: &[u16], blurred: &mut [u16])
     let field = &{ *field };
     for s in 0..field.area.len() {
         let p = Place {
-            cell: at16(blurred, s),
+            cell: blurred[s] as usize,
             span: SpanIx(s),
         };
         blurred[s] = blur_span(field, raw, p);

@@ -5,7 +5,6 @@ ghost use Rattle.rules.specs.Rows.{over_cell};
 ghost use Rattle.distance.specs.Walk.{note_cell, cells_up, cells_of};
 ghost use Rattle.field.specs.Seen.{seen};
 
-use crate::read::{at8, at32};
 use field::block::{block_of, is_empty};
 use field::lent::Heightfield;
 
@@ -16,8 +15,8 @@ fn spread_cell(field: &Heightfield, cells: &mut [u16], c: usize)
     ensures { let F = seen field.now in
         cells.new ≡ over_cell F (note_cell F) c cells.old }
 {
-    let i = at32(field.index, c);
-    let k = at8(field.count, c);
+    let i = field.index[c] as usize;
+    let k = field.count[c] as usize;
     if k == 1 {
         cells[i] = c as u16;
         return;

@@ -6,5 +6,4 @@ pub mod blur;
 pub mod cells;
 pub mod distances;
 pub mod pass;
-pub mod read;
 pub mod start;

@@ -8,7 +8,6 @@ ghost use Rattle.distance.specs.Walk.{columns_up, columns_down, spans_up, high_t
 ghost use Rattle.distance.specs.Value as value;
 ghost use Rattle.field.specs.Seen.{seen};
 
-use crate::read::{at8, at16, at32};
 use crate::start::{FARTHEST, start_span, surrounded};
 use field::block::{block_of, is_empty};
 use field::lent::Heightfield;
@@ -19,11 +18,7 @@ fn lower(raw: &[u16], t: usize, n: u16, best: u16) -> u16
     requires { (t < length raw.now) × (get_or raw.now t 0 ≤ 510) × (n ≤ 3) }
     ensures { result ≡ min best (get_or raw.now t 0 + n) }
 {
-    let v = raw[t] + n;
-    if best <= v {
-        return best;
-    }
-    v
+    best.min(raw[t] + n)
 }
 
 // The least of best, neighbour d plus 2, and its neighbour e plus 3, of the span at place p, whose connections are cons; neighbour d is there.
@@ -144,8 +139,8 @@ fn pass1_cell(field: &Heightfield, raw: &mut [u16], x: usize, y: usize)
         (raw.new ≡ over_cell F (from_start F) (F.w * y + x) raw.old) × Passing F y (x + 1) raw.new }
 {
     let c = field.w * y + x;
-    let i = at32(field.index, c);
-    let k = at8(field.count, c);
+    let i = field.index[c] as usize;
+    let k = field.count[c] as usize;
     for j in 0..k {
         let s = i + j;
         let p = Place {
@@ -227,7 +222,7 @@ pub fn pass1(field: &Heightfield, raw: &mut [u16], cells: &[u16])
     let mut next = edges(field, raw, 0);
     while let Some(s) = next {
         let p = Place {
-            cell: at16(cells, s),
+            cell: cells[s] as usize,
             span: SpanIx(s),
         };
         raw[s] = from_inside(field, raw, p);
@@ -242,8 +237,8 @@ fn pass2_cell(field: &Heightfield, raw: &mut [u16], c: usize)
     ensures { let F = seen field.now in
         (raw.new ≡ over_cell F (rules.lower F 2 1 1 0) c raw.old) × Low F raw.new }
 {
-    let i = at32(field.index, c);
-    let k = at8(field.count, c);
+    let i = field.index[c] as usize;
+    let k = field.count[c] as usize;
     for j in 0..k {
         let s = i + j;
         let p = Place {
@@ -326,7 +321,7 @@ pub fn pass2(field: &Heightfield, raw: &mut [u16], cells: &[u16])
             continue;
         }
         let p = Place {
-            cell: at16(cells, s),
+            cell: cells[s] as usize,
             span: SpanIx(s),
         };
         raw[s] = least_at(field, raw, p);

@@ -4,7 +4,6 @@ ghost use Rattle.field.specs.Lent.{Sound};
 ghost use Rattle.refresh.specs.Part.{FirstCell, LastCell, RowPart, part_to, same_part};
 ghost use Rattle.field.specs.Seen.{seen};
 
-use distance::read::{at8, at32};
 use field::lent::Heightfield;
 
 // Spans from number `from` on, up to number `to`, which is not among them.
@@ -54,19 +53,17 @@ pub(crate) fn row_part(field: &Heightfield, y: usize) -> Part
     }
     let last = c + z - 1;
     Part {
-        from: at32(field.index, c + a),
-        to: at32(field.index, last) + at8(field.count, last),
+        from: field.index[c + a] as usize,
+        to: field.index[last] as usize + field.count[last] as usize,
     }
 }
 
-// A part of one list into another, place by place as its rule has it.
+// A part of one list into another.
 pub(crate) fn copy_part(values: &[u16], to: &mut [u16], a: usize, b: usize)
     requires { (a ≤ b) × (b ≤ length values.now) × (b ≤ length to.old) }
     ensures { to.new ≡ part_to values.now a b to.old }
 {
-    for i in a..b {
-        to[i] = values[i];
-    }
+    to[a..b].copy_from_slice(&values[a..b]);
 }
 
 // Whether a part of one list holds what another holds there.
@@ -74,10 +71,5 @@ pub(crate) fn same_part(old: &[u16], new: &[u16], a: usize, b: usize) -> bool
     requires { (a ≤ b) × (b ≤ length old.now) × (b ≤ length new.now) }
     ensures { result ≡ same_part old.now new.now a b }
 {
-    for i in a..b {
-        if new[i] != old[i] {
-            return false;
-        }
-    }
-    true
+    &new[a..b] == &old[a..b]
 }

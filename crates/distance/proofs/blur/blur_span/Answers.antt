@@ -5,8 +5,8 @@ use Rattle.distance.proofs.Blurs.{blur-stays, blur_mean}
 use borrow.Author.Rules.{rules}
 use Rattle.distance.proofs.blur.blur_span.Goals as goal
 
-pub at16-v-requires : goal.at16-v-requires
-at16-v-requires c = omega (arith, c.requires.1.span)
+pub bounds-raw-p : goal.bounds-raw-p
+bounds-raw-p c = omega (arith, c.requires.1.span)
 
 pub returns-then-v-le-THRESHOLD : goal.returns-then-v-le-THRESHOLD
 returns-then-v-le-THRESHOLD c = search (rules, blur-stays)

@@ -1,4 +1,5 @@
 -- The answers that the check does not find alone.
+use mathlib.Core.Path.{refl}
 use Rattle.rules.specs.Base.{upto}
 use Rattle.distance.proofs.Walks.{blur_stands, cells_sized, blur-end}
 use Rattle.distance.proofs.Blurs.{blur_next}
@@ -10,7 +11,7 @@ unfolding upto
 loop-s-init c = (search rules, search rules, search (rules, cells_sized), search rules, search rules)
 
 pub blur_span-requires : goal.blur_span-requires
-blur_span-requires c = (search rules, blur_stands _ _ _ _ _ _ _ c.requires.2 c.loop-s.invariant.3 c.loop-s-test.true c.loop-s.invariant.1 c.at16.ensures.0, search rules)
+blur_span-requires c = (search rules, blur_stands _ _ _ _ _ _ _ c.requires.2 c.loop-s.invariant.3 c.loop-s-test.true c.loop-s.invariant.1 refl, search rules)
 
 pub loop-s-preserved : goal.loop-s-preserved
 loop-s-preserved c = (search rules, search rules, search rules, blur_next _ _ _ _ _ _ c.loop-s.invariant.3 c.blur_span.ensures, search rules)

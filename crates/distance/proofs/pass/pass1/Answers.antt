@@ -9,21 +9,21 @@ use Rattle.distance.proofs.pass.pass1.Goals as goal
 pub edges-next-requires : goal.edges-next-requires
 edges-next-requires c = (search rules, search rules, search (rules, flat-first))
 
-pub at16-requires : goal.at16-requires
-at16-requires c = let n = cells_sized _ _ c.requires.2 in let g = rw c.in-Some.is at c.loop-next.invariant.2 in omega (arith, n, g.0)
+pub bounds-cells-s : goal.bounds-cells-s
+bounds-cells-s c = let n = cells_sized _ _ c.requires.2 in let g = rw c.in-Some.is at c.loop-next.invariant.2 in omega (arith, n, g.0)
 
 pub from_inside-requires-clause-place : goal.from_inside-requires-clause-place
 from_inside-requires-clause-place c =
     let g = rw c.in-Some.is at c.loop-next.invariant.2 in
     let p = rw c.in-Some.is at c.loop-next.invariant.1 in
-    let st = cell_stands _ _ _ _ _ c.requires.2 g.0 refl c.at16.ensures.0 in
+    let st = cell_stands _ _ _ _ _ c.requires.2 g.0 refl refl in
     (search rules, st, flat-left _ c.requires.0 _ _ _ p st, flat_up _ c.requires.0 _ _ _ p st)
 
 pub edges-next-requires-in-Some : goal.edges-next-requires-in-Some
 edges-next-requires-in-Some c =
     let g = rw c.in-Some.is at c.loop-next.invariant.2 in
     let p = rw c.in-Some.is at c.loop-next.invariant.1 in
-    let st = cell_stands _ _ _ _ _ c.requires.2 g.0 refl c.at16.ensures.0 in
+    let st = cell_stands _ _ _ _ _ c.requires.2 g.0 refl refl in
     (search rules, omega (arith, g.0), flat_go _ c.requires.0 _ _ _ p st c.args.field.now.codes _ c.from_inside.ensures)
 
 pub loop-next-preserved : goal.loop-next-preserved
@@ -31,7 +31,7 @@ loop-next-preserved c =
     let g = rw c.in-Some.is at c.loop-next.invariant.2 in
     let p = rw c.in-Some.is at c.loop-next.invariant.1 in
     let r = rw c.in-Some.is at c.loop-next.invariant.0 in
-    let st = cell_stands _ _ _ _ _ c.requires.2 g.0 refl c.at16.ensures.0 in
+    let st = cell_stands _ _ _ _ _ c.requires.2 g.0 refl refl in
     let one = flat-run _ c.requires.0 _ _ _ p st _ _ _ (omega arith) r c.from_inside.ensures in
     (run_join _ _ _ _ _ _ _ (omega arith) c.edges-next-in-Some.ensures.2 one c.edges-next-in-Some.ensures.0, c.edges-next-in-Some.ensures.1, c.edges-next-in-Some.ensures.3)
 

@@ -119,9 +119,6 @@ module _ (F : Field) (dist : List ℕ) (most : ℕ) (ws ids : List ℕ) (v : Res
 pub stop_is : (F : Field) (dist : List ℕ) (most border stop : ℕ) → stop ≡ stops F dist most border → (stop ≡ 0 → ⊥) → (stop ≡ 12) ⊎ (stop ≡ 13)
 stop_is F dist most border stop e o = rw e (⊎_elim (λ (k : stops F dist most border ≡ 0). absurd (o (e ∙ k))) (λ k. k) (stop_number F dist most border))
 
-pub other_stop : (r : ℕ) → (r ≡ 12) ⊎ (r ≡ 13) → (r ≡ 12 → ⊥) → 13 ≡ r
-other_stop r h z = ⊎_elim (λ (e : r ≡ 12). absurd (z e)) (λ (e : r ≡ 13). sym e) h
-
 -- ---------------------------------------------------------------- one answer
 
 answer_same : (a b : Result numbering.Regions Refusal) → regions_refused_by a ≡ regions_refused_by b → max_region_in a ≡ max_region_in b → overlaps_in a ≡ overlaps_in b → cut_in a ≡ cut_in b → a ≡ b

@@ -14,10 +14,11 @@ ghost use Rattle.watershed.specs.Explain.{explained, without_room, with_room, ro
 ghost use Rattle.field.specs.Seen.{seen};
 
 use crate::form::{first_id, lower};
-use crate::regions::{MORE_RECORDS, RegionSizes, check_regions, grow_regions, ready_records};
+use crate::regions::{
+    MORE_RECORDS, RegionSizes, check_regions, grow_regions, ready_records, stop_refusal,
+};
 use field::lent::Heightfield;
 use flood::story::{NOBODY, Story};
-use growth::turns::GOES_ON;
 use merge::merge_and_filter_told;
 use records::build::build_records;
 use records::map::{links_past, records_end};
@@ -272,7 +273,7 @@ fn explain_found(
 {
     let n = field.area.len();
     let table = records_end(n + MORE_RECORDS, n);
-    let g = grow_regions(
+    let g = match grow_regions(
         field,
         dist,
         max_distance,
@@ -281,11 +282,13 @@ fn explain_found(
         trail,
         table,
         span as u16,
-    );
-    if g.stop != GOES_ON {
-        wipe(ws);
-        return refused(g.stop);
-    }
+    ) {
+        Ok(g) => g,
+        Err(stop) => {
+            wipe(ws);
+            return refused(stop_refusal(stop).number());
+        }
+    };
     let story = g.story;
     let r = explain_grown(
         field,

@@ -1,15 +1,15 @@
 // The region entry, in its two forms.
-ghost use Rattle.std.specs.Prelude.{◌≡◌, ◌⊎◌, [], ◌∷◌, ◌+◌, ◌≤◌, length, replicate};
+ghost use Rattle.std.specs.Prelude.{◌≡◌, [], ◌∷◌, ◌+◌, ◌≤◌, length, replicate};
 ghost use Rattle.rules.specs.Base.{any};
 ghost use Rattle.rules.specs.Field.{Bytes};
 ghost use Rattle.rules.specs.Refusals.{most_spans, too_far, region_refusal};
 ghost use Rattle.rules.specs.Numbering.{dense, compared};
 ghost use Rattle.rules.specs.Outcomes.{Sizes, region_outcome};
-ghost use Rattle.rules.specs.Reasons.{story};
+ghost use Rattle.rules.specs.Reasons.{begins, story};
 ghost use Rattle.space.specs.Space.{sec, Clear};
 ghost use Rattle.field.specs.Lent.{lent};
-ghost use Rattle.flood.specs.Stories.{story_of};
 ghost use Rattle.growth.specs.Grow.{growth_room};
+ghost use Rattle.growth.specs.Stops.{stop_number, stop_of, next_of, story_in};
 ghost use Rattle.table.specs.Map.{floors_from};
 ghost use Rattle.checker.specs.Answer.{number_of, verdict_number};
 ghost use Rattle.watershed.specs.Answer.{regions_refused_by, regions_of, AnswersRegions, GivesRooms};
@@ -22,7 +22,7 @@ use checker::{Refusal, check};
 use field::lent::Heightfield;
 use flood::story::NOBODY;
 use growth::grow::{GROWTH_ROOM, grow};
-use growth::turns::{GOES_ON, Growth, IDS_RUN_OUT};
+use growth::turns::{Growth, Stop};
 use merge::merge_and_filter_regions;
 use numbering::Regions;
 use records::build::build_records;
@@ -93,15 +93,15 @@ pub(crate) fn grow_regions(
     ids: &mut [u16],
     table: usize,
     watched: u16,
-) -> Growth
+) -> Result<Growth, Stop>
     requires { let F = seen field.now in
         Admitted F dist.now ws.old ids.old
         × (table ≡ table_at (length F.area)) }
     ensures fact { let F = seen field.now in
         let ids₀ = ids.old in
-        Raised F dist.now max_distance border_size table ids₀ result.next result.stop ids.new ws.new }
+        Raised F dist.now max_distance border_size table ids₀ (next_of result) (stop_of result) ids.new ws.new }
     ensures story_value { let F = seen field.now in
-        result.stop ≡ 0 → story_of result.story ≡ story F dist.now max_distance border_size watched }
+        stop_of result ≡ 0 → story_in (begins watched) result ≡ story F dist.now max_distance border_size watched }
 {
     let n = field.area.len();
     let kept = table + 4 * n;
@@ -118,21 +118,20 @@ pub(crate) fn grow_regions(
         border_size,
         watched,
     );
-    if g.stop != GOES_ON {
+    if g.is_err() {
         put_back(ws, kept, ids);
     }
     g
 }
 
-// The refusal that stops growth, which gives it as a number.
-fn stop_refusal(stop: u16) -> Refusal
-    requires { (stop ≡ 12) ⊎ (stop ≡ 13) }
-    ensures { number_of result ≡ stop }
+// The refusal that what stops growth gives.
+pub(crate) fn stop_refusal(stop: Stop) -> Refusal
+    ensures { number_of result ≡ stop_number stop }
 {
-    if stop == IDS_RUN_OUT {
-        return Refusal::NoIds;
+    match stop {
+        Stop::NoIds => Refusal::NoIds,
+        Stop::NoSum => Refusal::NoSum,
     }
-    Refusal::NoSum
 }
 
 // The workspace is made ready for m records: growth left zeros where it worked, and no more is zeroed than the records and the lists need.
@@ -166,7 +165,7 @@ fn find_regions(
 {
     let n = field.area.len();
     let table = records_end(n + MORE_RECORDS, n);
-    let g = grow_regions(
+    let g = match grow_regions(
         field,
         dist,
         max_distance,
@@ -175,11 +174,13 @@ fn find_regions(
         ids,
         table,
         NOBODY,
-    );
-    if g.stop != GOES_ON {
-        wipe(ws);
-        return Err(stop_refusal(g.stop));
-    }
+    ) {
+        Ok(g) => g,
+        Err(stop) => {
+            wipe(ws);
+            return Err(stop_refusal(stop));
+        }
+    };
     let next = g.next as usize;
     ready_records(ws, next + 1, n);
     build_records(field, ids, ws, table, next);

@@ -11,8 +11,6 @@ use Rattle.rules.specs.Base.{when◌then◌else◌}
 use Rattle.rules.specs.Field as rules
 use Rattle.rules.specs.File.{read_file}
 use Rattle.rules.specs.Mend.{mend_outcome}
-use Rattle.checker.specs.Answer.{number_of}
-use Rattle.checker.specs.declared.Refusal.{Refusal}
 use Rattle.checker.proofs.Numbers.{number_pos}
 use Rattle.mend.specs.Answer.{mend_number, outcome}
 use Rattle.mend.specs.declared.MendRefusal.{MendRefusal}

@@ -3,7 +3,7 @@
 use Prim.Native.Nat.{ℕ, zero, suc, ◌+◌, ◌*◌, ◌≤◌}
 use native.Mathlib.Omega.{arith}
 use native.Mathlib.Decide.{ℕ_discrete}
-use mathlib.Core.Path.{◌≡◌, refl, sym, ap, subst, ◌∙◌}
+use mathlib.Core.Path.{◌≡◌, refl, sym, ap, ◌∙◌}
 use mathlib.Core.Bool.{true, false, not}
 use mathlib.Core.List.{List, [], ◌∷◌, ◌++◌}
 use Rattle.std.specs.Prelude.{Result, Ok, Err}
@@ -27,9 +27,7 @@ use Rattle.checker.specs.declared.Refusal.{Refusal}
 use Rattle.field.proofs.Passed.{reached_of}
 use Rattle.file.specs.declared.read.FileRefusal.{FileRefusal}
 use Rattle.file.specs.declared.read.Header.{Header}
-use Rattle.file.specs.declared.read.FileReading.{FileReading}
-use Rattle.file.specs.declared.read.FileReading.TheVariants as file
-use Rattle.file.specs.Reads.{file_number, sizes_of, first, reading_of, Few, Reads}
+use Rattle.file.specs.Reads.{file_number, sizes_of, first, reading_of, Reads}
 use Rattle.file.specs.Shown.{shown, numbered, Listable, Prints}
 use Rattle.watershed.specs.Answer.{Answers, AnswersRegions}
 use Rattle.numbering.specs.declared.Regions.{Regions}
@@ -207,23 +205,20 @@ module _ (F : Field) (z : Sizes) (raw bl ws ids : List ℕ) (p : length raw ≡ 
 
 -- ---------------------------------------------------------------- the file
 
-pub file_few : (x : FileReading) → Few x → (t : Header) (n : ℕ) → x ≡ file.Described t n → Few (file.Described t n)
-file_few x f t n u = subst (λ (v : FileReading). Few v) u f
-
 module _ (bytes : List ℕ) (out : List ℕ) (r : ℕ) (out' : List ℕ) where
-  module _ (is ks ar cs is' ks' ar' cs' : List ℕ) (x : FileReading) (b : Reads bytes is ks ar cs x is' ks' ar' cs') where
-    pub file_refused : (k : FileRefusal) → x ≡ file.Refused k → (j : ℕ) → j ≡ file_number k → Prints out (refused_line j) r out' → Prints out (printed bytes) r out'
+  module _ (is ks ar cs is' ks' ar' cs' : List ℕ) (x : Result (Header × ℕ) FileRefusal) (b : Reads bytes is ks ar cs x is' ks' ar' cs') where
+    pub file_refused : (k : FileRefusal) → x ≡ Err k → (j : ℕ) → j ≡ file_number k → Prints out (refused_line j) r out' → Prints out (printed bytes) r out'
     unfolding printed answered
     file_refused k u j f y =
-        let e : refused (file_number k) ≡ read_file bytes = ap (λ (v : FileReading). reading_of v is' ks' ar' cs') (sym u) ∙ b.same in
+        let e : refused (file_number k) ≡ read_file bytes = ap (λ (v : Result (Header × ℕ) FileRefusal). reading_of v is' ks' ar' cs') (sym u) ∙ b.same in
         rw (← e, ← f) y
 
-    module _ (t : Header) (n : ℕ) (u : x ≡ file.Described t n) where
+    module _ (t : Header) (n : ℕ) (u : x ≡ Ok (t, n)) where
       pub file_described : Prints out (ran (record { field = first t.w t.h (t.w * t.h) n is' ks' ar' cs'; sizes = sizes_of t })) r out' → Prints out (printed bytes) r out'
       unfolding printed answered
       file_described y =
           let e : described (record { field = first t.w t.h (t.w * t.h) n is' ks' ar' cs'; sizes = sizes_of t }) ≡ read_file bytes
-          = ap (λ (v : FileReading). reading_of v is' ks' ar' cs') (sym u) ∙ b.same in
+          = ap (λ (v : Result (Header × ℕ) FileRefusal). reading_of v is' ks' ar' cs') (sym u) ∙ b.same in
           rw (← e) y
 
 -- what is printed lies within out

@@ -2,16 +2,15 @@
 
 #![tactic(auto)]
 
-ghost use Rattle.std.specs.Prelude.{◌*◌, ◌≤◌, length};
+ghost use Rattle.std.specs.Prelude.{◌*◌, ◌≤◌, length, Ok};
 ghost use Rattle.rules.specs.Listing.{ran, printed};
 ghost use Rattle.field.specs.Seen.{seen};
 ghost use Rattle.file.specs.Reads.{Few, Lists, first, sizes_of};
-ghost use Rattle.file.specs.declared.read.FileReading.TheVariants.{Described};
 ghost use Rattle.file.specs.Shown.{Prints};
 ghost use Rattle.answer.specs.Answers.{Buffers, Fitting, Own, second};
 
 use field::lent::Heightfield;
-use file::read::{FileReading, Header, file_number, read_file};
+use file::read::{Header, read_file};
 use file::write::{write_listing, write_refused};
 use std::io::Result;
 use watershed::{build_distance_field, build_regions};
@@ -96,7 +95,7 @@ fn print_first(
     out: &mut [u8],
 ) -> usize
     requires { Lists index.now count.now area.now con.now × Buffers raw.old blurred.old workspace.old ids.old out.old
-        × Few (Described head n) }
+        × Few (Ok (head, n)) }
     ensures { let F = first head.w head.h (head.w * head.h) n index.now count.now
         area.now con.now in
         Prints out.old (ran (record { field = F; sizes = sizes_of head })) result out.new }
@@ -139,8 +138,8 @@ fn answer(
     ensures { Prints out.old (printed bytes.now) result out.new }
 {
     match read_file(bytes, index, count, area, con) {
-        FileReading::Refused(k) => write_refused(out, file_number(k)),
-        FileReading::Described(head, n) => {
+        Err(r) => write_refused(out, r.number()),
+        Ok((head, n)) => {
             print_first(
                 head, n, index, count, area, con, raw, blurred, workspace, ids, out,
             )

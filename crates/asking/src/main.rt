@@ -14,17 +14,10 @@ ghost use Rattle.std.specs.Prelude.{◌≤◌};
 
 use crate::place::Asked;
 use crate::whole::tell_file;
-use console::{arg, arg_count, buffer, fail, number, read_first};
-use file::read::{FilePlace, place};
+use console::{arg, arg_count, buffer, fail, number, read_first, tell_place};
+use file::read::place;
 use std::io::{Read, Result};
 use std::rt::Env;
-
-fn tell_place(rt: &impl Eprint, bytes: &[u8]) -> Result<()> {
-    match place(bytes) {
-        FilePlace::At(p) => eprintln!(rt; "position {p}"),
-        FilePlace::Nowhere => Ok(()),
-    }
-}
 
 // A read that fails is told.
 fn tell_input(
@@ -36,7 +29,7 @@ fn tell_input(
     match read_first(from, &mut bytes) {
         Ok(n) => {
             tell_file(rt, &bytes[..n], asked)?;
-            tell_place(rt, &bytes[..n])
+            tell_place(rt, place(&bytes[..n]))
         }
         Err(e) => fail(rt, "standard input", &e),
     }

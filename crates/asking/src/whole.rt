@@ -1,13 +1,12 @@
 // From a file's bytes to what is told of a span: the distances, and then the build that is explained.
-ghost use Rattle.std.specs.Prelude.{◌≤◌, length};
+ghost use Rattle.std.specs.Prelude.{◌≤◌, length, Ok};
 ghost use Rattle.file.specs.Reads.{Few, Lists};
-ghost use Rattle.file.specs.declared.read.FileReading.TheVariants.{Described};
 
 use crate::place::{Asked, Missing, find};
 use crate::print::{print_number, print_told, print_two};
 use console::print_refused;
 use field::lent::Heightfield;
-use file::read::{FileReading, Header, file_number, read_file};
+use file::read::{Header, read_file};
 use std::io::Result;
 use watershed::{build_distance_field, explain_span};
 
@@ -72,7 +71,7 @@ fn tell_first(
     area: &[u8],
     con: &[u8],
 ) -> Result<()>
-    requires { Lists index.now count.now area.now con.now × Few (Described head n) }
+    requires { Lists index.now count.now area.now con.now × Few (Ok (head, n)) }
 {
     let w = head.w as usize;
     let h = head.h as usize;
@@ -107,9 +106,7 @@ pub(crate) fn tell_file(rt: &impl Print, bytes: &[u8], asked: Asked) -> Result<(
     let mut area = [0u8; 200];
     let mut con = [0u8; 800];
     match read_file(bytes, &mut index, &mut count, &mut area, &mut con) {
-        FileReading::Refused(x) => print_refused(rt, file_number(x)),
-        FileReading::Described(head, n) => tell_first(
-            rt, head, n, asked, &index, &count, &area, &con,
-        ),
+        Err(r) => print_refused(rt, r.number()),
+        Ok((head, n)) => tell_first(rt, head, n, asked, &index, &count, &area, &con),
     }
 }

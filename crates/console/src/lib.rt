@@ -130,6 +130,14 @@ pub fn print_refused(rt: &impl Print, n: u16) -> Result<()> {
     println!(rt; "refused {n}")
 }
 
+// On standard error, the place where a file is refused, if it is.
+pub fn tell_place(rt: &impl Eprint, at: Option<u32>) -> Result<()> {
+    match at {
+        Some(p) => eprintln!(rt; "position {p}"),
+        None => Ok(()),
+    }
+}
+
 #[cfg(test)]
 mod tests {
     use super::*;

@@ -13,11 +13,13 @@ pub enum FileRefusal {
     TooLarge = 21,
 }
 
-// Document 01's number of a file's refusal.
-pub fn file_number(r: FileRefusal) -> u16
-    ensures { result ≡ file_number r }
-{
-    r as u16
+impl FileRefusal {
+    // Document 01's number.
+    pub fn number(self) -> u16
+        ensures { result ≡ file_number self }
+    {
+        self as u16
+    }
 }
 
 // The numbers of a file's header.
@@ -28,21 +30,6 @@ pub struct Header {
     pub border: u16,
     pub least: u16,
     pub merge: u16,
-}
-
-// What reading a file comes to: a refusal, or its header and the number of its spans, the field being in the lent lists. An enum of its own, as `FilePlace`
-// below: the programs match on its cases by name.
-#[derive(Clone, Copy)]
-pub enum FileReading {
-    Refused(FileRefusal),
-    Described(Header, usize),
-}
-
-// Where a file is refused.
-#[derive(Clone, Copy)]
-pub enum FilePlace {
-    At(u32),
-    Nowhere,
 }
 
 // The most cells and spans of a file's field.
@@ -87,25 +74,25 @@ fn header_of(l: Loader) -> Header
 }
 
 // What a loader's numbers say of its file: 0 and 21 are numbers there, since a loader is the C interface's.
-fn reading(l: Loader) -> FileReading
+fn reading(l: Loader) -> Result<(Header, usize), FileRefusal>
     requires { l.refusal ≡ 0 → Short l }
     ensures { result ≡ reading_in l }
 {
     match l.refusal {
-        0 => FileReading::Described(header_of(l), l.spans as usize),
-        21 => FileReading::Refused(FileRefusal::TooLarge),
-        _ => FileReading::Refused(FileRefusal::Malformed),
+        0 => Ok((header_of(l), l.spans as usize)),
+        21 => Err(FileRefusal::TooLarge),
+        _ => Err(FileRefusal::Malformed),
     }
 }
 
-// A file's field into the lent lists.
+// A file's field into the lent lists: its header and the number of its spans.
 pub fn read_file(
     bytes: &[u8],
     index: &mut [u32],
     count: &mut [u8],
     area: &mut [u8],
     con: &mut [u8],
-) -> FileReading
+) -> Result<(Header, usize), FileRefusal>
     requires { Lists index.old count.old area.old con.old }
     ensures { Reads bytes.now index.old count.old area.old con.old
         result index.new count.new area.new con.new }
@@ -113,18 +100,18 @@ pub fn read_file(
     reading(load_whole(bytes, index, count, area, con))
 }
 
-fn place_in(l: Loader) -> FilePlace
+fn place_in(l: Loader) -> Option<u32>
     ensures { result ≡ place_in l }
 {
     if l.refusal == 0 {
-        FilePlace::Nowhere
+        None
     } else {
-        FilePlace::At(l.position)
+        Some(l.position)
     }
 }
 
-// The place where a file is refused.
-pub fn place(bytes: &[u8]) -> FilePlace
+// The place where a file is refused, if it is.
+pub fn place(bytes: &[u8]) -> Option<u32>
     ensures { result ≡ place_by (read_file_at 1024 200 bytes.now) }
 {
     let mut index = [0u32; 1024];

@@ -5,18 +5,11 @@
 #![tactic(auto)]
 
 use answer::print_reply;
-use console::{arg_count, arg_text, buffer, fail, read_first};
-use file::read::{FilePlace, place};
+use console::{arg_count, arg_text, buffer, fail, read_first, tell_place};
+use file::read::place;
 use std::fs;
 use std::io::{Read, Result};
 use std::rt::{Env, Files};
-
-fn tell_place(rt: &impl Eprint, bytes: &[u8]) -> Result<()> {
-    match place(bytes) {
-        FilePlace::At(p) => eprintln!(rt; "position {p}"),
-        FilePlace::Nowhere => Ok(()),
-    }
-}
 
 // A read that fails is told, by name.
 fn print_file(rt: &(impl Print + Eprint + Alloc), from: &mut impl Read, name: &str) -> Result<()> {
@@ -24,7 +17,7 @@ fn print_file(rt: &(impl Print + Eprint + Alloc), from: &mut impl Read, name: &s
     match read_first(from, &mut bytes) {
         Ok(n) => {
             print_reply(rt, &bytes[..n])?;
-            tell_place(rt, &bytes[..n])
+            tell_place(rt, place(&bytes[..n]))
         }
         Err(e) => fail(rt, name, &e),
     }

@@ -11,17 +11,10 @@ mod whole;
 ghost use Rattle.std.specs.Prelude.{◌≤◌};
 
 use crate::whole::print_file;
-use console::{arg, arg_count, buffer, fail, number, read_first};
-use file::read::{FilePlace, place};
+use console::{arg, arg_count, buffer, fail, number, read_first, tell_place};
+use file::read::place;
 use std::io::{Read, Result};
 use std::rt::Env;
-
-fn tell_place(rt: &impl Eprint, bytes: &[u8]) -> Result<()> {
-    match place(bytes) {
-        FilePlace::At(p) => eprintln!(rt; "position {p}"),
-        FilePlace::Nowhere => Ok(()),
-    }
-}
 
 // A read that fails is told.
 fn print_input(rt: &(impl Print + Eprint + Alloc), from: &mut impl Read, k: u16) -> Result<()> {
@@ -29,7 +22,7 @@ fn print_input(rt: &(impl Print + Eprint + Alloc), from: &mut impl Read, k: u16)
     match read_first(from, &mut bytes) {
         Ok(n) => {
             print_file(rt, &bytes[..n], k)?;
-            tell_place(rt, &bytes[..n])
+            tell_place(rt, place(&bytes[..n]))
         }
         Err(e) => fail(rt, "standard input", &e),
     }

@@ -1,12 +1,11 @@
 // From a file's bytes to the table of its rooms: both entries, and then one record after the other.
-ghost use Rattle.std.specs.Prelude.{◌≤◌, length};
+ghost use Rattle.std.specs.Prelude.{◌≤◌, length, Ok};
 ghost use Rattle.file.specs.Reads.{Few, Lists};
-ghost use Rattle.file.specs.declared.read.FileReading.TheVariants.{Described};
 
 use crate::print::print_room;
 use console::print_refused;
 use field::lent::Heightfield;
-use file::read::{FileReading, Header, file_number, read_file};
+use file::read::{Header, read_file};
 use sizes::measure_room;
 use std::io::Result;
 use watershed::{build_distance_field, build_regions};
@@ -74,7 +73,7 @@ fn print_first(
     area: &[u8],
     con: &[u8],
 ) -> Result<()>
-    requires { Lists index.now count.now area.now con.now × Few (Described head n) }
+    requires { Lists index.now count.now area.now con.now × Few (Ok (head, n)) }
 {
     let w = head.w as usize;
     let h = head.h as usize;
@@ -109,7 +108,7 @@ pub(crate) fn print_file(rt: &impl Print, bytes: &[u8], k: u16) -> Result<()> {
     let mut area = [0u8; 200];
     let mut con = [0u8; 800];
     match read_file(bytes, &mut index, &mut count, &mut area, &mut con) {
-        FileReading::Refused(x) => print_refused(rt, file_number(x)),
-        FileReading::Described(head, n) => print_first(rt, head, n, k, &index, &count, &area, &con),
+        Err(r) => print_refused(rt, r.number()),
+        Ok((head, n)) => print_first(rt, head, n, k, &index, &count, &area, &con),
     }
 }

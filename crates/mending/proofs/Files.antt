@@ -11,8 +11,6 @@ use Rattle.rules.specs.Base.{when◌then◌else◌}
 use Rattle.rules.specs.Field as rules
 use Rattle.rules.specs.File.{read_file}
 use Rattle.rules.specs.Mend.{mend_outcome}
-use Rattle.checker.specs.Answer.{number_of}
-use Rattle.checker.specs.declared.Refusal.{Refusal}
 use Rattle.checker.proofs.Numbers.{number_pos}
 use Rattle.mend.specs.Answer.{mend_number, outcome}
 use Rattle.mend.specs.declared.MendRefusal.{MendRefusal}
@@ -20,8 +18,6 @@ use Rattle.mend.specs.declared.MendRefusal.TheVariants.{Field, NoRoom}
 use Rattle.file.specs.Reads.{file_number, first, reading_of, Reads}
 use Rattle.file.specs.declared.read.FileRefusal.{FileRefusal}
 use Rattle.file.specs.declared.read.Header.{Header}
-use Rattle.file.specs.declared.read.FileReading.{FileReading}
-use Rattle.file.specs.declared.read.FileReading.TheVariants as file
 use Rattle.mending.specs.Patch.{MendedFile, filed, bytes_mended, field_mended, read_mended, mended_file, Placed}
 use Rattle.mending.specs.declared.whole.Mended.{Mended}
 use Rattle.mending.specs.declared.whole.FiledRefusal.{FiledRefusal}
@@ -44,18 +40,18 @@ module _ (F : rules.Field) (changes bytes con l : List ℕ) (a : Result ℕ Mend
   unfolding field_mended when◌then◌else◌
   field_made k z bytes' f = rw (as_case (Ok k) z, f)
 
-module _ (bytes changes is ks ar cs is' ks' ar' cs' : List ℕ) (x : FileReading) (b : Reads bytes is ks ar cs x is' ks' ar' cs') where
-  read_case : (y : FileReading) → x ≡ y → read_file bytes ≡ reading_of y is' ks' ar' cs'
-  read_case y u = sym b.same ∙ ap (λ (v : FileReading). reading_of v is' ks' ar' cs') u
+module _ (bytes changes is ks ar cs is' ks' ar' cs' : List ℕ) (x : Result (Header × ℕ) FileRefusal) (b : Reads bytes is ks ar cs x is' ks' ar' cs') where
+  read_case : (y : Result (Header × ℕ) FileRefusal) → x ≡ y → read_file bytes ≡ reading_of y is' ks' ar' cs'
+  read_case y u = sym b.same ∙ ap (λ (v : Result (Header × ℕ) FileRefusal). reading_of v is' ks' ar' cs') u
 
-  pub file_refused : (k : FileRefusal) → x ≡ file.Refused k → ◌≡◌ {A = MendedFile} (record { number = file_number k; bytes = bytes }) (mended_file bytes changes)
+  pub file_refused : (k : FileRefusal) → x ≡ Err k → ◌≡◌ {A = MendedFile} (record { number = file_number k; bytes = bytes }) (mended_file bytes changes)
   unfolding mended_file read_mended
-  file_refused k u = rw (read_case (file.Refused k) u)
+  file_refused k u = rw (read_case (Err k) u)
 
-  pub file_described : (t : Header) (n : ℕ) → x ≡ file.Described t n → (y : MendedFile)
+  pub file_described : (t : Header) (n : ℕ) → x ≡ Ok (t, n) → (y : MendedFile)
       → y ≡ field_mended (first t.w t.h (t.w * t.h) n is' ks' ar' cs') changes bytes → y ≡ mended_file bytes changes
   unfolding mended_file read_mended
-  file_described t n u y f = rw (read_case (file.Described t n) u) f
+  file_described t n u y f = rw (read_case (Ok (t, n)) u) f
 
 -- the changes of an answer that made some
 pub placed_made : (r : Result Mended FiledRefusal) (changes : List ℕ) → Placed r changes → (m : Mended) → r ≡ Ok m → 3 * m.changes ≤ length changes

@@ -11,16 +11,9 @@ ghost use Rattle.std.specs.Prelude.{◌+◌, ◌*◌, ◌≤◌, ◌<◌, length
 
 use crate::patch::{Spot, spot_of};
 use crate::whole::mend_file;
-use console::{buffer, fail, print_refused, read_first};
-use file::read::{FilePlace, place};
+use console::{buffer, fail, print_refused, read_first, tell_place};
+use file::read::place;
 use std::io::Result;
-
-fn tell_place(rt: &impl Eprint, bytes: &[u8]) -> Result<()> {
-    match place(bytes) {
-        FilePlace::At(p) => eprintln!(rt; "position {p}"),
-        FilePlace::Nowhere => Ok(()),
-    }
-}
 
 // Change number k.
 fn tell_change(rt: &impl Eprint, w: usize, count: &[u8], changes: &[u16], k: usize) -> Result<()>
@@ -69,7 +62,7 @@ fn print_mended(rt: &(impl Print + Eprint), bytes: &mut [u8]) -> Result<()> {
     ) {
         Err(r) => {
             print_refused(rt, r.number())?;
-            tell_place(rt, bytes)
+            tell_place(rt, place(bytes))
         }
         Ok(m) => {
             rt.write_all(bytes)?;

@@ -1,12 +1,11 @@
 // A file mended: read, its field mended, and the changes made in its bytes.
-ghost use Rattle.std.specs.Prelude.{◌≡◌, ◌*◌, ◌≤◌, length};
+ghost use Rattle.std.specs.Prelude.{◌≡◌, ◌*◌, ◌≤◌, length, Ok};
 ghost use Rattle.field.specs.Lent.{lent};
 ghost use Rattle.file.specs.Reads.{Few, Lists, first};
-ghost use Rattle.file.specs.declared.read.FileReading.TheVariants.{Described};
 ghost use Rattle.mending.specs.Patch.{field_mended, mended_file, filed, filed_number, Placed};
 
 use crate::patch::mend_bytes;
-use file::read::{FileReading, FileRefusal, Header, file_number, read_file};
+use file::read::{FileRefusal, Header, read_file};
 use mend::{MendRefusal, mend};
 
 // Why a file is not mended: it is no field's, or its field is refused.
@@ -22,7 +21,7 @@ impl FiledRefusal {
         ensures { result ≡ filed_number self }
     {
         match self {
-            FiledRefusal::File(r) => file_number(r),
+            FiledRefusal::File(r) => r.number(),
             FiledRefusal::Field(r) => r.number(),
         }
     }
@@ -76,7 +75,7 @@ fn mend_first(
     con: &mut [u8],
     changes: &mut [u16],
 ) -> Result<Mended, FiledRefusal>
-    requires { Lists index.now count.now area.now con.old × Few (Described head n) × (length changes.old ≤ 2400) }
+    requires { Lists index.now count.now area.now con.old × Few (Ok (head, n)) × (length changes.old ≤ 2400) }
     ensures bytes_after { let c = head.w * head.h in
         let F = first head.w head.h c n index.now count.now area.now con.old in
         filed result bytes.new ≡ field_mended F changes.old bytes.old }
@@ -109,9 +108,7 @@ pub(crate) fn mend_file(
     ensures placed { Placed result changes.new }
 {
     match read_file(bytes, index, count, area, con) {
-        FileReading::Refused(r) => Err(FiledRefusal::File(r)),
-        FileReading::Described(head, n) => {
-            mend_first(head, n, bytes, index, count, area, con, changes)
-        }
+        Err(r) => Err(FiledRefusal::File(r)),
+        Ok((head, n)) => mend_first(head, n, bytes, index, count, area, con, changes),
     }
 }

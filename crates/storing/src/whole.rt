@@ -1,11 +1,10 @@
 // From a field file's bytes to its stored result: both entries, the ids in the old form, and runs.
-ghost use Rattle.std.specs.Prelude.{◌≤◌, length};
+ghost use Rattle.std.specs.Prelude.{◌≤◌, length, Ok};
 ghost use Rattle.file.specs.Reads.{Few, Lists};
-ghost use Rattle.file.specs.declared.read.FileReading.TheVariants.{Described};
 
 use console::print_refused;
 use field::lent::Heightfield;
-use file::read::{FileReading, Header, file_number, read_file};
+use file::read::{Header, read_file};
 use std::io::Result;
 use stored::ids::old_form;
 use stored::pack;
@@ -93,7 +92,7 @@ fn print_first(
     area: &[u8],
     con: &[u8],
 ) -> Result<()>
-    requires { Lists index.now count.now area.now con.now × Few (Described head n) }
+    requires { Lists index.now count.now area.now con.now × Few (Ok (head, n)) }
 {
     let w = head.w as usize;
     let h = head.h as usize;
@@ -127,7 +126,7 @@ pub(crate) fn print_file(rt: &impl Print, bytes: &[u8]) -> Result<()> {
     let mut area = [0u8; 200];
     let mut con = [0u8; 800];
     match read_file(bytes, &mut index, &mut count, &mut area, &mut con) {
-        FileReading::Refused(x) => print_refused(rt, file_number(x)),
-        FileReading::Described(head, n) => print_first(rt, head, n, &index, &count, &area, &con),
+        Err(r) => print_refused(rt, r.number()),
+        Ok((head, n)) => print_first(rt, head, n, &index, &count, &area, &con),
     }
 }

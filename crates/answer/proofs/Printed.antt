@@ -3,9 +3,10 @@
 use Prim.Native.Nat.{ℕ, zero, suc, ◌+◌, ◌*◌, ◌≤◌}
 use native.Mathlib.Omega.{arith}
 use native.Mathlib.Decide.{ℕ_discrete}
-use mathlib.Core.Path.{◌≡◌, refl, sym, ap, subst, ◌∙◌}
+use mathlib.Core.Path.{◌≡◌, refl, sym, ap, ◌∙◌}
 use mathlib.Core.Bool.{true, false, not}
 use mathlib.Core.List.{List, [], ◌∷◌, ◌++◌}
+use Rattle.std.specs.Prelude.{Result, Ok, Err}
 use lib.ListN.{length, take, replicate, length-replicate, length-take}
 use lib.Dec.{eqb}
 use borrow.Author.Tests.{eq-eqb, ne_eqb, eqb-true, eqb-false, not-true, not-false}
@@ -26,15 +27,10 @@ use Rattle.checker.specs.declared.Refusal.{Refusal}
 use Rattle.field.proofs.Passed.{reached_of}
 use Rattle.file.specs.declared.read.FileRefusal.{FileRefusal}
 use Rattle.file.specs.declared.read.Header.{Header}
-use Rattle.file.specs.declared.read.FileReading.{FileReading}
-use Rattle.file.specs.declared.read.FileReading.TheVariants as file
-use Rattle.file.specs.Reads.{file_number, sizes_of, first, reading_of, Few, Reads}
+use Rattle.file.specs.Reads.{file_number, sizes_of, first, reading_of, Reads}
 use Rattle.file.specs.Shown.{shown, numbered, Listable, Prints}
 use Rattle.watershed.specs.Answer.{Answers, AnswersRegions}
-use Rattle.watershed.specs.declared.DistanceAnswer.{DistanceAnswer}
-use Rattle.watershed.specs.declared.DistanceAnswer.TheVariants as distance
-use Rattle.watershed.specs.declared.regions.RegionAnswer.{RegionAnswer}
-use Rattle.watershed.specs.declared.regions.RegionAnswer.TheVariants as region
+use Rattle.numbering.specs.declared.Regions.{Regions}
 use Rattle.checker.proofs.Numbers.{number_pos}
 use Rattle.answer.specs.Answers.{Fitting, second}
 
@@ -52,18 +48,18 @@ listing-shown w h is ks ar cs most o = rw (rows_shown w h is ks ar cs o.ids h 0)
 -- ---------------------------------------------------------------- the region entry's answer
 
 module _ (w h : ℕ) (is ks ar cs dist : List ℕ) (most : ℕ) (z : Sizes) (ws ids ws' ids' out out' : List ℕ) (r : ℕ) where
-  pub second_refused : (x : RegionAnswer) → AnswersRegions (region_outcome dense (lent w h is ks ar cs) dist most z ws ids) x ws' ids' → (k : Refusal) → x ≡ region.Refused k → (j : ℕ) → j ≡ number_of k
+  pub second_refused : (x : Result Regions Refusal) → AnswersRegions (region_outcome dense (lent w h is ks ar cs) dist most z ws ids) x ws' ids' → (k : Refusal) → x ≡ Err k → (j : ℕ) → j ≡ number_of k
       → Prints out (refused_line j) r out' → Prints out (second (lent w h is ks ar cs) dist most z ws ids) r out'
   unfolding second when◌then◌else◌
   second_refused x b k y j e p =
-      let a : AnswersRegions (region_outcome dense (lent w h is ks ar cs) dist most z ws ids) (region.Refused k) ws' ids' = rw (← y) b in
+      let a : AnswersRegions (region_outcome dense (lent w h is ks ar cs) dist most z ws ids) (Err k) ws' ids' = rw (← y) b in
       rw (ne_eqb (region_outcome dense (lent w h is ks ar cs) dist most z ws ids).refused 0 (λ v. omega (arith, a.refused, number_pos k)), ← a.refused, ← e) p
 
-  pub second_done : (x : RegionAnswer) → AnswersRegions (region_outcome dense (lent w h is ks ar cs) dist most z ws ids) x ws' ids' → (m o u : ℕ) → x ≡ region.Done m o u
-      → Prints out (listing (shown w h is ks) most (numbered m o u ids')) r out' → Prints out (second (lent w h is ks ar cs) dist most z ws ids) r out'
+  pub second_done : (x : Result Regions Refusal) → AnswersRegions (region_outcome dense (lent w h is ks ar cs) dist most z ws ids) x ws' ids' → (v : Regions) → x ≡ Ok v
+      → Prints out (listing (shown w h is ks) most (numbered v.max_region v.overlaps v.cut ids')) r out' → Prints out (second (lent w h is ks ar cs) dist most z ws ids) r out'
   unfolding second when◌then◌else◌
-  second_done x b m o u y p =
-      let a : AnswersRegions (region_outcome dense (lent w h is ks ar cs) dist most z ws ids) (region.Done m o u) ws' ids' = rw (← y) b in
+  second_done x b v y p =
+      let a : AnswersRegions (region_outcome dense (lent w h is ks ar cs) dist most z ws ids) (Ok v) ws' ids' = rw (← y) b in
       rw (
         eq-eqb (region_outcome dense (lent w h is ks ar cs) dist most z ws ids).refused 0 (sym a.refused),
         ← listing-shown w h is ks ar cs most (region_outcome dense (lent w h is ks ar cs) dist most z ws ids),
@@ -85,10 +81,10 @@ regions_accepted F dist most z ws ids =
     (λ _ _. accepted F (length dist ∷ length ids ∷ []) (length ws) dist most (eqb-true _ _ (not-false _ e))))
 
 -- the field is as the listing needs it
-pub listable : (w h : ℕ) (is ks ar cs dist : List ℕ) (most : ℕ) (z : Sizes) (ws ids ws' ids' out : List ℕ) (x : RegionAnswer) (m o u : ℕ) → Fitting w h ar ids out
-    → AnswersRegions (region_outcome dense (lent w h is ks ar cs) dist most z ws ids) x ws' ids' → x ≡ region.Done m o u → length ids' ≡ length ids → Listable w h is ks ids' out
-listable w h is ks ar cs dist most z ws ids ws' ids' out x m o u f b y n =
-    let a : AnswersRegions (region_outcome dense (lent w h is ks ar cs) dist most z ws ids) (region.Done m o u) ws' ids' = rw (← y) b in
+pub listable : (w h : ℕ) (is ks ar cs dist : List ℕ) (most : ℕ) (z : Sizes) (ws ids ws' ids' out : List ℕ) (x : Result Regions Refusal) (v : Regions) → Fitting w h ar ids out
+    → AnswersRegions (region_outcome dense (lent w h is ks ar cs) dist most z ws ids) x ws' ids' → x ≡ Ok v → length ids' ≡ length ids → Listable w h is ks ids' out
+listable w h is ks ar cs dist most z ws ids ws' ids' out x v f b y n =
+    let a : AnswersRegions (region_outcome dense (lent w h is ks ar cs) dist most z ws ids) (Ok v) ws' ids' = rw (← y) b in
     let F : Field = lent w h is ks ar cs in
     let none = regions_accepted F dist most z ws ids (sym a.refused) in
     let c = (reached_of F (length dist ∷ length ids ∷ []) none).celled in
@@ -180,21 +176,21 @@ module _ (F : Field) (z : Sizes) (raw bl ws ids : List ℕ) (p : length raw ≡ 
   unfolding ran second
   ran_is = refl
 
-  pub ran_refused : (x : DistanceAnswer) (raw' bl' : List ℕ) → Answers (distance_outcome F raw bl) x raw' bl' → (k : Refusal) → x ≡ distance.Refused k → (j : ℕ) → j ≡ number_of k
+  pub ran_refused : (x : Result ℕ Refusal) (raw' bl' : List ℕ) → Answers (distance_outcome F raw bl) x raw' bl' → (k : Refusal) → x ≡ Err k → (j : ℕ) → j ≡ number_of k
       → (out : List ℕ) (r : ℕ) (out' : List ℕ) → Prints out (refused_line j) r out' → Prints out (ran (record { field = F; sizes = z })) r out'
   unfolding when◌then◌else◌
   ran_refused v raw' bl' b k u j e out r out' y =
-      let a : Answers (distance_outcome F raw bl) (distance.Refused k) raw' bl' = rw (← u) b in
+      let a : Answers (distance_outcome F raw bl) (Err k) raw' bl' = rw (← u) b in
       let bad : refusal F (length zeros ∷ length zeros ∷ []) ≡ 0 → ⊥ = λ x. omega (arith, number_pos k, a.refused, ap (λ (o : DistanceOutcome). o.refused) (done_is F raw bl (lens ∙ x))) in
       let f : (distance_outcome F zeros zeros).refused ≡ j
       = refused_is F zeros zeros bad ∙ sym lens ∙ sym (refused_is F raw bl (λ x. bad (sym lens ∙ x))) ∙ sym a.refused ∙ sym e in
       rw (ran_is, ne_eqb (distance_outcome F zeros zeros).refused 0 (λ x. omega (arith, number_pos k, e, f)), f) y
 
-  pub ran_done : (x : DistanceAnswer) (raw' bl' : List ℕ) → Answers (distance_outcome F raw bl) x raw' bl' → (most : ℕ) → x ≡ distance.Done most → (out : List ℕ) (r : ℕ) (out' : List ℕ)
+  pub ran_done : (x : Result ℕ Refusal) (raw' bl' : List ℕ) → Answers (distance_outcome F raw bl) x raw' bl' → (most : ℕ) → x ≡ Ok most → (out : List ℕ) (r : ℕ) (out' : List ℕ)
       → Prints out (second F bl' most z ws ids) r out' → Prints out (ran (record { field = F; sizes = z })) r out'
   unfolding when◌then◌else◌
   ran_done v raw' bl' b most u out r out' y =
-      let a : Answers (distance_outcome F raw bl) (distance.Done most) raw' bl' = rw (← u) b in
+      let a : Answers (distance_outcome F raw bl) (Ok most) raw' bl' = rw (← u) b in
       let c = distance_accepted F raw bl (sym a.refused) in
       let e : distance_outcome F zeros zeros ≡ distance_outcome F raw bl = done_is F zeros zeros (sym lens ∙ c) ∙ sym (done_is F raw bl c) in
       rw (
@@ -209,23 +205,20 @@ module _ (F : Field) (z : Sizes) (raw bl ws ids : List ℕ) (p : length raw ≡ 
 
 -- ---------------------------------------------------------------- the file
 
-pub file_few : (x : FileReading) → Few x → (t : Header) (n : ℕ) → x ≡ file.Described t n → Few (file.Described t n)
-file_few x f t n u = subst (λ (v : FileReading). Few v) u f
-
 module _ (bytes : List ℕ) (out : List ℕ) (r : ℕ) (out' : List ℕ) where
-  module _ (is ks ar cs is' ks' ar' cs' : List ℕ) (x : FileReading) (b : Reads bytes is ks ar cs x is' ks' ar' cs') where
-    pub file_refused : (k : FileRefusal) → x ≡ file.Refused k → (j : ℕ) → j ≡ file_number k → Prints out (refused_line j) r out' → Prints out (printed bytes) r out'
+  module _ (is ks ar cs is' ks' ar' cs' : List ℕ) (x : Result (Header × ℕ) FileRefusal) (b : Reads bytes is ks ar cs x is' ks' ar' cs') where
+    pub file_refused : (k : FileRefusal) → x ≡ Err k → (j : ℕ) → j ≡ file_number k → Prints out (refused_line j) r out' → Prints out (printed bytes) r out'
     unfolding printed answered
     file_refused k u j f y =
-        let e : refused (file_number k) ≡ read_file bytes = ap (λ (v : FileReading). reading_of v is' ks' ar' cs') (sym u) ∙ b.same in
+        let e : refused (file_number k) ≡ read_file bytes = ap (λ (v : Result (Header × ℕ) FileRefusal). reading_of v is' ks' ar' cs') (sym u) ∙ b.same in
         rw (← e, ← f) y
 
-    module _ (t : Header) (n : ℕ) (u : x ≡ file.Described t n) where
+    module _ (t : Header) (n : ℕ) (u : x ≡ Ok (t, n)) where
       pub file_described : Prints out (ran (record { field = first t.w t.h (t.w * t.h) n is' ks' ar' cs'; sizes = sizes_of t })) r out' → Prints out (printed bytes) r out'
       unfolding printed answered
       file_described y =
           let e : described (record { field = first t.w t.h (t.w * t.h) n is' ks' ar' cs'; sizes = sizes_of t }) ≡ read_file bytes
-          = ap (λ (v : FileReading). reading_of v is' ks' ar' cs') (sym u) ∙ b.same in
+          = ap (λ (v : Result (Header × ℕ) FileRefusal). reading_of v is' ks' ar' cs') (sym u) ∙ b.same in
           rw (← e) y
 
 -- what is printed lies within out

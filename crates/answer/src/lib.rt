@@ -2,44 +2,35 @@
 
 #![tactic(auto)]
 
-ghost use Rattle.std.specs.Prelude.{◌*◌, ◌≤◌, length};
+ghost use Rattle.std.specs.Prelude.{◌*◌, ◌≤◌, length, Ok};
 ghost use Rattle.rules.specs.Listing.{ran, printed};
-ghost use Rattle.field.specs.Lent.{lent};
+ghost use Rattle.field.specs.Seen.{seen};
 ghost use Rattle.file.specs.Reads.{Few, Lists, first, sizes_of};
-ghost use Rattle.file.specs.declared.read.FileReading.TheVariants.{Described};
 ghost use Rattle.file.specs.Shown.{Prints};
 ghost use Rattle.answer.specs.Answers.{Buffers, Fitting, Own, second};
 
-use checker::refusal_number;
-use file::read::{FileReading, Header, file_number, read_file};
+use field::lent::Heightfield;
+use file::read::{Header, read_file};
 use file::write::{write_listing, write_refused};
-use watershed::{DistanceAnswer, RegionAnswer, build_distance_field, build_regions};
+use std::io::Result;
+use watershed::{build_distance_field, build_regions};
 
 // The region entry, and its answer printed.
 fn print_regions(
+    field: &Heightfield,
     head: Header,
-    index: &[u32],
-    count: &[u8],
-    area: &[u8],
-    con: &[u8],
     dist: &[u16],
     max_distance: u16,
     workspace: &mut [u16],
     ids: &mut [u16],
     out: &mut [u8],
 ) -> usize
-    requires { Fitting head.w head.h area.now ids.old out.old }
-    ensures { let F = lent head.w head.h index.now count.now area.now con.now in
-        let text = second F dist.now max_distance (sizes_of head) workspace.old ids.old in
+    requires { Fitting field.now.w field.now.h field.now.area.now ids.old out.old }
+    ensures { let text = second (seen field.now) dist.now max_distance (sizes_of head) workspace.old ids.old in
         Prints out.old text result out.new }
 {
     match build_regions(
-        head.w,
-        head.h,
-        index,
-        count,
-        area,
-        con,
+        field,
         dist,
         max_distance,
         head.border,
@@ -48,17 +39,17 @@ fn print_regions(
         workspace,
         ids,
     ) {
-        RegionAnswer::Refused(k) => write_refused(out, refusal_number(k)),
-        RegionAnswer::Done(m, o, u) => write_listing(
-            head.w as usize,
-            head.h as usize,
-            index,
-            count,
+        Err(r) => write_refused(out, r.number()),
+        Ok(r) => write_listing(
+            field.w,
+            field.h,
+            field.index,
+            field.count,
             ids,
             max_distance,
-            m,
-            o,
-            u,
+            r.max_region,
+            r.overlaps,
+            r.cut,
             out,
         ),
     }
@@ -66,28 +57,21 @@ fn print_regions(
 
 // "It runs both entries and prints."
 fn print_field(
+    field: &Heightfield,
     head: Header,
-    index: &[u32],
-    count: &[u8],
-    area: &[u8],
-    con: &[u8],
     raw: &mut [u16],
     blurred: &mut [u16],
     workspace: &mut [u16],
     ids: &mut [u16],
     out: &mut [u8],
 ) -> usize
-    requires { Fitting head.w head.h area.now ids.old out.old × Own area.now raw.old blurred.old workspace.old }
-    ensures { let F = lent head.w head.h index.now count.now area.now con.now in
-        Prints out.old (ran (record { field = F; sizes = sizes_of head })) result out.new }
+    requires fitting { Fitting field.now.w field.now.h field.now.area.now ids.old out.old }
+    requires own { Own field.now.area.now raw.old blurred.old workspace.old }
+    ensures { Prints out.old (ran (record { field = seen field.now; sizes = sizes_of head })) result out.new }
 {
-    match build_distance_field(head.w, head.h, index, count, area, con, raw, blurred) {
-        DistanceAnswer::Refused(k) => write_refused(out, refusal_number(k)),
-        DistanceAnswer::Done(m) => {
-            print_regions(
-                head, index, count, area, con, blurred, m, workspace, ids, out,
-            )
-        }
+    match build_distance_field(field, raw, blurred) {
+        Err(r) => write_refused(out, r.number()),
+        Ok(m) => print_regions(field, head, blurred, m, workspace, ids, out),
     }
 }
 
@@ -111,18 +95,24 @@ fn print_first(
     out: &mut [u8],
 ) -> usize
     requires { Lists index.now count.now area.now con.now × Buffers raw.old blurred.old workspace.old ids.old out.old
-        × Few (Described head n) }
+        × Few (Ok (head, n)) }
     ensures { let F = first head.w head.h (head.w * head.h) n index.now count.now
         area.now con.now in
         Prints out.old (ran (record { field = F; sizes = sizes_of head })) result out.new }
 {
-    let cells = head.w as usize * head.h as usize;
+    let w = head.w as usize;
+    let h = head.h as usize;
+    let field = Heightfield {
+        w,
+        h,
+        index: &index[..w * h],
+        count: &count[..w * h],
+        area: &area[..n],
+        con: &con[..4 * n],
+    };
     print_field(
+        &field,
         head,
-        &index[..cells],
-        &count[..cells],
-        &area[..n],
-        &con[..4 * n],
         &mut raw[..n],
         &mut blurred[..n],
         &mut workspace[..WORKSPACE_A_SPAN * n + WORKSPACE_BESIDE],
@@ -148,8 +138,8 @@ fn answer(
     ensures { Prints out.old (printed bytes.now) result out.new }
 {
     match read_file(bytes, index, count, area, con) {
-        FileReading::Refused(k) => write_refused(out, file_number(k)),
-        FileReading::Described(head, n) => {
+        Err(r) => write_refused(out, r.number()),
+        Ok((head, n)) => {
             print_first(
                 head, n, index, count, area, con, raw, blurred, workspace, ids, out,
             )
@@ -183,4 +173,11 @@ pub fn reply(bytes: &[u8], out: &mut [u8]) -> usize
         &mut ids,
         out,
     )
+}
+
+// Prints what is printed for a file.
+pub fn print_reply(rt: &impl Print, bytes: &[u8]) -> Result<()> {
+    let mut out = [0u8; 4096];
+    let n = reply(bytes, &mut out);
+    rt.write_all(&out[..n])
 }

@@ -12,19 +12,12 @@ mod whole;
 
 ghost use Rattle.std.specs.Prelude.{◌≤◌};
 
-use crate::place::{Asked, NO_NUMBER, number};
+use crate::place::Asked;
 use crate::whole::tell_file;
-use console::{arg, arg_count, buffer, fail, read_first};
-use file::read::{FilePlace, place};
+use console::{arg, arg_count, buffer, fail, number, read_first, tell_place};
+use file::read::place;
 use std::io::{Read, Result};
 use std::rt::Env;
-
-fn tell_place(rt: &impl Eprint, bytes: &[u8]) -> Result<()> {
-    match place(bytes) {
-        FilePlace::At(p) => eprintln!(rt; "position {p}"),
-        FilePlace::Nowhere => Ok(()),
-    }
-}
 
 // A read that fails is told.
 fn tell_input(
@@ -36,19 +29,17 @@ fn tell_input(
     match read_first(from, &mut bytes) {
         Ok(n) => {
             tell_file(rt, &bytes[..n], asked)?;
-            tell_place(rt, &bytes[..n])
+            tell_place(rt, place(&bytes[..n]))
         }
         Err(e) => fail(rt, "standard input", &e),
     }
 }
 
-// Argument k as a number.
-fn argument(rt: &impl Env, k: usize) -> u32 {
+// Argument k as a number of at most five places.
+fn argument(rt: &impl Env, k: usize) -> Option<u32> {
     let mut text = buffer();
-    match arg(rt, k, &mut text) {
-        Ok(n) => number(&text[..n]),
-        Err(_) => NO_NUMBER,
-    }
+    let n = arg(rt, k, &mut text).ok()?;
+    number(&text[..n], 99999)
 }
 
 fn main(rt: HostRuntime) -> Result<()> {

@@ -1,39 +1,28 @@
 // What was told of a span, a word and its numbers a line.
-ghost use Rattle.std.specs.Prelude.{◌≤◌, length};
-
 use crate::place::spot_of;
-use field::read::at16;
+use field::lent::Heightfield;
 use std::io::Result;
 use watershed::Explanation;
 
 // The reason that has a span whose id was taken.
 const EXPANDED: u16 = 6;
 
-pub(crate) fn print_refused(rt: &impl Print, n: u16) -> Result<()> {
-    print_number(rt, "refused", n)
-}
-
-fn print_more(rt: &impl Print, v: u64) -> Result<()> {
-    print!(rt; " {v}")
-}
-
 pub(crate) fn print_number(rt: &impl Print, word: &str, v: u16) -> Result<()> {
     println!(rt; "{word} {v}")
 }
 
-pub(crate) fn print_two(rt: &impl Print, word: &str, a: u16, b: u16) -> Result<()> {
+pub(crate) fn print_two(rt: &impl Print, word: &str, a: usize, b: usize) -> Result<()> {
     println!(rt; "{word} {a} {b}")
 }
 
 // Column, row and layer of a span.
-fn print_spot(rt: &impl Print, word: &str, w: u16, count: &[u8], s: u16) -> Result<()> {
-    let at = spot_of(count, s as usize);
-    if w == 0 {
+fn print_spot(rt: &impl Print, word: &str, field: &Heightfield, s: u16) -> Result<()> {
+    let at = spot_of(field.count, s as usize);
+    if field.w == 0 {
         return Ok(());
     }
-    let wide = w as usize;
-    let x = at.cell % wide;
-    let z = at.cell / wide;
+    let x = at.cell % field.w;
+    let z = at.cell / field.w;
     let layer = at.layer;
     println!(rt; "{word} {x} {z} {layer}")
 }
@@ -41,13 +30,8 @@ fn print_spot(rt: &impl Print, word: &str, w: u16, count: &[u8], s: u16) -> Resu
 // The first so many numbers of the list.
 fn print_trail(rt: &impl Print, trail: &[u16], long: u16) -> Result<()> {
     print!(rt; "trail")?;
-    let mut k: usize = 0;
-    while k < trail.len() {
-        if (long as usize) <= k {
-            break;
-        }
-        print_more(rt, at16(trail, k) as u64)?;
-        k += 1;
+    for id in trail.iter().take(long as usize) {
+        print!(rt; " {id}")?;
     }
     println!(rt; "")
 }
@@ -66,21 +50,16 @@ fn print_reason(rt: &impl Print, e: Explanation, trail: &[u16]) -> Result<()> {
 
 pub(crate) fn print_told(
     rt: &impl Print,
-    w: u16,
-    count: &[u8],
+    field: &Heightfield,
     e: Explanation,
     trail: &[u16],
 ) -> Result<()> {
-    let reason = e.reason;
-    let from = e.from_span;
-    let gave = e.gave_back_id;
-    let objecting = e.objecting_span;
     print_reason(rt, e, trail)?;
-    if reason == EXPANDED {
-        print_spot(rt, "from_span", w, count, from)?;
+    if e.reason == EXPANDED {
+        print_spot(rt, "from_span", field, e.from_span)?;
     }
-    if gave != 0 {
-        print_spot(rt, "objecting_span", w, count, objecting)?;
+    if e.gave_back_id != 0 {
+        print_spot(rt, "objecting_span", field, e.objecting_span)?;
     }
     Ok(())
 }

@@ -1,35 +1,27 @@
 // From a file's bytes to what is told of a span: the distances, and then the build that is explained.
-ghost use Rattle.std.specs.Prelude.{◌≤◌, length};
+ghost use Rattle.std.specs.Prelude.{◌≤◌, length, Ok};
 ghost use Rattle.file.specs.Reads.{Few, Lists};
-ghost use Rattle.file.specs.declared.read.FileReading.TheVariants.{Described};
 
-use crate::place::{Asked, Found, find};
-use crate::print::{print_number, print_refused, print_told, print_two};
-use checker::refusal_number;
-use file::read::{FileReading, Header, file_number, read_file};
+use crate::place::{Asked, Missing, find};
+use crate::print::{print_number, print_told, print_two};
+use console::print_refused;
+use field::lent::Heightfield;
+use file::read::{Header, read_file};
 use std::io::Result;
-use watershed::{DistanceAnswer, build_distance_field, explain_span};
+use watershed::{build_distance_field, explain_span};
 
 fn tell_span(
     rt: &impl Print,
+    field: &Heightfield,
     head: Header,
     span: u32,
-    index: &[u32],
-    count: &[u8],
-    area: &[u8],
-    con: &[u8],
     dist: &[u16],
     max_distance: u16,
     workspace: &mut [u16],
     trail: &mut [u16],
 ) -> Result<()> {
     let e = explain_span(
-        head.w,
-        head.h,
-        index,
-        count,
-        area,
-        con,
+        field,
         dist,
         max_distance,
         head.border,
@@ -42,62 +34,29 @@ fn tell_span(
     if e.refusal != 0 {
         return print_refused(rt, e.refusal);
     }
-    print_told(rt, head.w, count, e, trail)
-}
-
-fn tell_found(
-    rt: &impl Print,
-    head: Header,
-    found: Found,
-    index: &[u32],
-    count: &[u8],
-    area: &[u8],
-    con: &[u8],
-    dist: &[u16],
-    max_distance: u16,
-    workspace: &mut [u16],
-    trail: &mut [u16],
-) -> Result<()> {
-    match found {
-        Found::NoCell => print_two(rt, "no_cell", head.w, head.h),
-        Found::NoLayer(layers) => print_number(rt, "no_layer", layers as u16),
-        Found::Span(span) => tell_span(
-            rt,
-            head,
-            span,
-            index,
-            count,
-            area,
-            con,
-            dist,
-            max_distance,
-            workspace,
-            trail,
-        ),
-    }
+    print_told(rt, field, e, trail)
 }
 
 fn tell_field(
     rt: &impl Print,
+    field: &Heightfield,
     head: Header,
     asked: Asked,
-    index: &[u32],
-    count: &[u8],
-    area: &[u8],
-    con: &[u8],
     raw: &mut [u16],
     blurred: &mut [u16],
     workspace: &mut [u16],
     trail: &mut [u16],
-) -> Result<()> {
-    match build_distance_field(head.w, head.h, index, count, area, con, raw, blurred) {
-        DistanceAnswer::Refused(x) => print_refused(rt, refusal_number(x)),
-        DistanceAnswer::Done(m) => {
-            let found = find(asked, head.w, head.h, index, count);
-            tell_found(
-                rt, head, found, index, count, area, con, blurred, m, workspace, trail,
-            )
-        }
+) -> Result<()>
+    requires { (field.now.w ≤ 65535) × (field.now.h ≤ 65535) }
+{
+    let most = match build_distance_field(field, raw, blurred) {
+        Ok(m) => m,
+        Err(r) => return print_refused(rt, r.number()),
+    };
+    match find(asked, field) {
+        Ok(span) => tell_span(rt, field, head, span, blurred, most, workspace, trail),
+        Err(Missing::NoCell) => print_two(rt, "no_cell", field.w, field.h),
+        Err(Missing::NoLayer(layers)) => print_number(rt, "no_layer", layers as u16),
     }
 }
 
@@ -112,21 +71,27 @@ fn tell_first(
     area: &[u8],
     con: &[u8],
 ) -> Result<()>
-    requires { Lists index.now count.now area.now con.now × Few (Described head n) }
+    requires { Lists index.now count.now area.now con.now × Few (Ok (head, n)) }
 {
-    let cells = head.w as usize * head.h as usize;
+    let w = head.w as usize;
+    let h = head.h as usize;
+    let field = Heightfield {
+        w,
+        h,
+        index: &index[..w * h],
+        count: &count[..w * h],
+        area: &area[..n],
+        con: &con[..4 * n],
+    };
     let mut raw = [0u16; 200];
     let mut blurred = [0u16; 200];
     let mut workspace = [0u16; 29696];
     let mut trail = [0u16; 200];
     tell_field(
         rt,
+        &field,
         head,
         asked,
-        &index[..cells],
-        &count[..cells],
-        &area[..n],
-        &con[..4 * n],
         &mut raw[..n],
         &mut blurred[..n],
         &mut workspace,
@@ -141,9 +106,7 @@ pub(crate) fn tell_file(rt: &impl Print, bytes: &[u8], asked: Asked) -> Result<(
     let mut area = [0u8; 200];
     let mut con = [0u8; 800];
     match read_file(bytes, &mut index, &mut count, &mut area, &mut con) {
-        FileReading::Refused(x) => print_refused(rt, file_number(x)),
-        FileReading::Described(head, n) => tell_first(
-            rt, head, n, asked, &index, &count, &area, &con,
-        ),
+        Err(r) => print_refused(rt, r.number()),
+        Ok((head, n)) => tell_first(rt, head, n, asked, &index, &count, &area, &con),
     }
 }

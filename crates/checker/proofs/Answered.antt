@@ -263,12 +263,6 @@ module _ (F : Field) (p : ℕ → Bool) (z x : ℕ) where
 
 -- every row is every span
 module _ (F : Field) (ok : Celled F) where
-  all_rows : every F.h (in_row F (half_at F)) ≡ every (spans F) (half_at F)
+  pub all_rows : every F.h (in_row F (half_at F)) ≡ every (spans F) (half_at F)
   unfolding in_row
   all_rows = sym (every_rows F.w F.h (in_cell F (half_at F))) ∙ rw (← ok.counted) (every_cells F ok (half_at F))
-
-  pub rows_halt : (z : ℕ) (r : Bool) → z < F.h → r ≡ in_row F (half_at F) z → r ≡ false → false ≡ every (spans F) (half_at F)
-  rows_halt z r h e t = every_halt (in_row F (half_at F)) F.h z r h e t ∙ all_rows
-
-  pub rows_end : (z : ℕ) → every z (in_row F (half_at F)) ≡ true → z ≤ F.h → F.h ≤ z → true ≡ every (spans F) (half_at F)
-  rows_end z a h g = every-end (in_row F (half_at F)) F.h z a h g ∙ all_rows

@@ -17,11 +17,7 @@ use Rattle.laws.proofs.Passes.{across_in}
 use Rattle.field.specs.Lent.{Stands, Celled, cons_at, lent}
 use Rattle.checker.specs.Links.{names, names_at, reach_at, in_cell}
 use Rattle.field.proofs.Loops.{every_halt, every-end, every_ext, every_join}
-use Rattle.field.proofs.Places.{stands_at, con_at, first_of, first_is, total_is, room_left, room_up}
-
-pub not-not : (b : Bool) → b ≡ not (not b)
-not-not true = refl
-not-not false = refl
+use Rattle.field.proofs.Places.{layer_stands, con_at, first_of, first_is, total_is, room_left, room_up}
 
 pub flip : (r b : Bool) (s : Bool) → r ≡ not b → r ≡ s → b ≡ not s
 flip r true s e f = rw (← f) (ap not (sym e))
@@ -69,14 +65,6 @@ cells_every F ok p (suc c) =
 pub every_cells : (F : Field) → Celled F → (p : ℕ → Bool) → every (length F.count) (in_cell F p) ≡ every (spans F) p
 every_cells F ok p = rw ok.counted (sym (cells_every F ok p (F.w * F.h)) ∙ rw (total_is F ok))
 
--- the loop over the cells
-module _ (F : Field) (ok : Celled F) (p : ℕ → Bool) where
-  pub cells_halt : (c : ℕ) (r : Bool) → c < length F.count → r ≡ in_cell F p c → r ≡ false → false ≡ every (spans F) p
-  cells_halt c r h e z = every_halt (in_cell F p) (length F.count) c r h e z ∙ every_cells F ok p
-
-  pub cells_end : (c : ℕ) → every c (in_cell F p) ≡ true → c ≤ length F.count → length F.count ≤ c → true ≡ every (spans F) p
-  cells_end c a h g = every-end (in_cell F p) (length F.count) c a h g ∙ every_cells F ok p
-
 -- the loop over the layers of cell c, with the cell's index and count read before it, as i and k
 module _ (F : Field) (p : ℕ → Bool) (c i k j : ℕ) (e : i ≡ get_or F.index c 0) (f : k ≡ get_or F.count c 0) where
   pub layers_halt : (r : Bool) → j < k → r ≡ p (i + j) → r ≡ false → false ≡ in_cell F p c
@@ -121,10 +109,10 @@ room_in_up w h c d r p z = room_up w c d h (sym p ∙ z)
 
 -- ---------------------------------------------------------------- a layer of cell c, as a loop over the cell's layers has it
 
-module _ (w h : ℕ) (is ks ar cs : List ℕ) (c i k j : ℕ) (e : i ≡ get_or is c 0) (f : k ≡ get_or ks c 0) (g : j < k) where
-  pub con_room : Celled (lent w h is ks ar cs) → 4 * (i + j) + 3 < length cs
-  con_room ok = omega (arith, (stands_at (lent w h is ks ar cs) ok c i k j e f g).span, ok.linked)
+module _ (w h : ℕ) (is ks ar cs : List ℕ) (c j : ℕ) (g : j < get_or ks c 0) where
+  pub con_room : Celled (lent w h is ks ar cs) → 4 * (get_or is c 0 + j) + 3 < length cs
+  con_room ok = omega (arith, (layer_stands (lent w h is ks ar cs) ok c j g).span, ok.linked)
 
-  pub layer_reach : (cons : List ℕ) (r : Bool) → Celled (lent w h is ks ar cs) → cons ≡ cons_at cs (i + j)
-      → r ≡ every 4 (names_at w h ks c cons) → r ≡ reach_at (lent w h is ks ar cs) (i + j)
-  layer_reach cons r ok p q = names-at (lent w h is ks ar cs) ok c (i + j) cons r (stands_at (lent w h is ks ar cs) ok c i k j e f g) p q
+  pub layer_reach : (cons : List ℕ) (r : Bool) → Celled (lent w h is ks ar cs) → cons ≡ cons_at cs (get_or is c 0 + j)
+      → r ≡ every 4 (names_at w h ks c cons) → r ≡ reach_at (lent w h is ks ar cs) (get_or is c 0 + j)
+  layer_reach cons r ok p q = names-at (lent w h is ks ar cs) ok c (get_or is c 0 + j) cons r (layer_stands (lent w h is ks ar cs) ok c j g) p q

@@ -286,8 +286,8 @@ module _ (F : Field) (ok : Celled F) where
 
   -- the walk of the half fails, or passes and the numbers decide
   module _ (r : Bool) (e : r ≡ every (spans F) (half_at F)) where
-    pub halves_halt : r ≡ false → false ≡ every (spans F) (reach_at F) and every (spans F) (back_at F)
-    halves_halt z = rw (← all_links) (sym (not_all (every (spans F) (link_at F)) refl))
+    pub halves_halt : r ≡ false → r ≡ every (spans F) (reach_at F) and every (spans F) (back_at F)
+    halves_halt z = z ∙ rw (← all_links) (sym (not_all (every (spans F) (link_at F)) refl))
       where
         not_all : (b : Bool) → every (spans F) (link_at F) ≡ b → b ≡ false
         not_all true q = absurd (true≢false (sym (halves_of q) ∙ sym e ∙ z))

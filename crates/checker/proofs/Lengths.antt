@@ -2,16 +2,15 @@
 use Prim.Native.Nat.{ℕ}
 use mathlib.Core.Path.{◌≡◌, sym, ap, ◌∙◌}
 use mathlib.Core.List.{[], ◌∷◌}
+use Rattle.std.specs.Prelude.{Result, Ok, Err}
 use Rattle.rules.specs.Field.{Field}
 use Rattle.rules.specs.Refusals.{refusal}
 use Rattle.checker.specs.Answer.{number_of, verdict_number}
 use Rattle.checker.specs.declared.Refusal.{Refusal}
-use Rattle.checker.specs.declared.Verdict.{Verdict}
-use Rattle.checker.specs.declared.Verdict.TheVariants as verdict
 
-module _ (F : Field) (n : ℕ) (v : Verdict) (e : verdict_number v ≡ refusal F (n ∷ n ∷ [])) where
-  pub long_refused : (k : ℕ) (x : Refusal) → v ≡ verdict.Refused x → k ≡ number_of x → k ≡ refusal F (n ∷ n ∷ [])
+module _ (F : Field) (n : ℕ) (v : Result Unit Refusal) (e : verdict_number v ≡ refusal F (n ∷ n ∷ [])) where
+  pub long_refused : (k : ℕ) (x : Refusal) → v ≡ Err x → k ≡ number_of x → k ≡ refusal F (n ∷ n ∷ [])
   long_refused k x z f = f ∙ ap verdict_number (sym z) ∙ e
 
-  pub long_sound : v ≡ verdict.Sound → 0 ≡ refusal F (n ∷ n ∷ [])
+  pub long_sound : v ≡ Ok tt → 0 ≡ refusal F (n ∷ n ∷ [])
   long_sound z = ap verdict_number (sym z) ∙ e

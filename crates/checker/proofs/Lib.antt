@@ -1,3 +1,4 @@
+pub mod Ranges
 pub mod Checks
 pub mod Answered
 pub mod Refused

@@ -1,9 +1,7 @@
 -- Numbers for the answers.
-use Rattle.std.specs.Prelude.{ℕ}
+use Rattle.std.specs.Prelude.{ℕ, Result, Ok, Err}
 use Rattle.checker.specs.declared.Refusal.{Refusal}
 use Rattle.checker.specs.declared.Refusal.TheVariants.{TooWide, TooMany, WrongLength, WrongCells, WrongReach, WrongBack, TooShort, TooFar, NoIds, NoSum}
-use Rattle.checker.specs.declared.Verdict.{Verdict}
-use Rattle.checker.specs.declared.Verdict.TheVariants.{Sound, Refused}
 
 -- the table of the refusal numbers
 abbrev pub number_of : Refusal → ℕ
@@ -19,6 +17,6 @@ number_of NoIds = 12
 number_of NoSum = 13
 
 -- "none is given otherwise": 0
-abbrev pub verdict_number : Verdict → ℕ
-verdict_number Sound = 0
-verdict_number (Refused r) = number_of r
+abbrev pub verdict_number : Result Unit Refusal → ℕ
+verdict_number (Ok _) = 0
+verdict_number (Err r) = number_of r

@@ -3,8 +3,6 @@ ghost use Rattle.std.specs.Prelude.{◌≡◌, ◌≤◌, length, leb, eqb};
 ghost use Rattle.rules.specs.Base.{◌and◌, ◌or◌};
 ghost use Rattle.rules.specs.Refusals.{good_cells};
 
-use field::read::{at8, at32};
-
 // The most spans that stand in one cell.
 const MOST_LAYERS: usize = 63;
 
@@ -12,13 +10,7 @@ const MOST_LAYERS: usize = 63;
 fn cell_ok(index: usize, count: usize, sum: usize) -> bool
     ensures { result ≡ (leb count 63 and (eqb count 0 or eqb index sum)) }
 {
-    if MOST_LAYERS < count {
-        return false;
-    }
-    if count == 0 {
-        return true;
-    }
-    index == sum
+    count <= MOST_LAYERS && (count == 0 || index == sum)
 }
 
 // Every cell, and the counts sum to n.
@@ -27,15 +19,12 @@ pub(crate) fn cells_ok(index: &[u32], count: &[u8], n: usize) -> bool
     ensures { result ≡ good_cells index.now count.now 0 n }
 {
     let mut sum: usize = 0;
-    let mut i: usize = 0;
-    while i < count.len() {
-        let k = at8(count, i);
-        if cell_ok(at32(index, i), k, sum) {
-            sum += k;
-            i += 1;
-        } else {
+    for i in 0..count.len() {
+        let k = count[i] as usize;
+        if !cell_ok(index[i] as usize, k, sum) {
             return false;
         }
+        sum += k;
     }
     sum == n
 }

@@ -6,148 +6,70 @@ ghost use Rattle.rules.specs.Field.{spans, leaves, con_of};
 ghost use Rattle.rules.specs.Mend.{stays};
 ghost use Rattle.field.specs.Lent.{lent, Celled, cons_at};
 ghost use Rattle.checker.specs.Links.{span_in, Layered, Inner, Column, inner_at, half_at, reach_at, back_at, in_cell, in_columns, in_row};
+ghost use Rattle.field.specs.Seen.{seen};
 
 use crate::tally::links_in;
 use field::block::{block_of, is_empty};
+use field::lent::Heightfield;
 use field::place::{Layer, NO_LAYER, SpanIx, cell_across, connections, span_at};
-use field::read::{at8, at32};
 
 // The connection k of the span in layer j of cell c, in a direction d that does not leave the grid, is none, or leads to a span that leads back.
-fn link_ok(
-    w: usize,
-    h: usize,
-    index: &[u32],
-    count: &[u8],
-    area: &[u8],
-    con: &[u8],
-    c: usize,
-    j: Layer,
-    k: Layer,
-    d: usize,
-) -> bool
-    requires { let F = lent w h index.now count.now area.now con.now in
-        Layered F c j.0 × (k.0 ≡ con_of F (span_in F c j.0) d) × (d < 4) × (leaves w h c d ≡ false) }
-    ensures { let F = lent w h index.now count.now area.now con.now in
+fn link_ok(field: &Heightfield, c: usize, j: Layer, k: Layer, d: usize) -> bool
+    requires { let F = seen field.now in
+        Layered F c j.0 × (k.0 ≡ con_of F (span_in F c j.0) d) × (d < 4) × (leaves F.w F.h c d ≡ false) }
+    ensures { let F = seen field.now in
         result ≡ stays F (span_in F c j.0) d }
 {
     if k.0 == NO_LAYER {
         return true;
     }
-    let a = cell_across(w, c, d);
-    if count[a] <= k.0 {
+    let a = cell_across(field.w, c, d);
+    if field.count[a] <= k.0 {
         return false;
     }
-    let t = span_at(index, a, k);
+    let t = span_at(field.index, a, k);
     // The answer names a layer of the cell that it comes from: there only j is the span that asked.
-    con[4 * t.0 + (d + 2) % 4] == j.0
+    field.con[4 * t.0 + (d + 2) % 4] == j.0
 }
 
 // The same in any direction; inside: it does not leave the grid.
-pub fn side_ok(
-    w: usize,
-    h: usize,
-    index: &[u32],
-    count: &[u8],
-    area: &[u8],
-    con: &[u8],
-    c: usize,
-    j: Layer,
-    k: Layer,
-    d: usize,
-    inside: bool,
-) -> bool
-    requires { let F = lent w h index.now count.now area.now con.now in
-        Layered F c j.0 × (k.0 ≡ con_of F (span_in F c j.0) d) × (d < 4) × (inside ≡ not (leaves w h c d)) }
-    ensures { let F = lent w h index.now count.now area.now con.now in
+pub fn side_ok(field: &Heightfield, c: usize, j: Layer, k: Layer, d: usize, inside: bool) -> bool
+    requires { let F = seen field.now in
+        Layered F c j.0 × (k.0 ≡ con_of F (span_in F c j.0) d) × (d < 4) × (inside ≡ not (leaves F.w F.h c d)) }
+    ensures { let F = seen field.now in
         result ≡ stays F (span_in F c j.0) d }
 {
     if inside {
-        return link_ok(w, h, index, count, area, con, c, j, k, d);
+        return link_ok(field, c, j, k, d);
     }
     k.0 == NO_LAYER
 }
 
 // Of the connections cons those in directions 0 and 1, of the span in layer j of cell c, which has a cell on both sides.
 // Most cells do: written out, so that no side is tested.
-fn inner_ok(
-    w: usize,
-    h: usize,
-    index: &[u32],
-    count: &[u8],
-    area: &[u8],
-    con: &[u8],
-    c: usize,
-    j: Layer,
-    cons: [u8; 4],
-) -> bool
-    requires { let F = lent w h index.now count.now area.now con.now in
-        Layered F c j.0 × (cons ≡ cons_at con.now (span_in F c j.0)) × Inner w h c }
-    ensures { let F = lent w h index.now count.now area.now con.now in
+fn inner_ok(field: &Heightfield, c: usize, j: Layer, cons: [u8; 4]) -> bool
+    requires { let F = seen field.now in
+        Layered F c j.0 × (cons ≡ cons_at F.con (span_in F c j.0)) × Inner F.w F.h c }
+    ensures { let F = seen field.now in
         result ≡ half_at F (span_in F c j.0) }
 {
-    if link_ok(w, h, index, count, area, con, c, j, Layer(cons[0]), 0) {} else {
-        return false;
-    }
-    link_ok(w, h, index, count, area, con, c, j, Layer(cons[1]), 1)
+    link_ok(field, c, j, Layer(cons[0]), 0) && link_ok(field, c, j, Layer(cons[1]), 1)
 }
 
 // The same of cell c in column x of row z, wherever that is.
-fn edge_ok(
-    w: usize,
-    h: usize,
-    index: &[u32],
-    count: &[u8],
-    area: &[u8],
-    con: &[u8],
-    c: usize,
-    j: Layer,
-    cons: [u8; 4],
-    x: usize,
-    z: usize,
-) -> bool
-    requires { let F = lent w h index.now count.now area.now con.now in
-        Layered F c j.0 × (cons ≡ cons_at con.now (span_in F c j.0)) × Column w h c x z }
-    ensures { let F = lent w h index.now count.now area.now con.now in
+fn edge_ok(field: &Heightfield, c: usize, j: Layer, cons: [u8; 4], x: usize, z: usize) -> bool
+    requires { let F = seen field.now in
+        Layered F c j.0 × (cons ≡ cons_at F.con (span_in F c j.0)) × Column F.w F.h c x z }
+    ensures { let F = seen field.now in
         result ≡ half_at F (span_in F c j.0) }
 {
-    if side_ok(
-        w,
-        h,
-        index,
-        count,
-        area,
-        con,
-        c,
-        j,
-        Layer(cons[0]),
-        0,
-        0 < x,
-    ) {} else {
-        return false;
-    }
-    side_ok(
-        w,
-        h,
-        index,
-        count,
-        area,
-        con,
-        c,
-        j,
-        Layer(cons[1]),
-        1,
-        z + 1 < h,
-    )
+    side_ok(field, c, j, Layer(cons[0]), 0, 0 < x)
+        && side_ok(field, c, j, Layer(cons[1]), 1, z + 1 < field.h)
 }
 
 // The same of span s, in layer j of cell c, in column x of row z; inner: it has a cell on both sides.
 fn span_ok(
-    w: usize,
-    h: usize,
-    index: &[u32],
-    count: &[u8],
-    area: &[u8],
-    con: &[u8],
+    field: &Heightfield,
     c: usize,
     s: SpanIx,
     j: Layer,
@@ -155,51 +77,28 @@ fn span_ok(
     z: usize,
     inner: bool,
 ) -> bool
-    requires { let F = lent w h index.now count.now area.now con.now in
-        Layered F c j.0 × (s.0 ≡ span_in F c j.0) × Column w h c x z × (inner ≡ inner_at w h x z) }
-    ensures { result ≡ half_at (lent w h index.now count.now area.now con.now) s.0 }
+    requires { let F = seen field.now in
+        Layered F c j.0 × (s.0 ≡ span_in F c j.0) × Column F.w F.h c x z × (inner ≡ inner_at F.w F.h x z) }
+    ensures { result ≡ half_at (seen field.now) s.0 }
 {
-    let cons = connections(con, s);
+    let cons = connections(field.con, s);
     if inner {
-        return inner_ok(w, h, index, count, area, con, c, j, cons);
+        return inner_ok(field, c, j, cons);
     }
-    edge_ok(w, h, index, count, area, con, c, j, cons, x, z)
+    edge_ok(field, c, j, cons, x, z)
 }
 
 // The spans of cell c.
-fn cell_ok(
-    w: usize,
-    h: usize,
-    index: &[u32],
-    count: &[u8],
-    area: &[u8],
-    con: &[u8],
-    c: usize,
-    x: usize,
-    z: usize,
-    inner: bool,
-) -> bool
-    requires { Celled (lent w h index.now count.now area.now con.now) × Column w h c x z × (inner ≡ inner_at w h x z) × (c < w * h) }
-    ensures { let F = lent w h index.now count.now area.now con.now in
+fn cell_ok(field: &Heightfield, c: usize, x: usize, z: usize, inner: bool) -> bool
+    requires { let F = seen field.now in
+        Celled F × Column F.w F.h c x z × (inner ≡ inner_at F.w F.h x z) × (c < F.w * F.h) }
+    ensures { let F = seen field.now in
         result ≡ in_cell F (half_at F) c }
 {
-    let i = at32(index, c);
-    let k = at8(count, c);
+    let i = field.index[c] as usize;
+    let k = field.count[c];
     for j in 0..k {
-        if span_ok(
-            w,
-            h,
-            index,
-            count,
-            area,
-            con,
-            c,
-            SpanIx(i + j),
-            Layer(j as u8),
-            x,
-            z,
-            inner,
-        ) {} else {
+        if !span_ok(field, c, SpanIx(i + j as usize), Layer(j), x, z, inner) {
             return false;
         }
     }
@@ -211,49 +110,29 @@ fn is_inner(w: usize, h: usize, x: usize, z: usize) -> bool
     requires { (x < w) × (z < h) }
     ensures { result ≡ inner_at w h x z }
 {
-    if x == 0 {
-        return false;
-    }
-    z + 1 < h
+    0 < x && z + 1 < h
 }
 
 // The cell in column x of row z.
-fn column_ok(
-    w: usize,
-    h: usize,
-    index: &[u32],
-    count: &[u8],
-    area: &[u8],
-    con: &[u8],
-    x: usize,
-    z: usize,
-) -> bool
-    requires { Celled (lent w h index.now count.now area.now con.now) × (x < w) × (z < h) }
-    ensures { let F = lent w h index.now count.now area.now con.now in
-        result ≡ in_cell F (half_at F) (w * z + x) }
+fn column_ok(field: &Heightfield, x: usize, z: usize) -> bool
+    requires { let F = seen field.now in
+        Celled F × (x < F.w) × (z < F.h) }
+    ensures { let F = seen field.now in
+        result ≡ in_cell F (half_at F) (F.w * z + x) }
 {
-    let inner = is_inner(w, h, x, z);
-    cell_ok(w, h, index, count, area, con, w * z + x, x, z, inner)
+    let inner = is_inner(field.w, field.h, x, z);
+    cell_ok(field, field.w * z + x, x, z, inner)
 }
 
 // The k columns of row z from x on.
-fn columns_ok(
-    w: usize,
-    h: usize,
-    index: &[u32],
-    count: &[u8],
-    area: &[u8],
-    con: &[u8],
-    x: usize,
-    k: usize,
-    z: usize,
-) -> bool
-    requires { Celled (lent w h index.now count.now area.now con.now) × (x + k ≤ w) × (z < h) }
-    ensures { let F = lent w h index.now count.now area.now con.now in
+fn columns_ok(field: &Heightfield, x: usize, k: usize, z: usize) -> bool
+    requires { let F = seen field.now in
+        Celled F × (x + k ≤ F.w) × (z < F.h) }
+    ensures { let F = seen field.now in
         result ≡ in_columns F (half_at F) z x k }
 {
     for j in 0..k {
-        if column_ok(w, h, index, count, area, con, x + j, z) {} else {
+        if !column_ok(field, x + j, z) {
             return false;
         }
     }
@@ -261,83 +140,48 @@ fn columns_ok(
 }
 
 // The same, a block without spans at once.
-fn block_ok(
-    w: usize,
-    h: usize,
-    index: &[u32],
-    count: &[u8],
-    area: &[u8],
-    con: &[u8],
-    x: usize,
-    k: usize,
-    z: usize,
-) -> bool
-    requires { Celled (lent w h index.now count.now area.now con.now) × (x + k ≤ w) × (z < h) }
-    ensures { let F = lent w h index.now count.now area.now con.now in
+fn block_ok(field: &Heightfield, x: usize, k: usize, z: usize) -> bool
+    requires { let F = seen field.now in
+        Celled F × (x + k ≤ F.w) × (z < F.h) }
+    ensures { let F = seen field.now in
         result ≡ in_columns F (half_at F) z x k }
 {
-    if is_empty(count, w * z + x, k) {
-        return true;
-    }
-    columns_ok(w, h, index, count, area, con, x, k, z)
+    is_empty(field.count, field.w * z + x, k) || columns_ok(field, x, k, z)
 }
 
-// Row z, block by block.
-fn row_ok(
-    w: usize,
-    h: usize,
-    index: &[u32],
-    count: &[u8],
-    area: &[u8],
-    con: &[u8],
-    z: usize,
-) -> bool
-    requires { Celled (lent w h index.now count.now area.now con.now) × (z < h) }
-    ensures { let F = lent w h index.now count.now area.now con.now in
+// Row z, block by block: the loop strides.
+fn row_ok(field: &Heightfield, z: usize) -> bool
+    requires { let F = seen field.now in
+        Celled F × (z < F.h) }
+    ensures { let F = seen field.now in
         result ≡ in_row F (half_at F) z }
 {
     let mut x: usize = 0;
-    while x < w {
-        let k = block_of(w - x);
-        if block_ok(w, h, index, count, area, con, x, k, z) {
-            x += k;
-        } else {
+    while x < field.w {
+        let k = block_of(field.w - x);
+        if !block_ok(field, x, k, z) {
             return false;
         }
+        x += k;
     }
     true
 }
 
 // Every row.
-fn rows_ok(w: usize, h: usize, index: &[u32], count: &[u8], area: &[u8], con: &[u8]) -> bool
-    requires { Celled (lent w h index.now count.now area.now con.now) }
-    ensures { let F = lent w h index.now count.now area.now con.now in
+fn rows_ok(field: &Heightfield) -> bool
+    requires { Celled (seen field.now) }
+    ensures { let F = seen field.now in
         result ≡ every (spans F) (half_at F) }
 {
-    for z in 0..h {
-        if row_ok(w, h, index, count, area, con, z) {} else {
-            return false;
-        }
-    }
-    true
+    (0..field.h).all(|z| row_ok(field, z))
 }
 
 // Every connection. Each in directions 0 and 1 is asked. One that is good has an answer of its own in 2 or 3:
 // where there are no others, all of these are answers, and good.
-pub(crate) fn links_ok(
-    w: usize,
-    h: usize,
-    index: &[u32],
-    count: &[u8],
-    area: &[u8],
-    con: &[u8],
-) -> bool
-    requires { Celled (lent w h index.now count.now area.now con.now) }
-    ensures { let F = lent w h index.now count.now area.now con.now in
+pub(crate) fn links_ok(field: &Heightfield) -> bool
+    requires { Celled (seen field.now) }
+    ensures { let F = seen field.now in
         result ≡ (every (spans F) (reach_at F) and every (spans F) (back_at F)) }
 {
-    if rows_ok(w, h, index, count, area, con) {} else {
-        return false;
-    }
-    links_in(con, 2) == links_in(con, 0)
+    rows_ok(field) && links_in(field.con, 2) == links_in(field.con, 0)
 }

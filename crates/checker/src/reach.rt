@@ -1,28 +1,25 @@
-// Refusal 5: a loop over the directions of a span, over the layers of a cell, and over the cells.
+// Refusal 5: over the directions of a span, over the layers of a cell, and over the cells.
 ghost use Rattle.std.specs.Prelude.{◌≡◌, ◌*◌, ◌<◌, ◌≤◌, length};
 ghost use Rattle.rules.specs.Base.{every};
 ghost use Rattle.rules.specs.Field.{spans, leaves};
 ghost use Rattle.field.specs.Lent.{lent, Celled};
 ghost use Rattle.checker.specs.Links.{names, names_at, reach_at, in_cell};
+ghost use Rattle.field.specs.Seen.{seen};
 
+use field::lent::Heightfield;
 use field::place::{Layer, NO_LAYER, SpanIx, cell_across, connections};
-use field::read::{at8, at32};
 
 // There is no cell across.
 pub fn leaves_grid(w: usize, h: usize, c: usize, d: usize) -> bool
     requires { (0 < w) × (c < 65536) × (d < 4) }
     ensures { result ≡ leaves w h c d }
 {
-    if d == 0 {
-        return c % w == 0;
+    match d {
+        0 => c % w == 0,
+        1 => h <= c / w + 1,
+        2 => w <= c % w + 1,
+        _ => c / w == 0,
     }
-    if d == 1 {
-        return h <= c / w + 1;
-    }
-    if d == 2 {
-        return w <= c % w + 1;
-    }
-    c / w == 0
 }
 
 // Connection k, in direction d, of a span in cell c is none, or stays in the grid and names a layer of the cell across.
@@ -45,33 +42,21 @@ fn span_ok(w: usize, h: usize, count: &[u8], c: usize, cons: [u8; 4]) -> bool
     requires { (w ≤ 256) × (c < 65536) × (c < w * h) × (length count.now ≡ w * h) }
     ensures { result ≡ every 4 (names_at w h count.now c cons) }
 {
-    for d in 0..4 {
-        if con_ok(w, h, count, c, Layer(cons[d]), d) {} else {
-            return false;
-        }
-    }
-    true
+    (0..4).all(|d| con_ok(w, h, count, c, Layer(cons[d]), d))
 }
 
 // The spans of cell c.
-fn cell_ok(
-    w: usize,
-    h: usize,
-    index: &[u32],
-    count: &[u8],
-    area: &[u8],
-    con: &[u8],
-    c: usize,
-) -> bool
-    requires { Celled (lent w h index.now count.now area.now con.now) × (c < length count.now) }
-    ensures { let F = lent w h index.now count.now area.now con.now in
+fn cell_ok(field: &Heightfield, c: usize) -> bool
+    requires { let F = seen field.now in
+        Celled F × (c < length F.count) }
+    ensures { let F = seen field.now in
         result ≡ in_cell F (reach_at F) c }
 {
-    let i = at32(index, c);
-    let k = at8(count, c);
+    let i = field.index[c] as usize;
+    let k = field.count[c];
     for j in 0..k {
-        let cons = connections(con, SpanIx(i + j));
-        if span_ok(w, h, count, c, cons) {} else {
+        let cons = connections(field.con, SpanIx(i + j as usize));
+        if !span_ok(field.w, field.h, field.count, c, cons) {
             return false;
         }
     }
@@ -79,22 +64,10 @@ fn cell_ok(
 }
 
 // Every span.
-pub(crate) fn reach_ok(
-    w: usize,
-    h: usize,
-    index: &[u32],
-    count: &[u8],
-    area: &[u8],
-    con: &[u8],
-) -> bool
-    requires { Celled (lent w h index.now count.now area.now con.now) }
-    ensures { let F = lent w h index.now count.now area.now con.now in
+pub(crate) fn reach_ok(field: &Heightfield) -> bool
+    requires { Celled (seen field.now) }
+    ensures { let F = seen field.now in
         result ≡ every (spans F) (reach_at F) }
 {
-    for c in 0..count.len() {
-        if cell_ok(w, h, index, count, area, con, c) {} else {
-            return false;
-        }
-    }
-    true
+    (0..field.count.len()).all(|c| cell_ok(field, c))
 }

@@ -11,10 +11,7 @@ use field::place::NO_LAYER;
 fn at_most(n: usize) -> u8
     ensures { result ≡ (when ltb n 224 then n else 224) }
 {
-    if n < 224 {
-        return n as u8;
-    }
-    224
+    if n < 224 { n as u8 } else { 224 }
 }
 
 // Connection x counts a, none counts nothing.
@@ -22,10 +19,7 @@ fn counted(k: u8, x: u8, a: u8) -> u8
     requires { k + a < 256 }
     ensures { result ≡ (when eqb x 255 then k else k + a) }
 {
-    if x == NO_LAYER {
-        return k;
-    }
-    k + a
+    if x == NO_LAYER { k } else { k + a }
 }
 
 // How many of the m connections from b on, the first of a span, are in the half o. A weight, not a branch, tells the direction.
@@ -34,15 +28,13 @@ fn part(con: &[u8], b: usize, m: u8, o: u8) -> u8
     ensures { result ≡ links_in con.now o b m }
 {
     let mut k: u8 = 0;
-    let mut j: u8 = 0;
-    while j < m {
+    for j in 0..m {
         k = counted(k, con[b + j as usize], (j + o) % 4 / 2);
-        j += 1;
     }
     k
 }
 
-// How many connections are in the half o: 2 for directions 0 and 1, 0 for directions 2 and 3.
+// How many connections are in the half o: 2 for directions 0 and 1, 0 for directions 2 and 3. The loop strides, by a part.
 pub(crate) fn links_in(con: &[u8], o: u8) -> usize
     requires { (length con.now % 4 ≡ 0) × (length con.now ≤ 4 * most_spans) × (o ≤ 2) }
     ensures { result ≡ links_in con.now o 0 (length con.now) }

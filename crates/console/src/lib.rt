@@ -77,31 +77,45 @@ const NOT_TEXT: i32 = 84;
 pub fn arg(rt: &impl Env, k: usize, buf: &mut [u8]) -> Result<usize>
     ensures { WritesAtMost result buf.new }
 {
-    match rt.arg(k, buf) {
-        Ok(n) => Ok(n),
-        Err(FillError::NotPresent) => Err(Error::from_raw_os_error(INVALID)),
-        Err(FillError::TooLong) => Err(Error::from_raw_os_error(TOO_LONG)),
-    }
+    rt.arg(k, buf).map_err(|e| match e {
+        FillError::NotPresent => Error::from_raw_os_error(INVALID),
+        FillError::TooLong => Error::from_raw_os_error(TOO_LONG),
+    })
 }
 
 // The bytes as text, as the name of a file has to be.
 pub fn text(bytes: &[u8]) -> Result<&str>
     ensures { MatchResult result (λ s. s.now ≡ bytes.now) (λ _. IsUtf8 bytes.now → ⊥) }
 {
-    match str::from_utf8(bytes) {
-        Ok(text) => Ok(text),
-        Err(_) => Err(Error::from_raw_os_error(NOT_TEXT)),
+    str::from_utf8(bytes).map_err(|_| Error::from_raw_os_error(NOT_TEXT))
+}
+
+// Argument k as text, in buf.
+pub fn arg_text<'a>(rt: &impl Env, k: usize, buf: &'a mut [u8]) -> Result<&'a str>
+    ensures { IfOk result (λ t. length t.now ≤ length buf.old) }
+{
+    let n = arg(rt, k, buf)?;
+    text(&buf[..n])
+}
+
+// The number that the bytes are, where they are digits alone and it is at most `most`.
+pub fn number(bytes: &[u8], most: u32) -> Option<u32>
+    ensures { IfSome result (λ n. n ≤ most) }
+{
+    // `parse` takes a sign too.
+    if !bytes.iter().all(|b| b.is_ascii_digit()) {
+        return None;
     }
+    let n = text(bytes).ok()?.parse::<u32>().ok()?;
+    if n <= most { Some(n) } else { None }
 }
 
 // The system's text in that of an error, as `No such file or directory` in `No such file or directory (os error 2)`.
 fn reason(told: &str) -> &str
     ensures { StartsWith told.now result.now }
 {
-    match told.split_once(" (os error ") {
-        Some((text, _)) => text,
-        None => told,
-    }
+    told.split_once(" (os error ")
+        .map_or(told, |(text, _)| text)
 }
 
 // Writes a line to standard error: what failed, a colon and the system's text for the error.
@@ -109,6 +123,19 @@ pub fn fail(rt: &(impl Eprint + Alloc), what: &str, error: &Error) -> Result<()>
     let told = format!(in rt.alloc(); "{error}")?;
     let text = reason(told.as_str());
     eprintln!(rt; "{what}: {text}")
+}
+
+// The line of a refusal.
+pub fn print_refused(rt: &impl Print, n: u16) -> Result<()> {
+    println!(rt; "refused {n}")
+}
+
+// On standard error, the place where a file is refused, if it is.
+pub fn tell_place(rt: &impl Eprint, at: Option<u32>) -> Result<()> {
+    match at {
+        Some(p) => eprintln!(rt; "position {p}"),
+        None => Ok(()),
+    }
 }
 
 #[cfg(test)]
@@ -128,11 +155,24 @@ mod tests {
     }
 
     #[test]
+    fn reads_numbers(rt: HostRuntime) -> Result<()> {
+        assert!(rt; number(b"0", 9) == Some(0));
+        assert!(rt; number(b"00000000000000000999", 999) == Some(999));
+        assert!(rt; number(b"1000", 999) == None);
+        assert!(rt; number(b"99999999999999999999", 999) == None);
+        assert!(rt; number(b"", 999) == None);
+        assert!(rt; number(b"+1", 999) == None);
+        assert!(rt; number(b"1 ", 999) == None);
+        Ok(())
+    }
+
+    #[test]
     fn tells_errors(rt: HostRuntime) -> Result<()> {
         assert!(rt; reason("File name too long (os error 36)") == "File name too long");
         let mut path = buffer();
         assert!(rt; 0 < arg_count(&rt, 4));
         assert_eq!(rt; arg_count(&rt, 0), 0);
+        assert!(rt; arg_text(&rt, 1000, &mut path).is_err());
         match arg(&rt, 1000, &mut path) {
             Ok(_) => assert!(rt; false),
             Err(e) => fail(&rt, "argument 1000", &e)?,

@@ -7,7 +7,7 @@ use mathlib.Core.Bool.{Bool, true, false, not}
 use mathlib.Core.List.{List}
 use lib.ListN.{get_or, get_or-eq_default}
 use lib.Dec.{eqb, ltb}
-use borrow.Author.Tests.{eq-eqb, ne_eqb, lt-ltb, le-ltb, ltb-true, ltb-false}
+use borrow.Author.Tests.{eq-eqb, ne_eqb, lt-ltb, ltb-true}
 use Rattle.rules.specs.Base.{◌and◌, when◌then◌else◌}
 use Rattle.rules.specs.Field.{none}
 use Rattle.rules.specs.Net.{Net}
@@ -15,10 +15,9 @@ use Rattle.rules.specs.Contour.{across, solid, first_solid}
 use Rattle.laws.proofs.Basics.{if-ind}
 use Rattle.net.specs.Table.{net_at, Closed, AtSpan}
 use Rattle.net.proofs.Tables.{near_is, net_few}
-use Rattle.contour.specs.Ways.{first_from, edge_number, edge_of}
+use Rattle.contour.specs.Ways.{first_from, edge_of}
 use Rattle.contour.specs.Walks.{back_at}
-use Rattle.contour.specs.declared.edge.Edge.{Edge}
-use Rattle.contour.specs.declared.edge.Edge.TheVariants.{At, Nowhere}
+use Rattle.std.proofs.Common.{Option, Some, None}
 
 -- ---------------------------------------------------------------- one edge
 
@@ -39,34 +38,21 @@ pub solid_read : (N : Net) (ids : List ℕ) (s d r : ℕ) → r ≡ across N ids
 unfolding solid
 solid_read N ids s d r e = ap (λ (x : ℕ). not (eqb x (get_or ids s 0))) e
 
--- ---------------------------------------------------------------- a direction and its number
+-- ---------------------------------------------------------------- a direction of a number
 
--- either is the other's inverse
-pub number_edge : (k : ℕ) → k ≤ 4 → edge_number (edge_of k) ≡ k
-unfolding edge_number edge_of
-number_edge k h = if-ind (λ (x : Edge). edge_number x ≡ k) (ltb k 4) (λ _. refl) (λ f. omega (arith, ltb-false k 4 f))
-
-pub edge_number_lem : (e : Edge) → edge_number e ≤ 4 → (e ≡ At 4 → ⊥) → e ≡ edge_of (edge_number e)
-unfolding edge_number edge_of when◌then◌else◌
-edge_number_lem (At d) h n =
-    let k : d ≡ 4 → ⊥ = λ q. n (ap At q) in
-    rw (lt-ltb d 4 (omega (arith, k)))
-edge_number_lem Nowhere h n = refl
-
-edge_at_of : (k d : ℕ) → edge_of k ≡ At d → (k ≡ d) × (d < 4)
+pub edge_at : (k d : ℕ) → Some d ≡ edge_of k → (k ≡ d) × (d < 4)
 unfolding edge_of
-edge_at_of k d =
-    if-ind (λ (x : Edge). x ≡ At d → (k ≡ d) × (d < 4)) (ltb k 4)
+edge_at k d =
+    if-ind (λ (x : Option ℕ). Some d ≡ x → (k ≡ d) × (d < 4)) (ltb k 4)
     (λ t e. let q : k ≡ d = cc in (q, rw (← q) (ltb-true k 4 t)))
     (λ _ e. let z : ◌≡◌ {A = ℕ} 0 1 = cc in absurd (omega arith))
 
-module _ (r : Edge) (k : ℕ) (e : edge_number r ≡ k) where
-  pub edge_at : (d : ℕ) → r ≡ edge_of (edge_number r) → r ≡ At d → (k ≡ d) × (d < 4)
-  edge_at d f q = edge_at_of k d (ap edge_of (sym e) ∙ sym f ∙ q)
-
-  pub edge_none : r ≡ Nowhere → ltb k 4 ≡ false
-  unfolding edge_number
-  edge_none q = let z : k ≡ 4 = sym e ∙ ap edge_number q in le-ltb k 4 (omega arith)
+pub edge_none : (k : ℕ) → None ≡ edge_of k → ltb k 4 ≡ false
+unfolding edge_of
+edge_none k =
+    if-ind (λ (x : Option ℕ). None ≡ x → ltb k 4 ≡ false) (ltb k 4)
+    (λ _ e. let z : ◌≡◌ {A = ℕ} 0 1 = cc in absurd (omega arith))
+    (λ f _. f)
 
 -- ---------------------------------------------------------------- the first solid direction
 
@@ -74,34 +60,30 @@ pub first_from_lem : (N : Net) (ids : List ℕ) (s : ℕ) → first_solid N ids 
 unfolding first_solid first_from
 first_from_lem N ids s = refl
 
-module _ (N : Net) (ids : List ℕ) (s d : ℕ) (h : d ≤ 4) (e : first_solid N ids s ≡ first_from N ids s (4 - d) d) where
-  pub first-end : d ≡ 4 → edge_number Nowhere ≡ first_solid N ids s
-  unfolding first_from edge_number
-  first-end q = let z : first_solid N ids s ≡ 4 = e ∙ rw q in sym z
+module _ (N : Net) (ids : List ℕ) (s d : ℕ) (e : first_solid N ids s ≡ first_from N ids s (4 - d) d) where
+  pub first_end : 4 ≤ d → None ≡ edge_of (first_solid N ids s)
+  unfolding first_from edge_of when◌then◌else◌
+  first_end g =
+      let q : 4 - d ≡ 0 = omega arith in
+      let z : first_solid N ids s ≡ 4 = e ∙ rw q refl in
+      rw z refl
 
-  module _ (g : d ≡ 4 → ⊥) (b : Bool) (f : b ≡ solid N ids s d) where
-    pub first_found : b ≡ true → edge_number (At d) ≡ first_solid N ids s
-    unfolding first_from edge_number when◌then◌else◌
+  module _ (g : d < 4) (b : Bool) (f : b ≡ solid N ids s d) where
+    rest : 4 - d ≡ suc (4 - (d + 1))
+    rest = omega arith
+
+    pub first_found : b ≡ true → Some d ≡ edge_of (first_solid N ids s)
+    unfolding first_from edge_of when◌then◌else◌
     first_found t =
-        let q : 4 - d ≡ suc (4 - (d + 1)) = omega (arith, g) in
         let z : solid N ids s d ≡ true = sym f ∙ t in
-        let y : first_solid N ids s ≡ d = e ∙ rw (q, z) in
-        sym y
-
-    pub found_edge : At d ≡ edge_of (edge_number (At d))
-    unfolding edge_number
-    found_edge = edge_number_lem (At d) h (λ e. g (ap edge_number e))
+        let y : first_solid N ids s ≡ d = e ∙ rw (rest, z) in
+        rw (y, lt-ltb d 4 g) refl
 
     pub first_more : b ≡ false → first_solid N ids s ≡ first_from N ids s (4 - (d + 1)) (d + 1)
     unfolding first_from when◌then◌else◌
     first_more t =
-        let q : 4 - d ≡ suc (4 - (d + 1)) = omega (arith, g) in
         let z : solid N ids s d ≡ false = sym f ∙ t in
-        e ∙ rw (q, z)
-
-pub none_edge : Nowhere ≡ edge_of (edge_number Nowhere)
-unfolding edge_number edge_of when◌then◌else◌
-none_edge = refl
+        e ∙ rw (rest, z)
 
 -- ---------------------------------------------------------------- back at the start
 

@@ -1,12 +1,10 @@
 -- What an edge test and a walk are lent: neighbours, and connections that go with them. No area is read, so the ids stand where a net has its areas.
-use Rattle.std.specs.Prelude.{ℕ, zero, suc, ◌+◌, ◌%◌, ◌<◌, ◌≡◌, List, ltb}
+use Rattle.std.specs.Prelude.{ℕ, zero, suc, ◌+◌, ◌%◌, ◌<◌, ◌≡◌, List, ltb, Option, Some, None}
 use Rattle.rules.specs.Base.{when◌then◌else◌}
 use Rattle.rules.specs.Field.{none}
 use Rattle.rules.specs.Net.{Net, spans, near}
 use Rattle.rules.specs.Contour.{solid}
 use Rattle.net.specs.Table.{net_at, Lent}
-use Rattle.contour.specs.declared.edge.Edge.{Edge}
-use Rattle.contour.specs.declared.edge.Edge.TheVariants.{At, Nowhere}
 
 -- a neighbour's neighbour the other way is the span itself
 pub record Mutual (N : Net) : Type 0 where
@@ -22,11 +20,6 @@ unfoldable pub first_from : Net → List ℕ → ℕ → ℕ → ℕ → ℕ
 first_from N ids s zero d = 4
 first_from N ids s (suc n) d = let rest = first_from N ids s n (d + 1) in when solid N ids s d then d else rest
 
--- the rules' number for a direction or none
-unfoldable pub edge_number : Edge → ℕ
-edge_number (At d) = d
-edge_number Nowhere = 4
-
--- and the direction or none of a number
-unfoldable pub edge_of : ℕ → Edge
-edge_of k = when ltb k 4 then At k else Nowhere
+-- the direction of the rules' number, or none where that is 4
+unfoldable pub edge_of : ℕ → Option ℕ
+edge_of k = when ltb k 4 then Some k else None

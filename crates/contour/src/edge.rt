@@ -2,7 +2,7 @@
 ghost use Rattle.std.specs.Prelude.{◌≡◌, ◌<◌};
 ghost use Rattle.rules.specs.Contour.{across, solid, first_solid};
 ghost use Rattle.net.specs.Table.{net_at, AtSpan};
-ghost use Rattle.contour.specs.Ways.{edge_number, edge_of};
+ghost use Rattle.contour.specs.Ways.{edge_of};
 
 use field::place::{NO_LAYER, SpanIx};
 use net::neighbour;
@@ -24,8 +24,8 @@ pub(crate) fn across(
     if cons[d] == NO_LAYER {
         return RegionId::NONE.0;
     }
-    let t = neighbour(ws, table, span, d).0;
-    ids[t]
+    let t = neighbour(ws, table, span, d);
+    ids[t.0]
 }
 
 // An edge is solid where the id across it differs from the span's own.
@@ -41,31 +41,29 @@ pub(crate) fn is_solid_edge(
     ensures { let net = net_at table ids.now ws.now in
         result ≡ solid net ids.now span.0 d }
 {
-    let s = span.0;
-    across(ids, ws, table, cons, span, d) != ids[s]
-}
-
-// A direction, or none.
-#[derive(Clone, Copy)]
-pub enum Edge {
-    At(usize),
-    Nowhere,
+    across(ids, ws, table, cons, span, d) != ids[span.0]
 }
 
 // The first solid direction of four, or none.
-pub fn first_solid(ids: &[u16], ws: &[u16], table: usize, cons: [u8; 4], span: SpanIx) -> Edge
+pub fn first_solid(
+    ids: &[u16],
+    ws: &[u16],
+    table: usize,
+    cons: [u8; 4],
+    span: SpanIx,
+) -> Option<usize>
     requires { AtSpan table ids.now ws.now cons span.0 }
-    ensures result_value { let net = net_at table ids.now ws.now in
-        edge_number result ≡ first_solid net ids.now span.0 }
-    ensures value { result ≡ edge_of (edge_number result) }
+    ensures { let net = net_at table ids.now ws.now in
+        result ≡ edge_of (first_solid net ids.now span.0) }
 {
+    // The form that document 01 asks for here: a loop that yields the direction by `break`.
     let mut d: usize = 0;
     let found = loop {
         if d == 4 {
-            break Edge::Nowhere;
+            break None;
         }
         if is_solid_edge(ids, ws, table, cons, span, d) {
-            break Edge::At(d);
+            break Some(d);
         }
         d += 1;
     };

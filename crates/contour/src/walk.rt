@@ -25,18 +25,16 @@ fn stride(con: &[u8], ids: &[u16], ws: &mut [u16], pool: Pool, v: Walker) -> Wal
     requires { Standing pool con.now ids.now v ws.old }
     ensures { Stridden pool ids.now ws.old v ws.new result }
 {
-    let s = v.span;
-    let d = v.dir;
-    let cons = connections(con, s);
-    if is_solid_edge(ids, ws, pool.table, cons, s, d) {
-        let r = across(ids, ws, pool.table, cons, s, d);
+    let cons = connections(con, v.span);
+    if is_solid_edge(ids, ws, pool.table, cons, v.span, v.dir) {
+        let r = across(ids, ws, pool.table, cons, v.span, v.dir);
         if r == v.last {
             return v.turn();
         }
         ws[pool.at + v.end] = r;
         return v.note(r).turn();
     }
-    let to = neighbour(ws, pool.table, s, d);
+    let to = neighbour(ws, pool.table, v.span, v.dir);
     v.step(to)
 }
 
@@ -78,13 +76,11 @@ fn walk(
     ensures { Walked pool ids.now ws.old span.0 d start ws.new result }
 {
     let mut v = begin(con, ids, ws, pool, span, d, start);
-    let mut k: usize = 0;
-    while k < MOST_STRIDES {
+    for k in 0..MOST_STRIDES {
         v = stride(con, ids, ws, pool, v);
         if v.at(span, d) {
             return v;
         }
-        k += 1;
     }
     v
 }
@@ -132,10 +128,9 @@ pub fn walk_contour(
         result.cut ≡ cut_short net ids.now span.0 d }
 {
     let v = walk(con, ids, ws, pool, span, d, start);
-    let end = v.end;
     let back = v.at(span, d);
     Contour {
-        end: trim(ws, pool, start, end),
+        end: trim(ws, pool, start, v.end),
         cut: !back,
     }
 }

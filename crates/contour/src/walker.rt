@@ -20,12 +20,9 @@ impl Walker {
         requires { self.dir < 4 }
         ensures { result ≡ turned self }
     {
-        let span = self.span;
         Walker {
-            span,
             dir: (self.dir + 1) % 4,
-            last: self.last,
-            end: self.end,
+            ..self
         }
     }
 
@@ -37,8 +34,7 @@ impl Walker {
         Walker {
             span: to,
             dir: (self.dir + 3) % 4,
-            last: self.last,
-            end: self.end,
+            ..self
         }
     }
 
@@ -47,12 +43,10 @@ impl Walker {
         requires { self.end < 18446744073709551615 }
         ensures { result ≡ noted self r }
     {
-        let span = self.span;
         Walker {
-            span,
-            dir: self.dir,
             last: r,
             end: self.end + 1,
+            ..self
         }
     }
 
@@ -60,9 +54,6 @@ impl Walker {
     pub(crate) fn at(self, span: SpanIx, d: usize) -> bool
         ensures { result ≡ back_at span.0 d self.span.0 self.dir }
     {
-        if self.span.0 != span.0 {
-            return false;
-        }
-        self.dir == d
+        self.span.0 == span.0 && self.dir == d
     }
 }

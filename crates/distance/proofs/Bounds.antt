@@ -20,10 +20,10 @@ use Rattle.laws.proofs.Basics.{get_d_set_at, get_d_any}
 use Rattle.laws.proofs.Cells.{near_none, before, cell_of_in}
 use Rattle.laws.proofs.Passes.{wide_pos, mod_pred, start_edge, start-at}
 use Rattle.laws.proofs.Rows.{from_start_lem}
-use Rattle.field.specs.Lent.{Stands, Reached, Spot, cons_at, lent}
+use Rattle.field.specs.Lent.{Stands, Reached, cons_at, lent}
 use Rattle.field.specs.Blocks.{empty_block}
 use Rattle.field.proofs.Blocks.{block_none}
-use Rattle.field.proofs.Places.{cell_is, sum_is, stands_in, reaches, layer_spot}
+use Rattle.field.proofs.Places.{cell_is, sum_is, stands_in, reaches, stands_at}
 use Rattle.field.proofs.Loops.{upto_go}
 use Rattle.distance.specs.Walk.{spans_up}
 use Rattle.distance.specs.Value.{ringed, side, least_from, least, LowBefore, Passing, PassedTo, Low, Room}
@@ -152,14 +152,11 @@ module _ (F : Field) (ok : Reached F) where
           low = λ t h. get_d_set_at l s n 65535 t (λ r. r ≤ 2 * (cell_of F.count t % F.w)) i (λ z. rw (z, v.cell) o) (λ z. b.low t (omega arith));
         }
 
-    here : Spot F F.w F.index F.con c s
-    here = record { reached = ok; wide = refl; indexed = refl; linked = refl; stands = v }
+    pub flat-left : Room F l s 0 3
+    flat-left = record { size = b.size; first = λ i. flat_low _ i ((earlier F ok s v.span).first i); second = λ i. flat_low _ i ((earlier F ok s v.span).second i) }
 
-    pub flat-left : Room F.w F.index F.con l c s 0 3
-    flat-left = record { F = F; spot = here; size = b.size; first = λ i. flat_low _ i ((earlier F ok s v.span).first i); second = λ i. flat_low _ i ((earlier F ok s v.span).second i) }
-
-    pub flat_up : Room F.w F.index F.con l c s 3 2
-    flat_up = record { F = F; spot = here; size = b.size; first = λ i. flat_low _ i ((earlier F ok s v.span).third i); second = λ i. flat_low _ i ((earlier F ok s v.span).fourth i) }
+    pub flat_up : Room F l s 3 2
+    flat_up = record { size = b.size; first = λ i. flat_low _ i ((earlier F ok s v.span).third i); second = λ i. flat_low _ i ((earlier F ok s v.span).fourth i) }
 
     flat_is : (n : ℕ) → n ≡ least_from F (start_at F s) 0 3 3 2 s l → set l s n ≡ from_start F s l
     flat_is n g = ap (set l s) g ∙ start_is F ok s l b.size v.span
@@ -217,20 +214,17 @@ lower_is : (F : Field) (a b c e s : ℕ) (l : List ℕ) → set l s (least F a b
 unfolding least_of lower least least_from side
 lower_is F a b c e s l = refl
 
--- over spans from the last: x is what pass 2 gives span s, in cell c, of every field that fits what is lent
-module _ (F : Field) (ok : Reached F) (c s : ℕ) (l : List ℕ) (b : Low F l) (v : Stands F c s) where
-  at_spot : Spot F F.w F.index F.con c s
-  at_spot = record { reached = ok; wide = refl; indexed = refl; linked = refl; stands = v }
+-- over spans from the last: x is what pass 2 gives span s
+module _ (F : Field) (l : List ℕ) (b : Low F l) (s : ℕ) where
+  pub low_room : (a d : ℕ) → Room F l s a d
+  low_room a d = record { size = b.size; first = λ i. b.low _ i; second = λ i. b.low _ i }
 
-  pub low_room : (a d : ℕ) → Room F.w F.index F.con l c s a d
-  low_room a d = record { F = F; spot = at_spot; size = b.size; first = λ i. b.low _ i; second = λ i. b.low _ i }
-
-  module _ (x : ℕ) (n : (F' : Field) → Spot F' F.w F.index F.con c s → x ≡ least F' 2 1 1 0 s l) where
+  module _ (i : s < spans F) (x : ℕ) (n : x ≡ least F 2 1 1 0 s l) where
     pub low_next : Low F (set l s x)
-    low_next = low_set F 2 1 1 0 s x l b v.span (n F at_spot)
+    low_next = low_set F 2 1 1 0 s x l b i n
 
     pub down_next : set l s x ≡ lower F 2 1 1 0 s l
-    down_next = ap (set l s) (n F at_spot) ∙ lower_is F 2 1 1 0 s l
+    down_next = ap (set l s) n ∙ lower_is F 2 1 1 0 s l
 
 -- a run of spans that lack a neighbour, at span k
 module _ (w h : ℕ) (is ks ar cs l : List ℕ) (k : ℕ) (ok : Reached (lent w h is ks ar cs)) (b : PassedTo (lent w h is ks ar cs) k l) (i : k < length ar)
@@ -239,7 +233,7 @@ module _ (w h : ℕ) (is ks ar cs l : List ℕ) (k : ℕ) (ok : Reached (lent w 
   edge_stands = record { span = i; cell = refl }
 
   edge_least : 0 ≡ least_from (lent w h is ks ar cs) (start_at (lent w h is ks ar cs) k) 0 3 3 2 k l
-  edge_least = from_edge w h is ks ar cs l (cell_of ks k) k ok edge_stands cons q r e z bytes
+  edge_least = from_edge (lent w h is ks ar cs) k l (cell_of ks k) ok edge_stands cons q r e z bytes
 
   pub edge_run : (s : ℕ) (m : List ℕ) → s ≤ k → l ≡ spans_up (from_start (lent w h is ks ar cs)) s (k - s) m
       → set l k 0 ≡ spans_up (from_start (lent w h is ks ar cs)) s (k + 1 - s) m
@@ -249,59 +243,49 @@ module _ (w h : ℕ) (is ks ar cs l : List ℕ) (k : ℕ) (ok : Reached (lent w 
   edge_go = flat_go (lent w h is ks ar cs) ok (cell_of ks k) k l b edge_stands bytes 0 edge_least
 
 module _ (w h : ℕ) (is ks ar cs : List ℕ) (c i k j : ℕ) (l : List ℕ) (ok : Reached (lent w h is ks ar cs)) (p : i ≡ get_or is c 0) (q : k ≡ get_or ks c 0) (g : j < k) where
-  spot : Spot (lent w h is ks ar cs) w is cs c (i + j)
-  spot = layer_spot w h is ks ar cs c i k j p q g ok
-
   pub layer_stood : Stands (lent w h is ks ar cs) c (i + j)
-  layer_stood = spot.stands
+  layer_stood = stands_at (lent w h is ks ar cs) ok.celled c i k j p q g
 
-  pub room_low : (a b : ℕ) → Low (lent w h is ks ar cs) l → Room w is cs l c (i + j) a b
-  room_low a b v = record { F = lent w h is ks ar cs; spot = spot; size = v.size; first = λ z. v.low _ z; second = λ z. v.low _ z }
+  pub room_low : (a b : ℕ) → Low (lent w h is ks ar cs) l → Room (lent w h is ks ar cs) l (i + j) a b
+  room_low a b v = low_room (lent w h is ks ar cs) l v (i + j) a b
 
   pub low_in : Low (lent w h is ks ar cs) l → i + j < length l
-  low_in b = omega (arith, spot.stands.span, b.size)
+  low_in b = omega (arith, layer_stood.span, b.size)
 
-  -- x is what pass 2 gives span i + j, of every field that fits what is lent
-  module _ (a b d e x : ℕ) (n : (F : Field) → Spot F w is cs c (i + j) → x ≡ least F a b d e (i + j) l) where
-    gives : x ≡ least (lent w h is ks ar cs) a b d e (i + j) l
-    gives = n (lent w h is ks ar cs) spot
-
+  -- x is what pass 2 gives span i + j
+  module _ (a b d e x : ℕ) (n : x ≡ least (lent w h is ks ar cs) a b d e (i + j) l) where
     pub pass_go : (m : List ℕ) → l ≡ upto j (λ t. lower (lent w h is ks ar cs) a b d e (i + t)) m
         → set l (i + j) x ≡ upto (j + 1) (λ t. lower (lent w h is ks ar cs) a b d e (i + t)) m
     pass_go m y =
         upto_go (λ t. lower (lent w h is ks ar cs) a b d e (i + t)) j m l (set l (i + j) x) y
-        (ap (set l (i + j)) gives ∙ lower_is (lent w h is ks ar cs) a b d e (i + j) l)
+        (ap (set l (i + j)) n ∙ lower_is (lent w h is ks ar cs) a b d e (i + j) l)
 
     pub low_go : Low (lent w h is ks ar cs) l → Low (lent w h is ks ar cs) (set l (i + j) x)
-    low_go v = low_set (lent w h is ks ar cs) a b d e (i + j) x l v spot.stands.span gives
+    low_go v = low_set (lent w h is ks ar cs) a b d e (i + j) x l v layer_stood.span n
 
   -- pass 1, in column x of row y
   module _ (y x : ℕ) (at : c ≡ w * y + x) (u : x < w) (b : Passing (lent w h is ks ar cs) y x l) where
     stood : Stands (lent w h is ks ar cs) (w * y + x) (i + j)
-    stood = record { span = spot.stands.span; cell = spot.stands.cell ∙ at }
+    stood = record { span = layer_stood.span; cell = layer_stood.cell ∙ at }
 
-    pub room_left : Room w is cs l c (i + j) 0 3
+    pub room_left : Room (lent w h is ks ar cs) l (i + j) 0 3
     room_left =
         record {
-          F = lent w h is ks ar cs;
-          spot = spot;
           size = b.rows.size;
           first = room_0 (lent w h is ks ar cs) ok y x l b u (i + j) stood;
           second = room_03 (lent w h is ks ar cs) ok y x l b u (i + j) stood;
         }
 
-    pub room_up : Room w is cs l c (i + j) 3 2
+    pub room_up : Room (lent w h is ks ar cs) l (i + j) 3 2
     room_up =
         record {
-          F = lent w h is ks ar cs;
-          spot = spot;
           size = b.rows.size;
           first = room_3 (lent w h is ks ar cs) ok y x l b u (i + j) stood;
           second = room_32 (lent w h is ks ar cs) ok y x l b u (i + j) stood;
         }
 
     pub passing_in : i + j < length l
-    passing_in = omega (arith, spot.stands.span, b.rows.size)
+    passing_in = omega (arith, layer_stood.span, b.rows.size)
 
     -- v is what pass 1 gives span i + j
     module _ (v : ℕ) (n : v ≡ least_from (lent w h is ks ar cs) (start_at (lent w h is ks ar cs) (i + j)) 0 3 3 2 (i + j) l) where
@@ -309,7 +293,7 @@ module _ (w h : ℕ) (is ks ar cs : List ℕ) (c i k j : ℕ) (l : List ℕ) (ok
           → set l (i + j) v ≡ upto (j + 1) (λ t. from_start (lent w h is ks ar cs) (i + t)) m
       start_go m e =
           upto_go (λ t. from_start (lent w h is ks ar cs) (i + t)) j m l (set l (i + j) v) e
-          (ap (set l (i + j)) n ∙ start_is (lent w h is ks ar cs) ok (i + j) l b.rows.size spot.stands.span)
+          (ap (set l (i + j)) n ∙ start_is (lent w h is ks ar cs) ok (i + j) l b.rows.size layer_stood.span)
 
       pub passing_go : Passing (lent w h is ks ar cs) y x (set l (i + j) v)
       passing_go = passing_set (lent w h is ks ar cs) ok y x l b u (i + j) stood v

@@ -242,12 +242,9 @@ pub blur_row_end : (F : Field) (r : List ℕ) (y x : ℕ) (l m : List ℕ) → m
 unfolding blur_row
 blur_row_end F r y x l m e h g = row_end F (blur_to F r) y x l m e h g
 
--- a run from the first span to a, and one from there on
-pub pass1-end : (F : Field) (a s d : ℕ) (k l m : List ℕ) → Reached F → length k ≡ spans F → l ≡ spans_up (from_start F) 0 (a - 0) k
-    → a ≤ s → s ≤ d → m ≡ spans_up (from_start F) a (s - a) l → d ≡ spans F → d ≤ s → m ≡ pass1 F (start F)
-pass1-end F a s d k l m ok n e h i g q f =
-    upto-end (from_start F) (spans F) s k m (run_all (from_start F) s k m (run_join (from_start F) 0 a s k l m (omega arith) h e g)) (omega arith) (omega arith)
-    ∙ pass1_from_start F (earlier F ok) k n
+-- a run over all spans
+pub pass1-end : (F : Field) (k m : List ℕ) → Reached F → length k ≡ spans F → m ≡ spans_up (from_start F) 0 (spans F - 0) k → m ≡ pass1 F (start F)
+pass1-end F k m ok n e = upto-end (from_start F) (spans F) (spans F) k m (run_all (from_start F) (spans F) k m e) (omega arith) (omega arith) ∙ pass1_from_start F (earlier F ok) k n
 
 pub blur-end : (F : Field) (s d : ℕ) (l k m : List ℕ) → k ≡ cells_of F → m ≡ upto s (blur_to F l) k → s ≤ spans F → d ≡ spans F → d ≤ s → m ≡ blur F l
 unfolding blur blur_to

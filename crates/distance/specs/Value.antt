@@ -1,9 +1,9 @@
 -- What a stage gives a span, and the bounds that keep every sum within 65,535.
-use Rattle.std.specs.Prelude.{ℕ, ◌+◌, ◌*◌, ◌-◌, ◌%◌, ◌≤◌, ◌<◌, min, ◌≡◌, Bool, true, false, not, List, length, get_or, eqb}
+use Rattle.std.specs.Prelude.{ℕ, ◌+◌, ◌*◌, ◌-◌, ◌%◌, ◌≤◌, ◌<◌, min, ◌≡◌, Bool, true, not, List, length, get_or, eqb, Option, Some, None}
 use Rattle.rules.specs.Base.{every}
 use Rattle.rules.specs.Field.{Field, spans, near, cell_of}
 use Rattle.rules.specs.Distance.{far}
-use Rattle.field.specs.Lent.{Spot, Leaf, cons_at}
+use Rattle.field.specs.Lent.{cons_at}
 
 -- a span with the connections cons has a neighbour in each direction
 unfoldable pub ringed : List ℕ → Bool
@@ -30,12 +30,15 @@ pub record LowBefore (F : Field) (c : ℕ) (l : List ℕ) : Type 0 where
   pub size : length l ≡ spans F
   pub low : (t : ℕ) → t < spans F → cell_of F.count t < c → far l t ≤ 510
 
--- of n spans, which have the connections con, span s is there and has four neighbours, or there is none more
-pub record Goes (n : ℕ) (con : List ℕ) (s : ℕ) (more : Bool) : Type 0 where
-  pub within : s ≤ n
-  pub there : more ≡ true → s < n
-  pub four : more ≡ true → ringed (cons_at con s) ≡ true
-  pub last : more ≡ false → n ≤ s
+-- where a run of spans ends: at a span, or after all n
+abbrev pub run_end : ℕ → Option ℕ → ℕ
+run_end n None = n
+run_end n (Some s) = s
+
+-- of n spans, which have the connections con, the one that is given is there and has four neighbours
+abbrev pub Goes : ℕ → List ℕ → Option ℕ → Type 0
+Goes n con None = Unit {0}
+Goes n con (Some s) = (s < n) × (ringed (cons_at con s) ≡ true)
 
 -- pass 1 has gone through the rows before y, and through the columns before x of row y, whose spans hold at most twice their column
 pub record Passing (F : Field) (y x : ℕ) (l : List ℕ) : Type 0 where
@@ -52,22 +55,8 @@ pub record Low (F : Field) (l : List ℕ) : Type 0 where
   pub size : length l ≡ spans F
   pub low : (t : ℕ) → t < spans F → far l t ≤ 510
 
--- a list with a value for each span of a field that is lent, of which span s stands in cell c
-pub record Sized (w : ℕ) (index con l : List ℕ) (c s : ℕ) : Type 0 where
-  pub F : Field
-  pub spot : Spot F w index con c s
-  pub size : length l ≡ spans F
-
--- the same with no more of the connections than the four of span s
-pub record SizedLeaf (w : ℕ) (index cons l : List ℕ) (c s : ℕ) : Type 0 where
-  pub F : Field
-  pub leaf : Leaf F w index cons c s
-  pub size : length l ≡ spans F
-
--- a sized list with room for the sums that neighbour a and its neighbour b make
-pub record Room (w : ℕ) (index con l : List ℕ) (c s a b : ℕ) : Type 0 where
-  pub F : Field
-  pub spot : Spot F w index con c s
+-- a list with a value for each span, with room for the sums that neighbour a of span s and its neighbour b make
+pub record Room (F : Field) (l : List ℕ) (s a b : ℕ) : Type 0 where
   pub size : length l ≡ spans F
   pub first : near F s a < spans F → far l (near F s a) ≤ 510
   pub second : near F (near F s a) b < spans F → far l (near F (near F s a) b) ≤ 510

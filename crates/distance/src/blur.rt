@@ -1,214 +1,145 @@
 // The greatest value, and the box blur.
 ghost use Rattle.std.specs.Prelude.{◌≡◌, ◌+◌, ◌<◌, ◌≤◌, max, length};
-ghost use Rattle.rules.specs.Field.{Field};
 ghost use Rattle.rules.specs.Distance as rules;
-ghost use Rattle.field.specs.Lent.{lent, Reached, Spot, cons_at};
+ghost use Rattle.field.specs.Lent.{Reached, Stands, cons_at};
 ghost use Rattle.rules.specs.Rows.{over_cell, blur_to, blur_row};
 ghost use Rattle.distance.specs.Walk.{columns_up, cells_of};
-ghost use Rattle.distance.specs.Value.{Sized};
+ghost use Rattle.field.specs.Seen.{seen};
 
 use field::block::{block_of, is_empty};
+use field::lent::Heightfield;
 use field::place::{NO_LAYER, Place, SpanIx, connections, follow};
-use field::read::{at8, at16, at32};
 
 // A raw value of at most this stays.
 pub const THRESHOLD: usize = 2;
-
-fn larger(a: u16, b: u16) -> u16
-    ensures { result ≡ max a b }
-{
-    if a < b {
-        return b;
-    }
-    a
-}
 
 // The greatest value of a list, 0 for none.
 pub fn greatest(raw: &[u16]) -> u16
     ensures { result ≡ rules.greatest raw.now }
 {
     let mut best: u16 = 0;
-    for i in 0..raw.len() {
-        best = larger(best, raw[i]);
+    for x in raw {
+        best = best.max(*x);
     }
     best
 }
 
 // The terms of direction d for the span at place p, which holds v: its neighbour and its corner neighbour, or v for each that is missing.
-fn term(
-    w: usize,
-    index: &[u32],
-    con: &[u8],
-    raw: &[u16],
-    cons: [u8; 4],
-    p: Place,
-    d: usize,
-    v: usize,
-) -> usize
-    requires { Sized w index.now con.now raw.now p.cell p.span.0 × (cons ≡ cons_at con.now p.span.0) × (d < 4) × (v < 65536) }
-    ensures { ((F : Field) → Spot F w index.now con.now p.cell p.span.0
-        → result ≡ rules.term F raw.now p.span.0 v d) × (result ≤ 131070) }
+fn term(field: &Heightfield, raw: &[u16], cons: [u8; 4], p: Place, d: usize, v: usize) -> usize
+    requires place { let F = seen field.now in
+        Reached F × Stands F p.cell p.span.0 × (cons ≡ cons_at F.con p.span.0) × (length raw.now ≡ length F.area) }
+    requires size { (d < 4) × (v < 65536) }
+    ensures { let F = seen field.now in
+        (result ≡ rules.term F raw.now p.span.0 v d) × (result ≤ 131070) }
 {
     if cons[d] == NO_LAYER {
         return v * 2;
     }
-    let q = follow(w, index, cons, p.cell, d);
+    let q = follow(field.w, field.index, cons, p.cell, d);
     let t = q.span;
-    let x = at16(raw, t.0);
-    let next = connections(con, t);
+    let x = raw[t.0] as usize;
+    let next = connections(field.con, t);
     let e = (d + 1) % 4;
     if next[e] == NO_LAYER {
         return x + v;
     }
-    let k = follow(w, index, next, q.cell, e);
-    x + at16(raw, k.span.0)
+    let k = follow(field.w, field.index, next, q.cell, e);
+    x + raw[k.span.0] as usize
 }
 
 // The blurred value of the span at place p.
-fn blur_span(w: usize, index: &[u32], con: &[u8], raw: &[u16], p: Place) -> u16
-    requires { Sized w index.now con.now raw.now p.cell p.span.0 }
-    ensures { (F : Field) → Spot F w index.now con.now p.cell p.span.0
-        → result ≡ rules.blur_at F raw.now p.span.0 }
+fn blur_span(field: &Heightfield, raw: &[u16], p: Place) -> u16
+    requires { let F = seen field.now in
+        Reached F × Stands F p.cell p.span.0 × (length raw.now ≡ length F.area) }
+    ensures { let F = seen field.now in
+        result ≡ rules.blur_at F raw.now p.span.0 }
 {
-    let s = p.span;
-    let i = p.span.0;
-    let v = at16(raw, i);
+    let v = raw[p.span.0] as usize;
     if v <= THRESHOLD {
         return v as u16;
     }
-    let cons = connections(con, s);
-    let a = term(w, index, con, raw, cons, p, 0, v);
-    let b = term(w, index, con, raw, cons, p, 1, v);
-    let c = term(w, index, con, raw, cons, p, 2, v);
-    let d = term(w, index, con, raw, cons, p, 3, v);
+    let cons = connections(field.con, p.span);
+    let a = term(field, raw, cons, p, 0, v);
+    let b = term(field, raw, cons, p, 1, v);
+    let c = term(field, raw, cons, p, 2, v);
+    let d = term(field, raw, cons, p, 3, v);
     ((v + a + b + c + d + 5) / 9) as u16
 }
 
 // The spans of cell c.
-fn blur_cell(
-    w: usize,
-    h: usize,
-    index: &[u32],
-    count: &[u8],
-    area: &[u8],
-    con: &[u8],
-    raw: &[u16],
-    blurred: &mut [u16],
-    c: usize,
-)
-    requires { let F = lent w h index.now count.now area.now con.now in
-        Reached F × (length raw.now ≡ length area.now) × (length blurred.old ≡ length area.now) × (c < length count.now) }
-    ensures { let F = lent w h index.now count.now area.now con.now in
+fn blur_cell(field: &Heightfield, raw: &[u16], blurred: &mut [u16], c: usize)
+    requires { let F = seen field.now in
+        Reached F × (length raw.now ≡ length F.area) × (length blurred.old ≡ length F.area) × (c < length F.count) }
+    ensures { let F = seen field.now in
         blurred.new ≡ over_cell F (blur_to F raw.now) c blurred.old }
 {
-    let i = at32(index, c);
-    let k = at8(count, c);
+    let i = field.index[c] as usize;
+    let k = field.count[c] as usize;
     for j in 0..k {
         let s = i + j;
         let p = Place {
             cell: c,
             span: SpanIx(s),
         };
-        blurred[s] = blur_span(w, index, con, raw, p);
+        blurred[s] = blur_span(field, raw, p);
     }
 }
 
 // The k columns of row y from x on.
-fn blur_columns(
-    w: usize,
-    h: usize,
-    index: &[u32],
-    count: &[u8],
-    area: &[u8],
-    con: &[u8],
-    raw: &[u16],
-    blurred: &mut [u16],
-    x: usize,
-    k: usize,
-    y: usize,
-)
-    requires { let F = lent w h index.now count.now area.now con.now in
-        Reached F × (length raw.now ≡ length area.now) × (length blurred.old ≡ length area.now) × (x + k ≤ w) × (y < h) }
-    ensures { let F = lent w h index.now count.now area.now con.now in
+fn blur_columns(field: &Heightfield, raw: &[u16], blurred: &mut [u16], x: usize, k: usize, y: usize)
+    requires { let F = seen field.now in
+        Reached F × (length raw.now ≡ length F.area) × (length blurred.old ≡ length F.area) × (x + k ≤ F.w) × (y < F.h) }
+    ensures { let F = seen field.now in
         blurred.new ≡ columns_up F (blur_to F raw.now) y x k blurred.old }
 {
-    let first = w * y + x;
+    let first = field.w * y + x;
     for j in 0..k {
-        blur_cell(w, h, index, count, area, con, raw, blurred, first + j);
+        blur_cell(field, raw, blurred, first + j);
     }
 }
 
 // The same, a block without spans at once.
-fn blur_block(
-    w: usize,
-    h: usize,
-    index: &[u32],
-    count: &[u8],
-    area: &[u8],
-    con: &[u8],
-    raw: &[u16],
-    blurred: &mut [u16],
-    x: usize,
-    k: usize,
-    y: usize,
-)
-    requires { let F = lent w h index.now count.now area.now con.now in
-        Reached F × (length raw.now ≡ length area.now) × (length blurred.old ≡ length area.now) × (x + k ≤ w) × (y < h) }
-    ensures { let F = lent w h index.now count.now area.now con.now in
+fn blur_block(field: &Heightfield, raw: &[u16], blurred: &mut [u16], x: usize, k: usize, y: usize)
+    requires { let F = seen field.now in
+        Reached F × (length raw.now ≡ length F.area) × (length blurred.old ≡ length F.area) × (x + k ≤ F.w) × (y < F.h) }
+    ensures { let F = seen field.now in
         blurred.new ≡ columns_up F (blur_to F raw.now) y x k blurred.old }
 {
-    if is_empty(count, w * y + x, k) {
+    if is_empty(field.count, field.w * y + x, k) {
         return;
     }
-    blur_columns(w, h, index, count, area, con, raw, blurred, x, k, y);
+    blur_columns(field, raw, blurred, x, k, y);
 }
 
-// Row y, block by block.
-pub fn blur_row(
-    w: usize,
-    h: usize,
-    index: &[u32],
-    count: &[u8],
-    area: &[u8],
-    con: &[u8],
-    raw: &[u16],
-    blurred: &mut [u16],
-    y: usize,
-)
-    requires { let F = lent w h index.now count.now area.now con.now in
-        Reached F × (length raw.now ≡ length area.now) × (length blurred.old ≡ length area.now) × (y < h) }
-    ensures { let F = lent w h index.now count.now area.now con.now in
+// Row y, block by block: the loop strides.
+pub fn blur_row(field: &Heightfield, raw: &[u16], blurred: &mut [u16], y: usize)
+    requires { let F = seen field.now in
+        Reached F × (length raw.now ≡ length F.area) × (length blurred.old ≡ length F.area) × (y < F.h) }
+    ensures { let F = seen field.now in
         blurred.new ≡ blur_row F raw.now y blurred.old }
 {
     let mut x: usize = 0;
-    while x < w {
-        let k = block_of(w - x);
-        blur_block(w, h, index, count, area, con, raw, blurred, x, k, y);
+    while x < field.w {
+        let k = block_of(field.w - x);
+        blur_block(field, raw, blurred, x, k, y);
         x += k;
     }
 }
 
 // All spans; before it the list of the blurred values has the cell of each.
-pub fn box_blur(
-    w: usize,
-    h: usize,
-    index: &[u32],
-    count: &[u8],
-    area: &[u8],
-    con: &[u8],
-    raw: &[u16],
-    blurred: &mut [u16],
-)
-    requires { let F = lent w h index.now count.now area.now con.now in
-        Reached F × (length raw.now ≡ length area.now) × (blurred.old ≡ cells_of F) }
-    ensures { let F = lent w h index.now count.now area.now con.now in
+pub fn box_blur(field: &Heightfield, raw: &[u16], blurred: &mut [u16])
+    requires { let F = seen field.now in
+        Reached F × (length raw.now ≡ length F.area) × (blurred.old ≡ cells_of F) }
+    ensures { let F = seen field.now in
         blurred.new ≡ rules.blur F raw.now }
 {
-    for s in 0..area.len() {
+    // A copy of its own, so that the compiler keeps it in registers.
+    let field = &{ *field };
+    for s in 0..field.area.len() {
         let p = Place {
-            cell: at16(blurred, s),
+            cell: blurred[s] as usize,
             span: SpanIx(s),
         };
-        blurred[s] = blur_span(w, index, con, raw, p);
+        blurred[s] = blur_span(field, raw, p);
     }
 }

@@ -1,42 +1,44 @@
 -- What an entry finds, as the code does: each answer of the code under what it has tested is the rule's look in one direction.
 -- They hold because a missing neighbour has no area, and because a source distance stands at its span. Assumes nothing.
 use mathlib.Core.Path.{◌≡◌, refl, sym, ap, ◌∙◌}
-use mathlib.Core.Bool.{Bool, true, false, not}
+use mathlib.Core.Bool.{Bool, true, false, not, true≢false}
 use mathlib.Core.List.{List}
 use Prim.Native.Nat.{ℕ, ◌+◌, ◌*◌, ◌≤◌, ◌<◌}
 use native.Mathlib.Omega.{arith}
-use lib.ListN.{length, get_or}
+use native.Mathlib.Decide.{ℕ_discrete}
+use lib.ListN.{length, get_or, get_or-eq_default}
 use lib.Seq.{get_or-take}
 use lib.Dec.{eqb}
-use borrow.Author.Tests.{eq-eqb, ne_eqb, lt-ltb, le-ltb, ltb-true, leb-true, leb-false}
+use borrow.Author.Tests.{eq-eqb, ne_eqb, lt-ltb, le-ltb, ltb-true}
 use Rattle.rules.specs.Base.{◌and◌, ◌or◌, when◌then◌else◌, upto}
 use Rattle.rules.specs.Field.{none}
 use Rattle.rules.specs.Net.{Net, near, area_of}
-use Rattle.rules.specs.Growth.{Marks, Taken, flagged, plain, look, takes, exceeds, strays}
-use Rattle.laws.proofs.Basics.{both, if-ind, and_no, and_both, or_no, or_right, upto_next}
-use Rattle.laws.proofs.Plain.{plain_zero, plain-flagged, plain_yes}
+use Rattle.rules.specs.Refusals.{most_spans}
+use Rattle.rules.specs.Growth.{Marks, Taken, id_of, flagged, plain, look, takes, exceeds, strays}
+use Rattle.laws.proofs.Basics.{both, if-ind, and_no, get_d_any, and_both, or_no, or_right, upto_next}
 use Rattle.net.specs.Table.{net_at}
-use Rattle.net.proofs.Tables.{area_at, area_none, near-at, net_few, net_inside}
+use Rattle.net.proofs.Tables.{area_at, near-at, net_few, net_inside}
 use Rattle.flood.specs.Stack.{marks_at}
-use Rattle.expand.specs.Layout.{Sight}
+use Rattle.expand.specs.Layout.{offers, Sight}
 
--- ---------------------------------------------------------------- one direction
+keeps₁ : (g c : Bool) (x y : Taken) → g ≡ false → y ≡ (when g and c then x else y)
+unfolding when◌then◌else◌ ◌and◌
+keeps₁ g c x y e = rw e
 
-stays : (a b c : Bool) (x y : Taken) → (a and b) and c ≡ false → y ≡ (when a and b and c then x else y)
+keeps₂ : (g c : Bool) (x y : Taken) → c ≡ false → y ≡ (when g and c then x else y)
 unfolding when◌then◌else◌
-stays a b c x y e = rw e
+keeps₂ g c x y e = rw (e, and_no g)
 
-pub no₁ : (a b c : Bool) → a ≡ false → (a and b) and c ≡ false
+takes₂ : (g c : Bool) (x y : Taken) → g ≡ true → c ≡ true → x ≡ (when g and c then x else y)
+unfolding when◌then◌else◌ ◌and◌
+takes₂ g c x y e f = rw (e, f)
+
+pub none₁ : (g c : Bool) → g ≡ false → g and c ≡ false
 unfolding ◌and◌
-no₁ a b c e = rw e
+none₁ g c e = rw e
 
-pub no₂ : (a b c : Bool) → b ≡ false → (a and b) and c ≡ false
-unfolding ◌and◌
-no₂ true b c e = rw e
-no₂ false b c e = refl
-
-pub no₃ : (a b c : Bool) → c ≡ false → (a and b) and c ≡ false
-no₃ a b c e = rw e (and_no (a and b))
+pub none₂ : (g c : Bool) → c ≡ false → g and c ≡ false
+none₂ g c e = rw e (and_no g)
 
 more : (x e : Bool) → e ≡ false → x ≡ x or e
 more x e h = rw h (sym (or_no x))
@@ -45,10 +47,6 @@ four-or : (x a b c e : Bool) → x or (a or b or c or e) ≡ x or a or b or c or
 unfolding ◌or◌
 four-or true a b c e = refl
 four-or false a b c e = refl
-
-changes : (a b c : Bool) (x y : Taken) → a ≡ true → b ≡ true → c ≡ true → x ≡ (when a and b and c then x else y)
-unfolding when◌then◌else◌ ◌and◌
-changes a b c x y e f g = rw (e, f, g)
 
 -- the four places of a span are in the table
 module _ (table : ℕ) (ar ids ws : List ℕ) (s : ℕ) (v : Sight table ar ids ws s) where
@@ -61,7 +59,32 @@ module _ (table : ℕ) (ar ids ws : List ℕ) (s : ℕ) (v : Sight table ar ids 
   pub sight_slot : (d : ℕ) → d < 4 → table + (4 * s + d) < length ws
   sight_slot d h = omega (arith, v.room, v.span)
 
-module _ (table : ℕ) (ar ids ws : List ℕ) (s own d a : ℕ) (t : Taken) (x : Bool) (v : Sight table ar ids ws s) (h : d < 4) (q : own ≡ get_or ar s 0) (n : a ≡ get_or ws (table + (4 * s + d)) 0) where
+-- ---------------------------------------------------------------- a span that is looked at
+
+module _ (ar ids : List ℕ) (own a : ℕ) where
+  pub offers_none : length ar ≤ most_spans → own < 256 → a ≡ none → false ≡ offers ar ids own a
+  unfolding offers ◌and◌
+  offers_none n b z =
+      let e : get_or ar a 256 ≡ 256 = get_or-eq_default ar 256 (omega arith) in
+      rw (ne_eqb (get_or ar a 256) own (λ (y : get_or ar a 256 ≡ own). omega arith))
+
+  module _ (h : a < length ar) where
+    pub offers_area : (get_or ar a 0 ≡ own → ⊥) → false ≡ offers ar ids own a
+    unfolding offers ◌and◌
+    offers_area k = rw (get_d_any ar a 256 0 h, ne_eqb _ _ k)
+
+    module _ (k : get_or ar a 0 ≡ own) where
+      pub offers_plain : (r : Bool) → r ≡ plain (get_or ids a 0) → r ≡ offers ar ids own a
+      unfolding offers ◌and◌
+      offers_plain r e = rw (get_d_any ar a 256 0 h, eq-eqb _ _ k) e
+
+pub plain_some : (r : ℕ) (b : Bool) → (r ≡ 0 → ⊥) → b ≡ flagged r → not b ≡ plain r
+unfolding ◌and◌
+plain_some r b z e = rw (ne_eqb r 0 z) (ap not e)
+
+-- ---------------------------------------------------------------- one direction
+
+module _ (table : ℕ) (ar ids ws : List ℕ) (s own d a : ℕ) (v : Sight table ar ids ws s) (h : d < 4) (q : own ≡ get_or ar s 0) (n : a ≡ get_or ws (table + (4 * s + d)) 0) where
   abbrev N : Net
   N = net_at table ar ws
 
@@ -72,77 +95,62 @@ module _ (table : ℕ) (ar ids ws : List ℕ) (s own d a : ℕ) (t : Taken) (x :
   pub sight_inside : (a ≡ none → ⊥) → a < length ar
   sight_inside z = net_inside table ar ws s d a v.closed v.room v.span h n z
 
-  pub near_a : near N s d ≡ a
+  near_a : near N s d ≡ a
   near_a = near-at table ar ws s d v.room v.span h ∙ sym n
 
-  pub own_area : area_of N s ≡ own
+  own_area : area_of N s ≡ own
   own_area = area_at table ar ws s v.span ∙ sym q
 
-  pub look_none : a ≡ none → own < 256 → (t ≡ look N m s d t) × (x ≡ x or exceeds N m s d)
-  unfolding look exceeds
-  look_none z o =
-      let e : area_of N (near N s d) ≡ 256 = ap (area_of N) (near_a ∙ z) ∙ area_none N v.closed in
-      let y : area_of N (near N s d) ≡ area_of N s → ⊥ = λ (y : area_of N (near N s d) ≡ area_of N s). omega (arith, own_area) in
-      (stays _ _ _ _ _ (no₁ _ _ _ (ne_eqb _ _ y)), more x _ (no₁ _ _ _ (ne_eqb _ _ y)))
+  there : area_of N (near N s d) ≡ get_or ar a 256
+  unfolding area_of net_at
+  there = ap (area_of N) near_a
 
-  module _ (i : a < length ar) where
-    pub at_area : area_of N (near N s d) ≡ get_or ar a 0
-    at_area = ap (area_of N) near_a ∙ area_at table ar ws a i
+  at_id : get_or ids (near N s d) 0 ≡ get_or ids a 0
+  at_id = ap (λ (x : ℕ). get_or ids x 0) near_a
 
-    pub at_id : get_or ids (near N s d) 0 ≡ get_or ids a 0
-    at_id = ap (λ (x : ℕ). get_or ids x 0) near_a
+  module _ (b : Bool) (o : b ≡ offers ar ids own a) where
+    pub guard : eqb (area_of N (near N s d)) (area_of N s) and plain (id_of m (near N s d)) ≡ b
+    unfolding offers
+    guard = rw (there, own_area, at_id) (sym o)
 
-    pub look_area : (u : ℕ) → u ≡ get_or ar a 0 → (u ≡ own → ⊥) → (t ≡ look N m s d t) × (x ≡ x or exceeds N m s d)
-    unfolding look exceeds
-    look_area u e k =
-        let y = ne_eqb _ _ (λ y. k (e ∙ sym at_area ∙ y ∙ own_area)) in
-        (stays _ _ _ _ _ (no₁ _ _ _ y), more x _ (no₁ _ _ _ y))
+    pub offers_inside : own < 256 → b ≡ true → a < length ar
+    offers_inside l y = elim (ℕ_discrete a none) [
+      | yes z ↦ absurd (true≢false (sym y ∙ o ∙ sym (offers_none ar ids own a (net_few table ar ws v.closed) l z)))
+      | no z ↦ sight_inside z
+    ]
 
-    module _ (r : ℕ) (o : r ≡ get_or ids a 0) where
-      pub look_zero : r ≡ 0 → (t ≡ look N m s d t) × (x ≡ x or exceeds N m s d)
+    module _ (t : Taken) (x : Bool) where
+      pub look_none : b ≡ false → (t ≡ look N m s d t) × (x ≡ x or exceeds N m s d)
       unfolding look exceeds
-      look_zero e = let y = plain_zero _ (at_id ∙ sym o ∙ e) in (stays _ _ _ _ _ (no₂ _ _ _ y), more x _ (no₂ _ _ _ y))
+      look_none y = (keeps₁ _ _ _ _ (guard ∙ y), more x _ (none₁ _ _ (guard ∙ y)))
 
-      module _ (b : Bool) (eb : b ≡ flagged r) where
-        pub look_flag : b ≡ true → (t ≡ look N m s d t) × (x ≡ x or exceeds N m s d)
+      module _ (y : b ≡ true) (i : a < length ar) (f : ℕ) (p : f ≡ get_or ws a 0) where
+        pub at-far : get_or m.src (near N s d) 0 ≡ f
+        at-far = rw (near_a, get_or-take (length ar) ws a 0 i) (sym p)
+
+        -- the sum exceeds 65,535, and what is found is nearer
+        pub look_stray : t.far ≤ 65535 → 65533 < f → (t ≡ look N m s d t) × (true ≡ x or exceeds N m s d)
         unfolding look exceeds
-        look_flag y =
-            let g : 0x8000 ≤ r = leb-true _ _ (sym eb ∙ y) in
-            let k = plain-flagged _ (rw (o ∙ sym at_id) at g) in
-            (stays _ _ _ _ _ (no₂ _ _ _ k), more x _ (no₂ _ _ _ k))
+        look_stray g l = (
+          keeps₂ _ _ _ _ (rw at-far (le-ltb (f + 2) t.far (omega arith))),
+          sym (or_right x _ (and_both _ _ (guard ∙ y) (rw at-far (lt-ltb 65535 (f + 2) (omega arith))))),
+        )
 
-        module _ (f : ℕ) (p : f ≡ get_or ws a 0) where
-          pub at-far : get_or m.src (near N s d) 0 ≡ f
-          at-far = rw (near_a, get_or-take (length ar) ws a 0 i) (sym p)
+        module _ (c : ℕ) (w : c ≡ f + 2) (g : f ≤ 65533) where
+          fits : x ≡ x or exceeds N m s d
+          unfolding exceeds
+          fits = more x _ (none₂ _ _ (rw at-far (le-ltb 65535 (f + 2) (omega arith))))
 
-          -- the sum exceeds 65,535, and what is found is nearer
-          pub look_stray : (u : ℕ) → u ≡ get_or ar a 0 → u ≡ own → (r ≡ 0 → ⊥) → b ≡ false → t.far ≤ 65535 → 65533 < f → (t ≡ look N m s d t) × (true ≡ x or exceeds N m s d)
-          unfolding look exceeds
-          look_stray u e k z y g l = (
-            stays _ _ _ _ _ (no₃ _ _ _ (rw at-far (le-ltb (f + 2) t.far (omega arith)))),
-            sym (or_right x _ (and_both _ _ (and_both _ _ (eq-eqb _ _ (at_area ∙ sym e ∙ k ∙ sym own_area)) (plain_at z y)) (rw at-far (lt-ltb 65535 (f + 2) (omega arith))))),
-          )
-            where
-              plain_at : (r ≡ 0 → ⊥) → b ≡ false → plain (get_or ids (near N s d) 0) ≡ true
-              plain_at z y = rw (at_id ∙ sym o) (plain_yes _ z (leb-false _ _ (sym eb ∙ y)))
+          pub look-far : t.far ≤ c → (t ≡ look N m s d t) × (x ≡ x or exceeds N m s d)
+          unfolding look
+          look-far e = (keeps₂ _ _ _ _ (rw (at-far, ← w) (le-ltb _ _ e)), fits)
 
-          module _ (c : ℕ) (w : c ≡ f + 2) (g : f ≤ 65533) where
-            fits : x ≡ x or exceeds N m s d
-            unfolding exceeds
-            fits = more x _ (no₃ _ _ _ (rw at-far (le-ltb 65535 (f + 2) (omega arith))))
+          found : (r : ℕ) → r ≡ get_or ids a 0 → ◌≡◌ {A = Taken} (record { id = r; far = c }) (record { id = id_of m (near N s d); far = get_or m.src (near N s d) 0 + 2 })
+          found r o = rw (at-far, at_id ∙ sym o, ← w) refl
 
-            pub look-far : t.far ≤ c → (t ≡ look N m s d t) × (x ≡ x or exceeds N m s d)
-            unfolding look
-            look-far e = (stays _ _ _ _ _ (no₃ _ _ _ (rw (at-far, ← w) (le-ltb _ _ e))), fits)
-
-            pub look-take : (u : ℕ) → u ≡ get_or ar a 0 → u ≡ own → (r ≡ 0 → ⊥) → b ≡ false → c < t.far
-                → (record { id = r; far = c } ≡ look N m s d t) × (x ≡ x or exceeds N m s d)
-            unfolding look
-            look-take u e k z y l = (
-              rw (at-far, at_id ∙ sym o, ← w)
-                  (changes _ _ _ _ _ (eq-eqb _ _ (at_area ∙ sym e ∙ k ∙ sym own_area)) (plain_yes _ z (leb-false _ _ (sym eb ∙ y))) (lt-ltb _ _ l)),
-              fits,
-            )
+          pub look-take : (r : ℕ) → r ≡ get_or ids a 0 → c < t.far → (record { id = r; far = c } ≡ look N m s d t) × (x ≡ x or exceeds N m s d)
+          unfolding look
+          look-take r o l = (found r o ∙ takes₂ _ _ _ t (guard ∙ y) (rw (at-far, ← w) (lt-ltb _ _ l)), fits)
 
 look-near : (n : Net) (marks : Marks) (s d : ℕ) (t : Taken) → (look n marks s d t).far ≤ t.far
 unfolding look

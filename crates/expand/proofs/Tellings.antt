@@ -3,96 +3,83 @@
 use mathlib.Core.Path.{◌≡◌, refl, sym, ap, ◌∙◌}
 use mathlib.Core.Bool.{Bool, true, false, true≢false}
 use mathlib.Core.List.{List, map}
-use Prim.Native.Nat.{ℕ, suc, ◌+◌, ◌*◌, ◌≤◌, ◌<◌}
+use Prim.Native.Nat.{ℕ, zero, suc, ◌+◌, ◌-◌, ◌*◌, ◌≤◌, ◌<◌}
 use native.Mathlib.Omega.{arith}
+use Rattle.std.specs.Option.{MatchOption}
+use Rattle.std.proofs.Common.{Option, Some, None}
 use native.Mathlib.Decide.{ℕ_discrete}
 use lib.ListN.{length, get_or}
-use borrow.Author.Tests.{eq-eqb, ne_eqb, leb-true, leb-false}
+use lib.Dec.{eqb}
 use Rattle.rules.specs.Base.{◌and◌, when◌then◌else◌, any}
 use Rattle.rules.specs.Field.{none}
-use Rattle.rules.specs.Net.{Net, spans, near, area_of}
-use Rattle.rules.specs.Growth.{Marks, Taken, flagged, takes, finds, Spread, round}
+use Rattle.rules.specs.Net.{Net, spans, near}
+use Rattle.rules.specs.Growth.{Marks, takes, finds, Spread, round}
 use Rattle.rules.specs.Refusals.{most_spans}
 use Rattle.rules.specs.Reasons.{Story, took_from, gives, source, round_tells, rounds_tell}
 use Rattle.laws.proofs.Basics.{and_both, both, if-ind}
-use Rattle.laws.proofs.Plain.{plain_zero, plain-flagged, plain_yes}
 use Rattle.net.specs.Table.{net_at, Closed}
-use Rattle.net.proofs.Tables.{area_none, near-at, spans-at}
+use Rattle.net.proofs.Tables.{near-at, spans-at}
 use Rattle.flood.specs.Stack.{marks_at}
-use Rattle.expand.specs.Layout.{Sight, fresh, list_at}
+use Rattle.expand.specs.Layout.{offers, Sight, fresh, list_at}
 use Rattle.expand.specs.Front.{Queued, Board, Spans, Front, front_of}
 use Rattle.expand.specs.Told.{Sought, source_at, RoundTold}
 use Rattle.expand.proofs.Waves.{has, keep_in, keep_out, changes}
 use Rattle.expand.proofs.Fronts.{change_queued, queued_change}
-use Rattle.expand.proofs.Looks.{no₁, no₂, no₃, near_a, own_area, at_area, at_id, at-far}
+use Rattle.expand.proofs.Looks.{none₁, guard, at-far}
 
 -- ---------------------------------------------------------------- whose id a span takes
 
-blank : Taken
-blank = record { id = 0; far = 0 }
-
-module _ (table : ℕ) (ar ids ws : List ℕ) (s own d a far : ℕ) (v : Sight table ar ids ws s) (h : d < 4) (q : own ≡ get_or ar s 0) (n : a ≡ get_or ws (table + (4 * s + d)) 0) where
-  pub gives_none : a ≡ none → own < 256 → false ≡ gives (net_at table ar ws) (marks_at (length ar) ids ws) s far d
+module _ (table : ℕ) (ar ids ws : List ℕ) (s own d a far : ℕ) (v : Sight table ar ids ws s) (h : d < 4) (q : own ≡ get_or ar s 0) (n : a ≡ get_or ws (table + (4 * s + d)) 0)
+    (b : Bool) (o : b ≡ offers ar ids own a) where
+  pub gives_none : b ≡ false → false ≡ gives (net_at table ar ws) (marks_at (length ar) ids ws) s far d
   unfolding gives
-  gives_none z o =
-      let N = net_at table ar ws in
-      let e : area_of N (near N s d) ≡ 256 = ap (area_of N) (near_a table ar ids ws s own d a blank false v h q n ∙ z) ∙ area_none N v.closed in
-      let y : area_of N (near N s d) ≡ area_of N s → ⊥ = λ (y : area_of N (near N s d) ≡ area_of N s). omega (arith, own_area table ar ids ws s own d a blank false v h q n) in
-      sym (no₁ _ _ _ (ne_eqb _ _ y))
+  gives_none y = sym (none₁ _ _ (guard table ar ids ws s own d a v h q n b o ∙ y))
 
-  module _ (i : a < length ar) where
-    pub gives_area : (u : ℕ) → u ≡ get_or ar a 0 → (u ≡ own → ⊥) → false ≡ gives (net_at table ar ws) (marks_at (length ar) ids ws) s far d
-    unfolding gives
-    gives_area u e k =
-        sym (no₁ _ _ _ (ne_eqb _ _ (λ y. k (e ∙ sym (at_area table ar ids ws s own d a blank false v h q n i) ∙ y ∙ own_area table ar ids ws s own d a blank false v h q n))))
-
-    module _ (r : ℕ) (o : r ≡ get_or ids a 0) where
-      pub gives_zero : r ≡ 0 → false ≡ gives (net_at table ar ws) (marks_at (length ar) ids ws) s far d
-      unfolding gives
-      gives_zero e = sym (no₂ _ _ _ (plain_zero _ (at_id table ar ids ws s own d a blank false v h q n i ∙ sym o ∙ e)))
-
-      module _ (b : Bool) (eb : b ≡ flagged r) where
-        pub gives_flag : b ≡ true → false ≡ gives (net_at table ar ws) (marks_at (length ar) ids ws) s far d
-        unfolding gives
-        gives_flag y =
-            let g : 0x8000 ≤ r = leb-true _ _ (sym eb ∙ y) in
-            sym (no₂ _ _ _ (plain-flagged _ (rw (o ∙ sym (at_id table ar ids ws s own d a blank false v h q n i)) at g)))
-
-        module _ (f : ℕ) (p : f ≡ get_or ws a 0) where
-          pub gives_less : (f + 2 ≡ far → ⊥) → false ≡ gives (net_at table ar ws) (marks_at (length ar) ids ws) s far d
-          unfolding gives
-          gives_less w = sym (no₃ _ _ _ (rw (at-far table ar ids ws s own d a blank false v h q n i r o b eb f p) (ne_eqb _ _ w)))
-
-          pub gives-sum : (u : ℕ) → u ≡ get_or ar a 0 → u ≡ own → (r ≡ 0 → ⊥) → b ≡ false → f + 2 ≡ far
-              → true ≡ gives (net_at table ar ws) (marks_at (length ar) ids ws) s far d
-          unfolding gives
-          gives-sum u e k z y w = sym (and_both _ _
-              (and_both _ _ (eq-eqb _ _ (at_area table ar ids ws s own d a blank false v h q n i ∙ sym e ∙ k ∙ sym (own_area table ar ids ws s own d a blank false v h q n)))
-              (rw (at_id table ar ids ws s own d a blank false v h q n i ∙ sym o) (plain_yes _ z (leb-false _ _ (sym eb ∙ y)))))
-              (rw (at-far table ar ids ws s own d a blank false v h q n i r o b eb f p) (eq-eqb _ _ w)))
+  pub gives_sum : b ≡ true → a < length ar → (r : Bool) → r ≡ eqb (get_or ws a 0 + 2) far → r ≡ gives (net_at table ar ws) (marks_at (length ar) ids ws) s far d
+  unfolding gives ◌and◌
+  gives_sum y i r e =
+      rw (guard table ar ids ws s own d a v h q n b o ∙ y, at-far table ar ids ws s own d a v h q n b o (record { id = 0; far = 0 }) false y i _ refl) e
 
 -- the neighbour in direction d, as read
 pub side_is : (table : ℕ) (ar ids ws : List ℕ) (s : ℕ) → Sight table ar ids ws s → (d : ℕ) → d < 4 → (o : ℕ) → o ≡ get_or ws (table + (4 * s + d)) 0 → o ≡ near (net_at table ar ws) s d
 side_is table ar ids ws s v d h o e = e ∙ sym (near-at table ar ws s d v.room v.span h)
 
-module _ (N : Net) (m : Marks) (s far : ℕ) (a : Bool) (ea : a ≡ gives N m s far 0) where
-  pub source_0 : a ≡ true → (o : ℕ) → o ≡ near N s 0 → o ≡ source_at N m s far
-  unfolding source_at when◌then◌else◌
-  source_0 y o eo = rw (sym ea ∙ y) eo
+-- the neighbour in the first of k directions from d that has the sum, or else in the one past them
+pub source_from : Net → Marks → ℕ → ℕ → ℕ → ℕ → ℕ
+source_from N m s far zero d = near N s d
+source_from N m s far (suc k) d = when gives N m s far d then near N s d else source_from N m s far k (d + 1)
 
-  module _ (y : a ≡ false) (b : Bool) (eb : b ≡ gives N m s far 1) where
-    pub source_1 : b ≡ true → (o : ℕ) → o ≡ near N s 1 → o ≡ source_at N m s far
-    unfolding source_at when◌then◌else◌
-    source_1 z o eo = rw (sym ea ∙ y, sym eb ∙ z) eo
+-- at direction d of the first three: what is left to look at gives what all give
+pub record Looking (N : Net) (m : Marks) (s far d : ℕ) : Type 0 where
+  pub few : d ≤ 3
+  pub same : source_at N m s far ≡ source_from N m s far (3 - d) d
 
-    module _ (z : b ≡ false) (c : Bool) (ec : c ≡ gives N m s far 2) where
-      pub source_2 : c ≡ true → (o : ℕ) → o ≡ near N s 2 → o ≡ source_at N m s far
-      unfolding source_at when◌then◌else◌
-      source_2 x o eo = rw (sym ea ∙ y, sym eb ∙ z, sym ec ∙ x) eo
+pub source_start : (N : Net) (m : Marks) (s far : ℕ) → Looking N m s far 0
+unfolding source_at source_from
+source_start N m s far = record { few = omega arith; same = refl }
 
-      pub source_3 : c ≡ false → (o : ℕ) → o ≡ near N s 3 → o ≡ source_at N m s far
-      unfolding source_at when◌then◌else◌
-      source_3 x o eo = rw (sym ea ∙ y, sym eb ∙ z, sym ec ∙ x) eo
+module _ (N : Net) (m : Marks) (s far d : ℕ) (v : Looking N m s far d) where
+  module _ (h : d < 3) (a : Bool) (ea : a ≡ gives N m s far d) where
+    left : 3 - d ≡ suc (3 - (d + 1))
+    left = omega arith
+
+    now_at : source_at N m s far ≡ when a then near N s d else source_from N m s far (3 - (d + 1)) (d + 1)
+    unfolding source_from
+    now_at = rw ea (rw left at v.same)
+
+    pub source_here : a ≡ true → (o : ℕ) → o ≡ near N s d → o ≡ source_at N m s far
+    unfolding when◌then◌else◌
+    source_here z o eo = eo ∙ sym (rw z at now_at)
+
+    pub source_on : a ≡ false → Looking N m s far (d + 1)
+    unfolding when◌then◌else◌
+    source_on z = record { few = omega arith; same = rw z at now_at }
+
+  pub source_last : 3 ≤ d → (o : ℕ) → o ≡ near N s 3 → o ≡ source_at N m s far
+  unfolding source_from
+  source_last h o eo =
+      let z : d ≡ 3 = omega (arith, v.few) in
+      eo ∙ sym (rw z at v.same)
 
 source_is : (N : Net) (m : Marks) (s far : ℕ) → far ≡ (takes N m s).far → source_at N m s far ≡ source N m s
 unfolding source_at source
@@ -100,66 +87,40 @@ source_is N m s far e = rw e
 
 -- ---------------------------------------------------------------- the queue
 
--- none of the changes before i is of span s
-pub record Seeking (ws : List ℕ) (e lo hi s i : ℕ) : Type 0 where
-  pub from : lo ≤ i
-  pub to : i ≤ hi
-  pub not_yet : (j : ℕ) → lo ≤ j → j < i → get_or ws (e + 3 * j) 0 ≡ s → ⊥
-
-module _ (ws : List ℕ) (e lo hi s : ℕ) where
-  pub seeking_start : lo ≤ hi → Seeking ws e lo hi s lo
-  seeking_start h = record { from = omega arith; to = h; not_yet = λ j l u z. omega arith }
-
-  module _ (i : ℕ) (v : Seeking ws e lo hi s i) where
-    pub seeking_next : i < hi → (x : ℕ) → x ≡ get_or ws (e + 3 * i) 0 → (x ≡ s → ⊥) → Seeking ws e lo hi s (i + 1)
-    seeking_next h x q z = record {
-      from = omega (arith, v.from);
-      to = omega arith;
-      not_yet = λ j l u y. elim (ℕ_discrete j i) [
-        | yes p ↦ z (q ∙ ap (λ (k : ℕ). get_or ws (e + 3 * k) 0) (sym p) ∙ y)
-        | no p ↦ v.not_yet j l (omega arith) y
-      ];
-    }
-
-    pub seeking_found : i < hi → (x : ℕ) → x ≡ get_or ws (e + 3 * i) 0 → x ≡ s → Sought ws e lo hi s i
-    seeking_found h x q z = record { from = v.from; to = omega arith; found = λ _. sym q ∙ z; nowhere = λ l _. omega arith }
-
-    pub seeking_end : hi ≤ i → Sought ws e lo hi s hi
-    seeking_end h = record {
-      from = omega (arith, v.from, v.to);
-      to = omega arith;
-      found = λ l. absurd (omega arith);
-      nowhere = λ _ q. v.not_yet q.at q.from (omega (arith, q.to)) q.is;
-    }
+-- as `find` gives it
+pub sought_first : (ws : List ℕ) (e lo hi s : ℕ) (r : Option ℕ)
+    → MatchOption r ((k : ℕ) → lo ≤ k → k < hi → get_or ws (e + 3 * k) 0 ≡ s → ⊥)
+    (λ i. (lo ≤ i) × (i < hi) × (get_or ws (e + 3 * i) 0 ≡ s) × ((k : ℕ) → lo ≤ k → k < i → get_or ws (e + 3 * k) 0 ≡ s → ⊥)) → Sought ws e lo hi s r
+sought_first ws e lo hi s (Some i) h = record { found = λ j z. let e : i ≡ j = cc in rw (← e) (h.0, h.1, h.2); nowhere = λ z. cc }
+sought_first ws e lo hi s None h = record { found = λ j z. cc; nowhere = λ _ q. h q.at q.from q.to q.is }
 
 -- what is queued is a span
 pub queued_span : (ws : List ℕ) (n e lo hi s : ℕ) → Spans n e lo hi ws → Queued ws e lo hi s → s < n
 queued_span ws n e lo hi s v q = rw q.is at (v.span q.at q.from q.to)
 
 -- and so is what was sought and found
-pub sought_span : (ws : List ℕ) (n e lo hi s i : ℕ) → Spans n e lo hi ws → Sought ws e lo hi s i → (i ≡ hi → ⊥) → s < n
-sought_span ws n e lo hi s i v k z = let h : i < hi = omega (arith, k.to) in rw (k.found h) at (v.span i k.from h)
+pub sought_span : (ws : List ℕ) (n e lo hi s i : ℕ) (r : Option ℕ) → Spans n e lo hi ws → Sought ws e lo hi s r → r ≡ Some i → s < n
+sought_span ws n e lo hi s i r v k z = let f = k.found i z in rw f.2 at (v.span i f.0 f.1)
 
 module _ (N : Net) (m : Marks) (ws : List ℕ) (n e lo hi : ℕ) (y : Story) (v : Spans n e lo hi ws) where
   -- a build that watches no span
   pub told_none : n ≤ most_spans → y.span ≡ 65535 → RoundTold N m ws e lo hi y y
   told_none h z = record { took = λ q. absurd (let l = queued_span ws n e lo hi y.span v q in omega arith); still = λ _. refl }
 
-  module _ (i : ℕ) (k : Sought ws e lo hi y.span i) where
-    pub told_still : i ≡ hi → RoundTold N m ws e lo hi y y
-    told_still z = record { took = λ q. absurd (k.nowhere (omega arith) q); still = λ _. refl }
+  module _ (r : Option ℕ) (k : Sought ws e lo hi y.span r) where
+    pub told_still : r ≡ None → RoundTold N m ws e lo hi y y
+    told_still z = record { took = λ q. absurd (k.nowhere z q); still = λ _. refl }
 
     -- the change that was found is the watched span's
-    sought_in : (i ≡ hi → ⊥) → i < hi
-    sought_in z = omega (arith, k.to)
-
-    pub told_took : (i ≡ hi → ⊥) → (far : ℕ) → far ≡ get_or ws (e + 3 * i + 2) 0 → (o : ℕ) → o ≡ source_at N m y.span far
+    pub told_took : (i : ℕ) → r ≡ Some i → (far : ℕ) → far ≡ get_or ws (e + 3 * i + 2) 0 → (o : ℕ) → o ≡ source_at N m y.span far
         → RoundTold N m ws e lo hi y (record { span = y.span; from = o; gave = y.gave; objecting = y.objecting })
     unfolding took_from
-    told_took z far ef o eo = record {
-      took = λ _. record { at = i; from = k.from; to = sought_in z; is = k.found (sought_in z); told = rw (← ef, ← eo) refl };
-      still = λ f. absurd (f (record { at = i; from = k.from; to = sought_in z; is = k.found (sought_in z) }));
-    }
+    told_took i z far ef o eo =
+        let f = k.found i z in
+        record {
+          took = λ _. record { at = i; from = f.0; to = f.1; is = f.2; told = rw (← ef, ← eo) refl };
+          still = λ g. absurd (g (record { at = i; from = f.0; to = f.1; is = f.2 }));
+        }
 
 -- and whose id it takes is a number of 16 bits: a span, or none
 near-small : (N : Net) (s d : ℕ) → Closed N → s < spans N → d < 4 → near N s d < 65536

@@ -14,9 +14,6 @@ use Rattle.expand.specs.Front.{Spans, Writing}
 use Rattle.expand.proofs.Lists.{changes_at_snoc, applied_snoc}
 
 -- a change made, as the code makes it
-pub set_is : (l : List ℕ) (s v s' v' : ℕ) → s ≡ s' → v ≡ v' → set l s v ≡ set l s' v'
-set_is l s v s' v' e f = rw (e, f)
-
 put_marks : (n : ℕ) (ids ws : List ℕ) (s id far : ℕ) → s < n → marks_at n (set ids s id) (set ws s far) ≡ put (marks_at n ids ws) s id far
 unfolding put
 put_marks n ids ws s id far h = rw (take-set-lt n ws s far h)

@@ -4,7 +4,7 @@ use Rattle.std.specs.Prelude.{◌≡◌, ◌⊎◌, Bool, List, [], ◌∷◌, �
 use Rattle.rules.specs.Base.{◌and◌, when◌then◌else◌, tab, keep}
 use Rattle.rules.specs.Field.{none}
 use Rattle.rules.specs.Net.{Net}
-use Rattle.rules.specs.Growth.{Marks, Taken, put, walkable, finds, Spread}
+use Rattle.rules.specs.Growth.{Marks, Taken, put, plain, walkable, finds, Spread}
 use Rattle.rules.specs.Refusals.{most_spans}
 use Rattle.laws.proofs.Basics.{All}
 use Rattle.space.specs.Space.{Clear}
@@ -24,6 +24,10 @@ fresh ids e = when eqb (get_or ids e 0) 0 then e else none
 -- what the code has of a find is the rule's
 abbrev pub taken_of : code.Taken → Taken
 taken_of t = record { id = t.id; far = t.far }
+
+-- span a has the area own and a plain id
+unfoldable pub offers : List ℕ → List ℕ → ℕ → ℕ → Bool
+offers areas ids own a = eqb (get_or areas a 256) own and plain (get_or ids a 0)
 
 -- the number of rounds: no limit at level 0, where each but the last uses up an entry
 unfoldable pub most_at : ℕ → ℕ → ℕ

@@ -1,17 +1,15 @@
 -- What a round does to the watched span, as the code tells it: the changes lo .. hi are those of the round.
-use Rattle.std.specs.Prelude.{◌≡◌, List, ℕ, ◌+◌, ◌*◌, ◌≤◌, ◌<◌, get_or}
+use Rattle.std.specs.Prelude.{◌≡◌, Option, Some, None, List, ℕ, ◌+◌, ◌*◌, ◌≤◌, ◌<◌, get_or}
 use Rattle.rules.specs.Base.{when◌then◌else◌}
 use Rattle.rules.specs.Net.{Net, near}
 use Rattle.rules.specs.Growth.{Marks}
 use Rattle.rules.specs.Reasons.{Story, took_from, gives}
 use Rattle.expand.specs.Front.{Queued}
 
--- the place i is that of span s among them, or hi where it stands nowhere
-pub record Sought (ws : List ℕ) (e lo hi s i : ℕ) : Type 0 where
-  pub from : lo ≤ i
-  pub to : i ≤ hi
-  pub found : i < hi → get_or ws (e + 3 * i) 0 ≡ s
-  pub nowhere : hi ≤ i → Queued ws e lo hi s → ⊥
+-- the place of span s among them, or none where it stands nowhere
+pub record Sought (ws : List ℕ) (e lo hi s : ℕ) (r : Option ℕ) : Type 0 where
+  pub found : (i : ℕ) → r ≡ Some i → (lo ≤ i) × (i < hi) × (get_or ws (e + 3 * i) 0 ≡ s)
+  pub nowhere : r ≡ None → Queued ws e lo hi s → ⊥
 
 -- the first neighbour of entry s with the sum far
 unfoldable pub source_at : Net → Marks → ℕ → ℕ → ℕ

@@ -13,7 +13,6 @@ ghost use Rattle.expand.specs.Front.{Settled};
 use crate::Stack;
 use crate::flags::{enter_all, leave_all};
 use crate::round::rounds;
-use field::read::{at8, at16};
 use flood::story::Story;
 use net::Sections;
 use space::clear_part;
@@ -26,10 +25,7 @@ fn most_rounds(level: u16, fill: usize) -> usize
     requires { fill ≤ most_spans }
     ensures { result ≡ most_at level fill }
 {
-    if level == 0 {
-        return fill + 1;
-    }
-    ROUNDS
+    if level == 0 { fill + 1 } else { ROUNDS }
 }
 
 // After the rounds, with k changes noted: flags and changes are zeroed, and entries that have an id now are marked used.
@@ -81,10 +77,9 @@ pub fn expand_regions(
     let most = most_rounds(level, stack.fill);
     let t = rounds(area, ids, ws, at, stack, most, story);
     settle(ids, ws, at, stack, t.noted);
-    let told = t.story;
     Expanded {
         strays: t.strays,
-        story: told,
+        story: t.story,
     }
 }
 
@@ -95,10 +90,7 @@ fn fill_one(area: &[u8], ids: &[u16], ws: &mut [u16], s: usize, fill: usize) -> 
     ensures ws_after { ws.new ≡ push_at area.now ids.now s (length area.now + fill) ws.old }
     ensures value { result ≡ fill_at area.now ids.now s fill }
 {
-    if at8(area, s) == 0 {
-        return fill;
-    }
-    if at16(ids, s) != 0 {
+    if area[s] == 0 || ids[s] != 0 {
         return fill;
     }
     ws[area.len() + fill] = s as u16;
@@ -112,10 +104,8 @@ fn fill_stack(area: &[u8], ids: &[u16], ws: &mut [u16]) -> usize
         Filling n area.now ids.now ws.old ws.new n result }
 {
     let mut fill: usize = 0;
-    let mut s: usize = 0;
-    while s < area.len() {
+    for s in 0..area.len() {
         fill = fill_one(area, ids, ws, s, fill);
-        s += 1;
     }
     fill
 }

@@ -8,9 +8,8 @@ ghost use Rattle.expand.specs.Front.{Entering, Leaving};
 
 use crate::Stack;
 use field::place::NO_SPAN;
-use field::read::at16;
 
-// A used entry: NO_SPAN in 16 bits.
+// A used entry: NO_SPAN in 16 bits, since entries are numbers of the workspace.
 const USED: u16 = 65535;
 
 // The entry at i is marked used if it has an id; if not, its flag rises. Flags begin at `flags`.
@@ -20,15 +19,15 @@ fn enter_one(ids: &[u16], ws: &mut [u16], flags: usize, i: usize)
     ensures { let entry = fresh ids.now (get_or ws.old i 0) in
         ws.new ≡ flagged flags entry 1 (set ws.old i entry) }
 {
-    let s = at16(ws, i);
+    let s = ws[i] as usize;
     if s == NO_SPAN {
         return;
     }
-    if at16(ids, s) == 0 {
+    if ids[s] == 0 {
         ws[flags + s] = 1;
-        return;
+    } else {
+        ws[i] = USED;
     }
-    ws[i] = USED;
 }
 
 // "first, entries that have an id are marked used"
@@ -37,10 +36,8 @@ pub(crate) fn enter_all(ids: &[u16], ws: &mut [u16], flags: usize, stack: Stack)
         Past n stack.at (flags + n) ws.old × (stack.at + n ≤ flags) × Entries n stack.at stack.fill ws.old }
     ensures { Entering stack.at flags stack.fill ids.now ws.old ws.new stack.fill }
 {
-    let mut j: usize = 0;
-    while j < stack.fill {
+    for j in 0..stack.fill {
         enter_one(ids, ws, flags, stack.at + j);
-        j += 1;
     }
 }
 
@@ -51,15 +48,14 @@ fn leave_one(ids: &[u16], ws: &mut [u16], flags: usize, i: usize)
     ensures { let entry = get_or ws.old i 0 in
         ws.new ≡ set (flagged flags entry 0 ws.old) i (fresh ids.now entry) }
 {
-    let s = at16(ws, i);
+    let s = ws[i] as usize;
     if s == NO_SPAN {
         return;
     }
     ws[flags + s] = 0;
-    if at16(ids, s) == 0 {
-        return;
+    if ids[s] != 0 {
+        ws[i] = USED;
     }
-    ws[i] = USED;
 }
 
 // All of the stack.
@@ -68,9 +64,7 @@ pub(crate) fn leave_all(ids: &[u16], ws: &mut [u16], flags: usize, stack: Stack)
         Past n stack.at (flags + n) ws.old × (stack.at + n ≤ flags) × Entries n stack.at stack.fill ws.old }
     ensures { Leaving stack.at flags stack.fill ids.now ws.old ws.new stack.fill }
 {
-    let mut j: usize = 0;
-    while j < stack.fill {
+    for j in 0..stack.fill {
         leave_one(ids, ws, flags, stack.at + j);
-        j += 1;
     }
 }

@@ -3,17 +3,19 @@ ghost use Rattle.std.specs.Prelude.{◌≡◌, ◌+◌, ◌<◌, ◌≤◌, leng
 ghost use Rattle.rules.specs.Base.{◌or◌};
 ghost use Rattle.rules.specs.Growth.{look, takes, exceeds, strays};
 ghost use Rattle.rules.specs.Reasons.{gives};
+ghost use Rattle.rules.specs.Field.{none};
+ghost use Rattle.rules.specs.Refusals.{most_spans};
 ghost use Rattle.net.specs.Table.{net_at};
 ghost use Rattle.flood.specs.Stack.{marks_at};
-ghost use Rattle.expand.specs.Layout.{taken_of, Sight};
+ghost use Rattle.expand.specs.Layout.{taken_of, offers, Sight};
 ghost use Rattle.expand.specs.Told.{source_at};
 
 use field::place::{NO_SPAN, SpanIx};
-use field::read::at8;
 use net::neighbour;
 use region::RegionId;
 
-// An id, and the source distance that goes with it; and whether a sum exceeded what a source distance can be. Filled up, as `Tries` is.
+// An id, NONE until one is found, and the source distance that goes with it; and whether a sum exceeded what a source distance can be. Filled up, as
+// `Tries` is; an Option would have bytes that no field has.
 #[derive(Clone, Copy)]
 pub struct Taken {
     pub id: u16,
@@ -25,23 +27,21 @@ pub struct Taken {
 // Farther than any sum that is found.
 const FARTHEST: u16 = 65535;
 
-// The id of span t.
-fn id_at(ids: &[u16], t: usize) -> u16
-    requires { t < length ids.now }
-    ensures { result ≡ get_or ids.now t 0 }
-{
-    ids[t]
-}
-
 // The greatest source distance that can be farther by 2.
 const MOST_SOURCE: u16 = 65533;
 
-// The source distance of span t.
-fn source_at(ws: &[u16], t: usize) -> u16
-    requires { t < length ws.now }
-    ensures { result ≡ get_or ws.now t 0 }
+// Is it a span of the area own, with an id that is no border's?
+fn offers(area: &[u8], ids: &[u16], span: SpanIx, own: u8) -> bool
+    requires area_len_bound { (length area.now ≤ most_spans) × ((span.0 ≡ none → ⊥) → span.0 < length area.now) }
+    requires ids_len { (length ids.now ≡ length area.now) × (own < 256) }
+    ensures { result ≡ offers area.now ids.now own span.0 }
 {
-    ws[t]
+    let a = span.0;
+    if a == NO_SPAN || area[a] != own {
+        return false;
+    }
+    let id = RegionId(ids[a]);
+    id.0 != RegionId::NONE.0 && !id.is_border()
 }
 
 // An entry of the area own looks in direction d, having found t.
@@ -51,7 +51,7 @@ fn look(
     ws: &[u16],
     table: usize,
     span: SpanIx,
-    own: usize,
+    own: u8,
     d: usize,
     t: Taken,
 ) -> Taken
@@ -61,36 +61,20 @@ fn look(
         let marks = marks_at (length area.now) ids.now ws.now in
         (taken_of result ≡ look net marks span.0 d (taken_of t)) × (result.strays ≡ t.strays or exceeds net marks span.0 d) }
 {
-    let a = neighbour(ws, table, span, d).0;
-    if a == NO_SPAN {
+    let a = neighbour(ws, table, span, d);
+    if !offers(area, ids, a, own) {
         return t;
     }
-    if at8(area, a) != own {
-        return t;
-    }
-    let r = id_at(ids, a);
-    if r == RegionId::NONE.0 {
-        return t;
-    }
-    if RegionId(r).is_border() {
-        return t;
-    }
-    let f = source_at(ws, a);
+    let f = ws[a.0];
     if MOST_SOURCE < f {
-        return Taken {
-            id: t.id,
-            far: t.far,
-            strays: true,
-            fill1: 0,
-        };
+        return Taken { strays: true, ..t };
     }
     let far = f + 2;
     if far < t.far {
         return Taken {
-            id: r,
+            id: ids[a.0],
             far,
-            strays: t.strays,
-            fill1: 0,
+            ..t
         };
     }
     t
@@ -110,7 +94,7 @@ pub(crate) fn takes(
         let marks = marks_at (length area.now) ids.now ws.now in
         (taken_of result ≡ takes net marks span.0) × (result.strays ≡ strayed or strays net marks span.0) }
 {
-    let own = at8(area, span.0);
+    let own = area[span.0];
     let mut t = Taken {
         id: RegionId::NONE.0,
         far: FARTHEST,
@@ -130,7 +114,7 @@ fn gives(
     ws: &[u16],
     table: usize,
     span: SpanIx,
-    own: usize,
+    own: u8,
     d: usize,
     far: usize,
 ) -> bool
@@ -139,24 +123,8 @@ fn gives(
         let marks = marks_at (length area.now) ids.now ws.now in
         result ≡ gives net marks span.0 far d }
 {
-    let a = neighbour(ws, table, span, d).0;
-    if a == NO_SPAN {
-        return false;
-    }
-    if at8(area, a) != own {
-        return false;
-    }
-    let id = id_at(ids, a);
-    if id == RegionId::NONE.0 {
-        return false;
-    }
-    if RegionId(id).is_border() {
-        return false;
-    }
-    if source_at(ws, a) as usize + 2 == far {
-        return true;
-    }
-    false
+    let a = neighbour(ws, table, span, d);
+    offers(area, ids, a, own) && ws[a.0] as usize + 2 == far
 }
 
 // The first neighbour of entry span with the sum far.
@@ -173,15 +141,11 @@ pub(crate) fn source(
         let marks = marks_at (length area.now) ids.now ws.now in
         result ≡ source_at net marks span.0 far }
 {
-    let own = at8(area, span.0);
-    if gives(area, ids, ws, table, span, own, 0, far) {
-        return neighbour(ws, table, span, 0).0;
-    }
-    if gives(area, ids, ws, table, span, own, 1, far) {
-        return neighbour(ws, table, span, 1).0;
-    }
-    if gives(area, ids, ws, table, span, own, 2, far) {
-        return neighbour(ws, table, span, 2).0;
+    let own = area[span.0];
+    for d in 0..3 {
+        if gives(area, ids, ws, table, span, own, d, far) {
+            return neighbour(ws, table, span, d).0;
+        }
     }
     neighbour(ws, table, span, 3).0
 }

@@ -9,7 +9,6 @@ ghost use Rattle.expand.specs.Front.{front_of, Spans, Writing, Lit, Gone};
 use crate::Stack;
 use crate::story::tell_round;
 use crate::tries::{try_all, try_beside};
-use field::read::at16;
 use flood::story::Story;
 use net::Sections;
 
@@ -19,7 +18,7 @@ fn write_one(ids: &mut [u16], ws: &mut [u16], c: usize)
     ensures ids_after { ids.new ≡ set ids.old (get_or ws.old c 0) (get_or ws.old (c + 1) 0) }
     ensures ws_after { ws.new ≡ set ws.old (get_or ws.old c 0) (get_or ws.old (c + 2) 0) }
 {
-    let s = at16(ws, c);
+    let s = ws[c] as usize;
     ids[s] = ws[c + 1];
     ws[s] = ws[c + 2];
 }
@@ -31,10 +30,8 @@ fn write_all(ids: &mut [u16], ws: &mut [u16], changes: usize, lo: usize, hi: usi
     ensures { let n = length ids.old in
         Writing n changes lo hi ids.old ws.old ids.new ws.new hi }
 {
-    let mut i = lo;
-    while i < hi {
+    for i in lo..hi {
         write_one(ids, ws, changes + 3 * i);
-        i += 1;
     }
 }
 
@@ -71,6 +68,7 @@ pub(crate) fn rounds(
     let mut t = try_all(area, ids, ws, at, from, fill);
     let mut left = most;
     let mut told = story;
+    // Each turn goes through what the one before noted: no range fits.
     while lo < t.noted {
         let hi = t.noted;
         told = tell_round(area, ids, ws, at, lo, hi, told);

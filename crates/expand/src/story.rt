@@ -9,23 +9,15 @@ ghost use Rattle.expand.specs.Told.{Sought, RoundTold};
 
 use crate::look::source;
 use field::place::SpanIx;
-use field::read::at16;
 use flood::story::{NOBODY, Story};
 use net::Sections;
 
-// Which of the changes lo .. hi is span s's, hi for none.
-fn queued(ws: &[u16], changes: usize, lo: usize, hi: usize, s: usize) -> usize
+// Which of the changes lo .. hi is span s's.
+fn queued(ws: &[u16], changes: usize, lo: usize, hi: usize, s: usize) -> Option<usize>
     requires { (lo ≤ hi) × (hi ≤ most_spans) × (changes ≤ last_place) × (changes + 3 * hi ≤ length ws.now) }
     ensures { Sought ws.now changes lo hi s result }
 {
-    let mut i = lo;
-    while i < hi {
-        if at16(ws, changes + 3 * i) == s {
-            return i;
-        }
-        i += 1;
-    }
-    hi
+    (lo..hi).find(|&i| ws[changes + 3 * i] as usize == s)
 }
 
 // The changes lo .. hi are those of the round: the watched span takes an id if it stands among them.
@@ -48,15 +40,12 @@ pub(crate) fn tell_round(
         return story;
     }
     let s = story.span as usize;
-    let i = queued(ws, at.changes, lo, hi, s);
-    if i == hi {
+    let Some(i) = queued(ws, at.changes, lo, hi, s) else {
         return story;
-    }
-    let far = at16(ws, at.changes + 3 * i + 2);
+    };
+    let far = ws[at.changes + 3 * i + 2] as usize;
     Story {
-        span: story.span,
         from: source(area, ids, ws, at.table, SpanIx(s), far) as u16,
-        gave: story.gave,
-        objecting: story.objecting,
+        ..story
     }
 }

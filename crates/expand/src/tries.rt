@@ -8,7 +8,6 @@ ghost use Rattle.expand.specs.Front.{Board, Moved, Tried, Sides, Beside, Spans, 
 
 use crate::look::takes;
 use field::place::{NO_SPAN, SpanIx};
-use field::read::at16;
 use net::{Sections, neighbour};
 use region::RegionId;
 
@@ -44,27 +43,21 @@ fn try_span(area: &[u8], ids: &[u16], ws: &mut [u16], at: Sections, span: SpanIx
 {
     let x = span.0;
     let i = at.stack + x;
-    if at16(ws, i) == 0 {
+    if ws[i] == 0 {
         return t;
     }
-    let k = t.noted;
     let f = takes(area, ids, ws, at.table, span, t.strays);
     if f.id == RegionId::NONE.0 {
         return Tries {
-            noted: k,
             strays: f.strays,
-            fill1: 0,
-            fill2: 0,
-            fill4: 0,
+            ..t
         };
     }
-    note(ws, i, at.changes + 3 * k, x as u16, f.id, f.far);
+    note(ws, i, at.changes + 3 * t.noted, x as u16, f.id, f.far);
     Tries {
-        noted: k + 1,
+        noted: t.noted + 1,
         strays: f.strays,
-        fill1: 0,
-        fill2: 0,
-        fill4: 0,
+        ..t
     }
 }
 
@@ -108,10 +101,8 @@ fn try_around(
     ensures sides { Sides area.now at.changes at.table ids.now ws.old ws.new result.strays span.0 4 }
 {
     let mut r = t;
-    let mut d: usize = 0;
-    while d < 4 {
+    for d in 0..4 {
         r = try_side(area, ids, ws, at, span, d, r);
-        d += 1;
     }
     r
 }
@@ -139,11 +130,9 @@ pub(crate) fn try_beside(
         fill2: 0,
         fill4: 0,
     };
-    let mut i = lo;
-    while i < hi {
-        let s = at16(ws, at.changes + 3 * i);
+    for i in lo..hi {
+        let s = ws[at.changes + 3 * i] as usize;
         t = try_around(area, ids, ws, at, SpanIx(s), t);
-        i += 1;
     }
     t
 }
@@ -158,7 +147,7 @@ fn try_entry(area: &[u8], ids: &[u16], ws: &mut [u16], at: Sections, i: usize, t
     ensures fact_2 { let entry = get_or ws.old i 0 in
         Tried area.now at.changes at.table ids.now ws.old ws.new result.strays entry }
 {
-    let s = at16(ws, i);
+    let s = ws[i] as usize;
     if s == NO_SPAN {
         return t;
     }
@@ -189,10 +178,8 @@ pub(crate) fn try_all(
         fill2: 0,
         fill4: 0,
     };
-    let mut j: usize = 0;
-    while j < fill {
+    for j in 0..fill {
         t = try_entry(area, ids, ws, at, from + j, t);
-        j += 1;
     }
     t
 }

@@ -4,7 +4,7 @@ use Prim.Native.Nat.{ℕ, zero, suc, ◌+◌, ◌<◌, ◌≤◌}
 use native.Mathlib.Omega.{arith}
 use native.Mathlib.Numerals.{add-one}
 use mathlib.Core.Path.{◌≡◌, refl, sym, ap, ◌∙◌}
-use mathlib.Core.Bool.{Bool, true, false}
+use mathlib.Core.Bool.{Bool, true, false, ◌&&◌}
 use mathlib.Core.List.{List}
 use lib.ListN.{get_or}
 use lib.Dec.{eqb}
@@ -12,7 +12,7 @@ use borrow.Author.Tests.{eqb-true, eq-eqb, ne_eqb}
 use Rattle.rules.specs.Base.{◌and◌, upto, every}
 use Rattle.rules.specs.Field.{Field}
 use Rattle.rules.specs.Rows.{over_cell, downto}
-use Rattle.laws.proofs.Basics.{both, every-at}
+use Rattle.laws.proofs.Basics.{both, every-at, code_and}
 use Rattle.field.specs.Blocks.{empty_to, empty_block}
 
 -- ---------------------------------------------------------------- the loop of the test
@@ -22,9 +22,9 @@ unfolding empty_block ◌and◌
 block_part ks c k n = rw (ne_eqb k 16 n)
 
 module _ (ks : List ℕ) (c j : ℕ) (e : Bool) (q : e ≡ empty_to ks c j) where
-  pub block_go : (r : Bool) → r ≡ (e and eqb (get_or ks (c + j) 0) 0) → r ≡ empty_to ks c (j + 1)
+  pub block_go : (e && eqb (get_or ks (c + j) 0) 0) ≡ empty_to ks c (j + 1)
   unfolding empty_to every
-  block_go r p = rw (add-one, ← q) p
+  block_go = rw (add-one, ← q) (code_and e (eqb (get_or ks (c + j) 0) 0))
 
   pub block_end : (k : ℕ) → k ≡ 16 → j ≤ 16 → 16 ≤ j → e ≡ empty_block ks c k
   unfolding empty_block ◌and◌

@@ -1,6 +1,5 @@
 // Blocks of cells: where no span stands, one test passes all cells of a block.
 ghost use Rattle.std.specs.Prelude.{◌≡◌, ◌+◌, ◌≤◌, min, length};
-ghost use Rattle.rules.specs.Base.{◌and◌};
 ghost use Rattle.field.specs.Blocks.{empty_block};
 
 // The cells of a whole block.
@@ -10,20 +9,7 @@ pub const BLOCK: usize = 16;
 pub fn block_of(n: usize) -> usize
     ensures { result ≡ min n 16 }
 {
-    if n < BLOCK {
-        return n;
-    }
-    BLOCK
-}
-
-// Both hold: with no way out between them, so that sixteen counts are tested at once when compiled.
-fn both(a: bool, b: bool) -> bool
-    ensures { result ≡ (a and b) }
-{
-    if a {
-        return b;
-    }
-    false
+    n.min(BLOCK)
 }
 
 // The k cells from c on are a whole block, and no span stands in it.
@@ -34,9 +20,10 @@ pub fn is_empty(count: &[u8], c: usize, k: usize) -> bool
     if k != BLOCK {
         return false;
     }
+    // No way out of the loop, so that sixteen counts are tested at once when compiled.
     let mut empty = true;
     for j in 0..BLOCK {
-        empty = both(empty, count[c + j] == 0);
+        empty &= count[c + j] == 0;
     }
     empty
 }

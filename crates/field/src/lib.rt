@@ -3,5 +3,5 @@
 #![tactic(auto)]
 
 pub mod block;
+pub mod lent;
 pub mod place;
-pub mod read;

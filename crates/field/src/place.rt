@@ -4,8 +4,6 @@ ghost use Rattle.rules.specs.Field.{Field, cell_to, near};
 ghost use Rattle.rules.specs.Field as rules;
 ghost use Rattle.field.specs.Lent.{cons_at, Leaf, SomeLeaf};
 
-use crate::read::at32;
-
 // A span's number.
 #[derive(Clone, Copy)]
 pub struct SpanIx(pub usize);
@@ -41,16 +39,12 @@ pub fn cell_across(w: usize, c: usize, d: usize) -> usize
     requires { (w ≤ 256) × (c < 65536) × (d < 4) × (d ≡ 0 → 1 ≤ c) × (d ≡ 3 → w ≤ c) }
     ensures { result ≡ cell_to w c d }
 {
-    if d == 0 {
-        return c - 1;
+    match d {
+        0 => c - 1,
+        1 => c + w,
+        2 => c + 1,
+        _ => c - w,
     }
-    if d == 1 {
-        return c + w;
-    }
-    if d == 2 {
-        return c + 1;
-    }
-    c - w
 }
 
 // The span in a layer of cell c. A loop over all layers of a cell counts on from the cell's first span instead, which costs less.
@@ -58,7 +52,7 @@ pub fn span_at(index: &[u32], c: usize, l: Layer) -> SpanIx
     requires { c < length index.now }
     ensures { result.0 ≡ get_or index.now c 0 + l.0 }
 {
-    SpanIx(at32(index, c) + l.0 as usize)
+    SpanIx(index[c] as usize + l.0 as usize)
 }
 
 // Where the connection in direction d leads, which is not none, of a span in cell c that has the connections cons.

@@ -3,18 +3,17 @@
 use Prim.Native.Nat.{ℕ, zero, suc, ◌+◌, ◌-◌, ◌*◌, ◌≤◌, ◌<◌}
 use native.Mathlib.Omega.{arith}
 use native.Mathlib.Numerals.{add-one}
-use native.Mathlib.Nat.{mul_comm}
-use lib.Arith.{digits_lt}
-use mir.Val.{Fits}
-use mir.Syntax.{w64}
+use native.Mathlib.Decide.{ℕ_discrete}
 use mathlib.Core.Path.{◌≡◌, refl, sym, ap, subst, ◌∙◌}
 use mathlib.Core.List.{List, [], ◌∷◌, ◌++◌, append_assoc, append-nil}
-use lib.ListN.{length, get_or, length-append}
+use lib.ListN.{length, get_or, length-append, length-take, length-drop}
+use Rattle.std.specs.List.{between}
+use Rattle.std.proofs.lemmas.List.Edits.{get_or-between}
 use borrow.Author.Tests.{eq-eqb, ne_eqb}
 use Rattle.rules.specs.Base.{when◌then◌else◌, tab}
 use Rattle.rules.specs.Listing.{decimal, joined, cell_text, row_text, rows_text}
 use Rattle.file.specs.Written.{written, Room, Wrote}
-use Rattle.file.specs.Shown.{led, leds, layers_text, layer_text, cell_at, shown, Inside, Filled}
+use Rattle.file.specs.Shown.{led, leader, leds, layers_text, layer_text, cell_at, shown, Inside}
 use Rattle.file.proofs.Writing.{written_none, written-length, room_first, room_then, wrote_then}
 
 -- ---------------------------------------------------------------- joined texts are led texts
@@ -89,30 +88,44 @@ module _ (out₀ : List ℕ) (at : ℕ) (whole out : List ℕ) (next : ℕ) wher
 
 -- ---------------------------------------------------------------- one led text, as the code has it
 
-module _ (out : List ℕ) (at b j : ℕ) (t : List ℕ) (h : Room out at (led b j t)) where
-  module _ (e : j ≡ 0) where
-    bare : led b j t ≡ t
-    bare = ap (λ (x : ℕ). led b x t) e ∙ led-first b t
+no_leader : (b j : ℕ) → j ≡ 0 → leader b j ≡ []
+unfolding leader when◌then◌else◌
+no_leader b j e = rw (eq-eqb j 0 e)
 
-    pub bare_room : Room out at t
-    bare_room = subst (λ (l : List ℕ). Room out at l) bare h
+one_leader : (b j : ℕ) → (j ≡ 0 → ⊥) → leader b j ≡ b ∷ []
+unfolding leader when◌then◌else◌
+one_leader b j n = rw (ne_eqb j 0 n)
 
-    pub bare-wrote : (r : ℕ) (out' : List ℕ) → Wrote out at t r out' → Wrote out at (led b j t) r out'
-    bare-wrote r out' g = subst (λ (l : List ℕ). Wrote out at l r out') (sym bare) g
+led_is : (b j : ℕ) (t : List ℕ) → led b j t ≡ leader b j ++ t
+unfolding led leader when◌then◌else◌
+led_is b j t = elim (ℕ_discrete j 0) [
+  | yes e ↦ rw (eq-eqb j 0 e) refl
+  | no n ↦ rw (ne_eqb j 0 n) refl
+]
 
-  module _ (n : j ≡ 0 → ⊥) where
-    both : Room out at ((b ∷ []) ++ t)
-    both = subst (λ (l : List ℕ). Room out at l) (led_later b j t n) h
+module _ (out : List ℕ) (at b j : ℕ) where
+  pub none_wrote : j ≡ 0 → Wrote out at (leader b j) at out
+  none_wrote e = rw (no_leader b j e) (record { ends = omega arith; bytes = sym (written_none out at) })
 
-    pub byte_room : Room out at (b ∷ [])
-    byte_room = room_first out at (b ∷ []) t both
+  pub byte_room : Room out at (leader b j) → (j ≡ 0 → ⊥) → Room out at (b ∷ [])
+  byte_room h n = subst (λ (l : List ℕ). Room out at l) (one_leader b j n) h
 
-    module _ (r : ℕ) (out' : List ℕ) (g : Wrote out at (b ∷ []) r out') where
-      pub after_room : Room out' r t
-      after_room = room_then out at (b ∷ []) t both r out' g
+  pub byte_wrote : (j ≡ 0 → ⊥) → (r : ℕ) (out' : List ℕ) → Wrote out at (b ∷ []) r out' → Wrote out at (leader b j) r out'
+  byte_wrote n r out' g = subst (λ (l : List ℕ). Wrote out at l r out') (sym (one_leader b j n)) g
 
-      pub after-wrote : (s : ℕ) (out'' : List ℕ) → Wrote out' r t s out'' → Wrote out at (led b j t) s out''
-      after-wrote s out'' k = subst (λ (l : List ℕ). Wrote out at l s out'') (sym (led_later b j t n)) (wrote_then out at (b ∷ []) t both r out' g s out'' k)
+  module _ (t : List ℕ) (h : Room out at (led b j t)) where
+    both : Room out at (leader b j ++ t)
+    both = subst (λ (l : List ℕ). Room out at l) (led_is b j t) h
+
+    pub leader_room : Room out at (leader b j)
+    leader_room = room_first out at (leader b j) t both
+
+    module _ (r : ℕ) (out' : List ℕ) (g : Wrote out at (leader b j) r out') where
+      pub led_room : Room out' r t
+      led_room = room_then out at (leader b j) t both r out' g
+
+      pub led_wrote : (s : ℕ) (out'' : List ℕ) → Wrote out' r t s out'' → Wrote out at (led b j t) s out''
+      led_wrote s out'' k = subst (λ (l : List ℕ). Wrote out at l s out'') (sym (led_is b j t)) (wrote_then out at (leader b j) t both r out' g s out'' k)
 
 -- ---------------------------------------------------------------- all of them
 
@@ -134,21 +147,39 @@ layers_first out at ids i k h =
     let e : k ≡ k - 0 = omega arith in
     underway_first out at _ _ (joined-led 47 i k (λ s. decimal (get_or ids s 0)) ∙ ap (λ (n : ℕ). leds 47 n 0 (layer_text ids i)) e) h
 
-module _ (out₀ : List ℕ) (at : ℕ) (whole out : List ℕ) (next : ℕ) (ids : List ℕ) (i k j : ℕ) (u : Underway out₀ at whole out next (leds 47 (k - j) j (layer_text ids i))) where
+module _ (out₀ : List ℕ) (at : ℕ) (whole out : List ℕ) (next : ℕ) (ids : List ℕ) (k j : ℕ) (u : Underway out₀ at whole out next (leds 47 (k - j) j (layer_text ids 0))) where
   pub layers_done : k ≤ j → Wrote out₀ at whole next out
-  layers_done h = underway_done out₀ at whole out next (subst (λ (l : List ℕ). Underway out₀ at whole out next l) (leds-end 47 k j (layer_text ids i) h) u)
+  layers_done h = underway_done out₀ at whole out next (subst (λ (l : List ℕ). Underway out₀ at whole out next l) (leds-end 47 k j (layer_text ids 0) h) u)
 
   module _ (h : j < k) where
-    layer : Underway out₀ at whole out next (led 47 j (decimal (get_or ids (i + j) 0)) ++ leds 47 (k - (j + 1)) (j + 1) (layer_text ids i))
+    layer : Underway out₀ at whole out next (led 47 j (decimal (get_or ids j 0)) ++ leds 47 (k - (j + 1)) (j + 1) (layer_text ids 0))
     unfolding layer_text
-    layer = subst (λ (l : List ℕ). Underway out₀ at whole out next l) (leds_next 47 k j (layer_text ids i) h) u
+    layer =
+        let e : 0 + j ≡ j = omega arith in
+        subst (λ (x : ℕ). Underway out₀ at whole out next (led 47 j (decimal (get_or ids x 0)) ++ leds 47 (k - (j + 1)) (j + 1) (layer_text ids 0))) e
+        (subst (λ (l : List ℕ). Underway out₀ at whole out next l) (leds_next 47 k j (layer_text ids 0) h) u)
 
-    pub layers_room : Room out next (led 47 j (decimal (get_or ids (i + j) 0)))
+    pub layers_room : Room out next (led 47 j (decimal (get_or ids j 0)))
     layers_room = underway_room out₀ at whole out next _ _ layer
 
-    pub layers_next : (r : ℕ) (out' : List ℕ) → Wrote out next (led 47 j (decimal (get_or ids (i + j) 0))) r out'
-        → Underway out₀ at whole out' r (leds 47 (k - (j + 1)) (j + 1) (layer_text ids i))
+    pub layers_next : (r : ℕ) (out' : List ℕ) → Wrote out next (led 47 j (decimal (get_or ids j 0))) r out'
+        → Underway out₀ at whole out' r (leds 47 (k - (j + 1)) (j + 1) (layer_text ids 0))
     layers_next r out' g = underway_next out₀ at whole out next _ _ layer r out' g
+
+-- the layers as a list of their own
+tab_part : (ids : List ℕ) (i n k j : ℕ) → j + k ≤ n → tab k (i + j) (λ s. decimal (get_or ids s 0)) ≡ tab k j (λ s. decimal (get_or (between i (i + n) ids) s 0))
+unfolding tab
+tab_part ids i n zero j h = refl
+tab_part ids i n (suc k) j h =
+    let e : suc (i + j) ≡ i + suc j = omega arith in
+    rw (get_or-between ids i (i + n) j 0 (omega arith), e) (ap (λ (l : List (List ℕ)). decimal (get_or ids (i + j) 0) ∷ l) (tab_part ids i n k (suc j) (omega arith)))
+
+layers_part : (ids : List ℕ) (i k : ℕ) → i + k ≤ length ids → layers_text ids i k ≡ layers_text (between i (i + k) ids) 0 (length (between i (i + k) ids))
+unfolding layers_text
+layers_part ids i k h =
+    let n : length (between i (i + k) ids) ≡ k = simp (length-take, length-drop) (omega arith) in
+    let e : i ≡ i + 0 = omega arith in
+    rw n (ap (λ (x : ℕ). joined 47 (tab k x (λ s. decimal (get_or ids s 0)))) e ∙ ap (joined 47) (tab_part ids i k k 0 (omega arith)))
 
 -- a cell
 module _ (ids : List ℕ) (i k : ℕ) where
@@ -167,11 +198,15 @@ module _ (ids : List ℕ) (i k : ℕ) where
     pub empty_wrote : (r : ℕ) (out' : List ℕ) → k ≡ 0 → Wrote out at (45 ∷ []) r out' → Wrote out at (cell_text ids i k) r out'
     empty_wrote r out' e g = subst (λ (l : List ℕ). Wrote out at l r out') (sym (empty_cell e)) g
 
-    pub full_room : Room out at (cell_text ids i k) → (k ≡ 0 → ⊥) → Room out at (layers_text ids i k)
-    full_room h n = subst (λ (l : List ℕ). Room out at l) (full_cell n) h
+    module _ (n : k ≡ 0 → ⊥) (h : i + k ≤ length ids) where
+      full_part : cell_text ids i k ≡ layers_text (between i (i + k) ids) 0 (length (between i (i + k) ids))
+      full_part = full_cell n ∙ layers_part ids i k h
 
-    pub full_wrote : (r : ℕ) (out' : List ℕ) → (k ≡ 0 → ⊥) → Wrote out at (layers_text ids i k) r out' → Wrote out at (cell_text ids i k) r out'
-    full_wrote r out' n g = subst (λ (l : List ℕ). Wrote out at l r out') (sym (full_cell n)) g
+      pub full_room : Room out at (cell_text ids i k) → Room out at (layers_text (between i (i + k) ids) 0 (length (between i (i + k) ids)))
+      full_room g = subst (λ (l : List ℕ). Room out at l) full_part g
+
+      pub full_wrote : (r : ℕ) (out' : List ℕ) → Wrote out at (layers_text (between i (i + k) ids) 0 (length (between i (i + k) ids))) r out' → Wrote out at (cell_text ids i k) r out'
+      full_wrote r out' g = subst (λ (l : List ℕ). Wrote out at l r out') (sym full_part) g
 
 pub full_inside : (ids : List ℕ) (i k : ℕ) → Inside ids i k → (k ≡ 0 → ⊥) → i + k ≤ length ids
 full_inside ids i k h n = h.within (omega arith)
@@ -201,43 +236,23 @@ module _ (out₀ : List ℕ) (at : ℕ) (whole out : List ℕ) (next w : ℕ) (i
     pub row_done : (r : ℕ) (out' : List ℕ) → Wrote out next (10 ∷ []) r out' → Wrote out₀ at whole r out'
     row_done r out' k = underway_done out₀ at whole out' r (underway_next out₀ at whole out next (10 ∷ []) [] last_byte r out' k)
 
-  module _ (g : x < w) (i k : ℕ) (ei : i ≡ get_or index (z * w + x) 0) (ek : k ≡ get_or count (z * w + x) 0) where
-    cell : Underway out₀ at whole out next (led 32 x (cell_text ids i k) ++ (leds 32 (w - (x + 1)) (x + 1) (cell_at index count ids (z * w)) ++ (10 ∷ [])))
+  module _ (g : x < w) where
+    abbrev this : List ℕ
+    this = cell_text ids (get_or index (z * w + x) 0) (get_or count (z * w + x) 0)
+
+    cell : Underway out₀ at whole out next (led 32 x this ++ (leds 32 (w - (x + 1)) (x + 1) (cell_at index count ids (z * w)) ++ (10 ∷ [])))
     unfolding cell_at
     cell =
         let f = cell_at index count ids (z * w) in
         let more = leds 32 (w - (x + 1)) (x + 1) f in
-        let p : cell_text ids (get_or index (z * w + x) 0) (get_or count (z * w + x) 0) ≡ cell_text ids i k = rw (← ei, ← ek) refl in
-        subst (λ (l : List ℕ). Underway out₀ at whole out next l)
-        (ap (λ (l : List ℕ). l ++ (10 ∷ [])) (leds_next 32 w x f g) ∙ append_assoc (led 32 x (f x)) more (10 ∷ []) ∙ ap (λ (l : List ℕ). led 32 x l ++ (more ++ (10 ∷ []))) p) u
+        subst (λ (l : List ℕ). Underway out₀ at whole out next l) (ap (λ (l : List ℕ). l ++ (10 ∷ [])) (leds_next 32 w x f g) ∙ append_assoc (led 32 x (f x)) more (10 ∷ [])) u
 
-    pub cell_room : Room out next (led 32 x (cell_text ids i k))
+    pub cell_room : Room out next (led 32 x this)
     cell_room = underway_room out₀ at whole out next _ _ cell
 
-    pub cell_next : (r : ℕ) (out' : List ℕ) → Wrote out next (led 32 x (cell_text ids i k)) r out'
+    pub cell_next : (r : ℕ) (out' : List ℕ) → Wrote out next (led 32 x this) r out'
         → Underway out₀ at whole out' r (leds 32 (w - (x + 1)) (x + 1) (cell_at index count ids (z * w)) ++ (10 ∷ []))
     cell_next r out' k' = underway_next out₀ at whole out next _ _ cell r out' k'
-
--- the place of a cell
-module _ (w h z x : ℕ) (a : z < h) (b : x < w) where
-  in_grid : z * w + x < w * h
-  in_grid = omega (arith, digits_lt {q = z} {m = h} {r = x} {c = w} a b, mul_comm w h)
-
-  module _ (index count ids : List ℕ) (f : Filled (w * h) index count ids) where
-    pub cell_index : z * w + x < length index
-    cell_index = omega (arith, in_grid, f.indices)
-
-    pub cell_count : z * w + x < length count
-    cell_count = omega (arith, in_grid, f.counts)
-
-    pub row_fits : Fits w64 (z * w)
-    row_fits = record { fits = omega (arith, in_grid, f.few) }
-
-    pub cell_fits : Fits w64 (z * w + x)
-    cell_fits = record { fits = omega (arith, in_grid, f.few) }
-
-pub cell_ids : (cells : ℕ) (index count ids : List ℕ) → Filled cells index count ids → (c i k : ℕ) → i ≡ get_or index c 0 → k ≡ get_or count c 0 → Inside ids i k
-cell_ids cells index count ids f c i k ei ek = rw (ei, ek) (f.inside c)
 
 -- ---------------------------------------------------------------- all rows
 

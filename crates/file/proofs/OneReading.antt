@@ -5,14 +5,13 @@ use native.Mathlib.Omega.{arith}
 use mathlib.Core.Path.{◌≡◌, refl, sym, ap, ◌∙◌}
 use mathlib.Core.List.{List}
 use lib.ListN.{length}
+use Rattle.std.specs.Prelude.{Result, Ok, Err}
 use lib.Seq.{length-take-le}
 use Rattle.rules.specs.File.{Level, refused, described}
 use Rattle.file.specs.Reads.{file_number, Lists, reading_of, Few, Reads}
 use Rattle.file.specs.declared.read.FileRefusal.{FileRefusal}
 use Rattle.file.specs.declared.read.FileRefusal.TheVariants.{Malformed, TooLarge}
 use Rattle.file.specs.declared.read.Header.{Header}
-use Rattle.file.specs.declared.read.FileReading.{FileReading}
-use Rattle.file.specs.declared.read.FileReading.TheVariants as file
 
 number_same : (x y : FileRefusal) → file_number x ≡ file_number y → x ≡ y
 number_same Malformed Malformed e = refl
@@ -39,21 +38,21 @@ header-same t u w h b l m =
     ∙ ap (λ (x : ℕ). header u.w u.h u.border u.least x) m
 
 module _ (index count area con : List ℕ) (long : 200 ≤ length area) where
-  answer_same : (a b : FileReading) → Few a → Few b → reading_of a index count area con ≡ reading_of b index count area con → a ≡ b
-  answer_same (file.Refused x) (file.Refused y) f g e = ap file.Refused (number_same x y (refused_same (file_number x) (file_number y) e))
-  answer_same (file.Refused x) (file.Described u m) f g e = absurd (never (file_number x) _ e)
-  answer_same (file.Described t n) (file.Refused y) f g e = absurd (never (file_number y) _ (sym e))
-  answer_same (file.Described t n) (file.Described u m) f g e =
+  answer_same : (a b : Result (Header × ℕ) FileRefusal) → Few a → Few b → reading_of a index count area con ≡ reading_of b index count area con → a ≡ b
+  answer_same (Err x) (Err y) f g e = ap Err (number_same x y (refused_same (file_number x) (file_number y) e))
+  answer_same (Err x) (Ok (u, m)) f g e = absurd (never (file_number x) _ e)
+  answer_same (Ok (t, n)) (Err y) f g e = absurd (never (file_number y) _ (sym e))
+  answer_same (Ok (t, n)) (Ok (u, m)) f g e =
       let v = described_same _ _ e in
       let k : n ≡ m =
       sym (length-take-le n area (omega (arith, f.1))) ∙ ap (λ (x : Level). length x.field.area) v ∙ length-take-le m area (omega (arith, g.1)) in
       let s : t ≡ u =
       header-same t u (ap (λ (x : Level). x.field.w) v) (ap (λ (x : Level). x.field.h) v) (ap (λ (x : Level). x.sizes.border) v)
       (ap (λ (x : Level). x.sizes.least) v) (ap (λ (x : Level). x.sizes.merge) v) in
-      ap (λ (x : Header). file.Described x n) s ∙ ap (file.Described u) k
+      ap (λ (x : Header). Ok (x, n)) s ∙ ap (λ (x : ℕ). Ok (u, x)) k
 
 -- a call keeps the lengths of what it is lent, so the lists at exit are as long as it requires
-pub one_reading : (bytes index count area con : List ℕ) (a b : FileReading) (index₁ count₁ area₁ con₁ index₂ count₂ area₂ con₂ : List ℕ) → Lists index₁ count₁ area₁ con₁
+pub one_reading : (bytes index count area con : List ℕ) (a b : Result (Header × ℕ) FileRefusal) (index₁ count₁ area₁ con₁ index₂ count₂ area₂ con₂ : List ℕ) → Lists index₁ count₁ area₁ con₁
     → Reads bytes index count area con a index₁ count₁ area₁ con₁ → Reads bytes index count area con b index₂ count₂ area₂ con₂
     → (a ≡ b) × (index₁ ≡ index₂) × (count₁ ≡ count₂) × (area₁ ≡ area₂) × (con₁ ≡ con₂)
 one_reading bytes index count area con a b index₁ count₁ area₁ con₁ index₂ count₂ area₂ con₂ l p q =

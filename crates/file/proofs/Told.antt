@@ -2,12 +2,13 @@
 -- The loader tells `read_file_at` (`loader_tells`), and a field that it describes is within the limits (`file_fine`).
 use Prim.Native.Nat.{ℕ, ◌*◌, ◌≤◌, ◌<◌}
 use native.Mathlib.Omega.{arith}
-use mathlib.Core.Path.{◌≡◌, refl, sym, ap, ◌∙◌}
+use mathlib.Core.Path.{◌≡◌, refl, sym, ap, subst, ◌∙◌}
 use mathlib.Core.Logic.{◌⊎◌, ⊎_elim}
 use mathlib.Core.List.{List}
 use lib.ListN.{length, get_or, take, drop}
 use lib.Seq.{take_at}
 use lib.Dec.{eqb}
+use Rattle.std.specs.Prelude.{Result, Ok, Err, Option, Some, None}
 use borrow.Author.Tests.{eq-eqb, ne_eqb, eqb-true, eqb-false}
 use Rattle.rules.specs.Base.{when◌then◌else◌}
 use Rattle.rules.specs.Field.{Field}
@@ -20,13 +21,10 @@ use Rattle.load.specs.Numbers.{loader_of, loading}
 use Rattle.load.proofs.Loads.{tell, loader_tells}
 use Rattle.load.proofs.Whole.{place-left_out}
 use Rattle.load.proofs.Fine.{Measured, Fine, file_fine}
-use Rattle.file.specs.Reads.{sizes_of, Lists, first, header, held, Reads, reading_in, Short, place_by, place_in, begun, finished, Whole}
+use Rattle.file.specs.Reads.{sizes_of, Lists, first, header, held, Reads, reading_in, Few, Short, place_by, place_in, begun, finished, Whole}
+use Rattle.file.specs.declared.read.FileRefusal.{FileRefusal}
 use Rattle.file.specs.declared.read.FileRefusal.TheVariants.{Malformed, TooLarge}
 use Rattle.file.specs.declared.read.Header.{Header}
-use Rattle.file.specs.declared.read.FileReading.{FileReading}
-use Rattle.file.specs.declared.read.FilePlace.{FilePlace}
-use Rattle.file.specs.declared.read.FileReading.TheVariants as file
-use Rattle.file.specs.declared.read.FilePlace.TheVariants as place
 
 -- ---------------------------------------------------------------- the loading
 
@@ -42,23 +40,23 @@ module _ (l : Loader) where
   pub header_short : (l.refusal ≡ 0 → Short l) → l.refusal ≡ 0 → Short l
   header_short f e = f e
 
-  pub reading_loaded : (t : Header) → l.refusal ≡ 0 → t ≡ header l → file.Described t l.spans ≡ reading_in l
+  pub reading_loaded : (t : Header) → l.refusal ≡ 0 → t ≡ header l → Ok (t, l.spans) ≡ reading_in l
   unfolding reading_in when◌then◌else◌
   reading_loaded t e f = rw (eq-eqb l.refusal 0 e, f) refl
 
-  pub reading_large : (l.refusal ≡ 0 → ⊥) → l.refusal ≡ 21 → file.Refused TooLarge ≡ reading_in l
+  pub reading_large : l.refusal ≡ 21 → Err TooLarge ≡ reading_in l
   unfolding reading_in when◌then◌else◌
-  reading_large n e = rw (ne_eqb l.refusal 0 n, eq-eqb l.refusal 21 e)
+  reading_large e = rw e refl
 
-  pub reading_bad : (l.refusal ≡ 0 → ⊥) → (l.refusal ≡ 21 → ⊥) → file.Refused Malformed ≡ reading_in l
+  pub reading_bad : (l.refusal ≡ 0 → ⊥) → (l.refusal ≡ 21 → ⊥) → Err Malformed ≡ reading_in l
   unfolding reading_in when◌then◌else◌
   reading_bad n m = rw (ne_eqb l.refusal 0 n, ne_eqb l.refusal 21 m)
 
-  pub place_none : l.refusal ≡ 0 → place.Nowhere ≡ place_in l
+  pub place_none : l.refusal ≡ 0 → None ≡ place_in l
   unfolding place_in when◌then◌else◌
   place_none e = rw (eq-eqb l.refusal 0 e)
 
-  pub place_some : (l.refusal ≡ 0 → ⊥) → place.At l.position ≡ place_in l
+  pub place_some : (l.refusal ≡ 0 → ⊥) → Some l.position ≡ place_in l
   unfolding place_in when◌then◌else◌
   place_some n = rw (ne_eqb l.refusal 0 n)
 
@@ -103,7 +101,7 @@ module _ (bytes index count area con : List ℕ) (l : Loader) (index' count' are
   place_by_lem (refused_at n p F) e = let t = told_no l index' count' area' con' n (capped p) _ _ _ _ e in rw (ne_eqb l.refusal 0 t.0, t.2) refl
   place_by_lem (describes L) e = let t = told_yes l index' count' area' con' _ _ _ _ _ _ _ _ e in rw (eq-eqb l.refusal 0 t.0) refl
 
-  pub whole_place : (r : FilePlace) → r ≡ place_in l → r ≡ place_by (read_file_at 1024 200 bytes)
+  pub whole_place : (r : Option ℕ) → r ≡ place_in l → r ≡ place_by (read_file_at 1024 200 bytes)
   whole_place r e = e ∙ place_by_lem (read_file_at 1024 200 bytes) tells
 
   -- ---------------------------------------------------------------- the answer
@@ -173,5 +171,11 @@ module _ (bytes index count area con : List ℕ) (l : Loader) (index' count' are
   reads_by (refused_at n q F) p f e = refused_reads n q F p f e
   reads_by (describes L) p f e = loaded_reads L p f e
 
-  pub whole_reads : (r : FileReading) → r ≡ reading_in l → Reads bytes index count area con r index' count' area' con'
+  pub whole_reads : (r : Result (Header × ℕ) FileRefusal) → r ≡ reading_in l → Reads bytes index count area con r index' count' area' con'
   whole_reads r e = rw e (reads_by (read_file_at 1024 200 bytes) refl (file_fine 1024 200 bytes small) tells)
+
+-- ---------------------------------------------------------------- a described field
+
+-- it is no larger than a file may have it, by the reading that it is of
+pub few_of : (x : Result (Header × ℕ) FileRefusal) → Few x → (p : Header × ℕ) → x ≡ Ok p → Few (Ok p)
+few_of x f p u = subst (λ (v : Result (Header × ℕ) FileRefusal). Few v) u f

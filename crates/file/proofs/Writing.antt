@@ -1,11 +1,12 @@
 -- Laws of `written`: nothing written, one text after another, one byte more.
-use Prim.Native.Nat.{ℕ, ◌+◌, ◌≤◌, ◌<◌}
+use Prim.Native.Nat.{ℕ, ◌+◌, ◌≤◌}
 use native.Mathlib.Omega.{arith}
 use native.Mathlib.Numerals.{add-one}
-use mathlib.Core.Path.{◌≡◌, sym, ap, ◌∙◌}
+use mathlib.Core.Path.{◌≡◌, refl, sym, ap, ◌∙◌}
 use mathlib.Core.List.{List, [], ◌∷◌, ◌++◌, append_assoc}
-use lib.ListN.{length, get_or, set, take, drop, length-append, length-drop, take-append-drop, drop_of_length-le}
-use lib.Seq.{length-take-le, take_at, drop_at, drop-drop, drop-cons, set_split}
+use lib.ListN.{length, set, take, drop, length-append, length-drop, take-append-drop}
+use borrow.Rule.Slice.PartMut.{put_mid}
+use lib.Seq.{length-take-le, take_at, drop_at, drop-drop, set_split}
 use Rattle.file.specs.Written.{written, Room, Wrote}
 
 -- nothing
@@ -48,22 +49,10 @@ pub written_byte : (out : List ℕ) (at b : ℕ) → Room out at (b ∷ []) → 
 unfolding written
 written_byte out at b h = rw (add-one at) (set_split out at b (omega (arith, h.fits)))
 
--- ---------------------------------------------------------------- a text, byte by byte: what is left of it from i on
-
-pub byte_first : (out : List ℕ) (at : ℕ) (t : List ℕ) → written out (at + 0) (drop 0 t) ≡ written out at t
-byte_first out at t = let e : at + 0 ≡ at = omega arith in rw e
-
-module _ (out₀ : List ℕ) (at : ℕ) (t : List ℕ) (h : Room out₀ at t) (out : List ℕ) (i : ℕ) (n : length out ≡ length out₀) (e : written out (at + i) (drop i t) ≡ written out₀ at t) where
-  pub byte_next : i < length t → written (set out (at + i) (get_or t i 0)) (at + (i + 1)) (drop (i + 1) t) ≡ written out₀ at t
-  byte_next g =
-      let d : drop i t ≡ (get_or t i 0 ∷ []) ++ drop (i + 1) t = rw (add-one i) (drop-cons t i 0 g) in
-      let l = length-drop (i + 1) t in
-      let r : at + (i + 1) ≡ at + i + 1 = omega arith in
-      rw (r, written_byte out (at + i) (get_or t i 0) (record { fits = omega (arith, h.fits) }))
-      (written_more out (at + i) (get_or t i 0 ∷ []) (drop (i + 1) t) (omega (arith, h.fits)) ∙ ap (written out (at + i)) (sym d) ∙ e)
-
-  pub byte_last : i ≤ length t → length t ≤ i → Wrote out₀ at t (at + i) out
-  byte_last g k = record { ends = omega arith; bytes = sym (written_none out (at + i)) ∙ ap (written out (at + i)) (sym (drop_of_length-le t k)) ∙ e }
+-- a text copied over a part of its length
+pub copied : (out t u : List ℕ) (at k : ℕ) → u ≡ t → k ≡ length t → Wrote out at t (at + length t) (put_mid at k out u)
+unfolding written
+copied out t u at k e f = record { ends = refl; bytes = rw (e, f, drop-drop (length t) at out) refl }
 
 -- ---------------------------------------------------------------- one text after another, as the code has it
 

@@ -1,5 +1,5 @@
 -- The answers of the reader, in document 01's numbers and in the rule's words.
-use Rattle.std.specs.Prelude.{ℕ, ◌*◌, ◌≤◌, ◌≡◌, List, length, take, eqb}
+use Rattle.std.specs.Prelude.{ℕ, ◌*◌, ◌≤◌, ◌≡◌, List, length, take, eqb, Result, Ok, Err, Option, Some, None}
 use Rattle.rules.specs.Base.{when◌then◌else◌}
 use Rattle.rules.specs.Field.{Field}
 use Rattle.rules.specs.Outcomes.{Sizes}
@@ -11,10 +11,6 @@ use Rattle.load.specs.Numbers.{loading}
 use Rattle.file.specs.declared.read.FileRefusal.{FileRefusal}
 use Rattle.file.specs.declared.read.FileRefusal.TheVariants.{Malformed, TooLarge}
 use Rattle.file.specs.declared.read.Header.{Header}
-use Rattle.file.specs.declared.read.FileReading.{FileReading}
-use Rattle.file.specs.declared.read.FileReading.TheVariants as file
-use Rattle.file.specs.declared.read.FilePlace.{FilePlace}
-use Rattle.file.specs.declared.read.FilePlace.TheVariants as place
 
 -- "`refused 20`: unknown kind, record out of place, cut short, bytes after the end. `refused 21`: over 1,024 cells .. or 200 spans"
 abbrev pub file_number : FileRefusal → ℕ
@@ -39,22 +35,22 @@ abbrev pub first : ℕ → ℕ → ℕ → ℕ → List ℕ → List ℕ → Lis
 first w h c s index count area con = lent w h (take c index) (take c count) (take s area) (take (4 * s) con)
 
 -- document 01's reading for each case of the answer, the lists being those at exit
-abbrev pub reading_of : FileReading → List ℕ → List ℕ → List ℕ → List ℕ → Reading
-reading_of (file.Refused x) index count area con = refused (file_number x)
-reading_of (file.Described t n) index count area con =
+abbrev pub reading_of : Result (Header × ℕ) FileRefusal → List ℕ → List ℕ → List ℕ → List ℕ → Reading
+reading_of (Err x) index count area con = refused (file_number x)
+reading_of (Ok (t, n)) index count area con =
     described (record { field = first t.w t.h (t.w * t.h) n index count area con; sizes = sizes_of t })
 
 -- a described field is no larger than a file may have it
-abbrev pub Few : FileReading → Type 0
-Few (file.Refused x) = Unit {0}
-Few (file.Described t n) = (t.w * t.h ≤ 1024) × (n ≤ 200)
+abbrev pub Few : Result (Header × ℕ) FileRefusal → Type 0
+Few (Err x) = Unit {0}
+Few (Ok (t, n)) = (t.w * t.h ≤ 1024) × (n ≤ 200)
 
 -- the field so far where the reading of a file ends, refused or not: what the lent lists hold then
 unfoldable pub held : List ℕ → Field
 held bytes = field_by (read_file_at 1024 200 bytes)
 
 -- the promise: the answer, and every list at exit
-pub record Reads (bytes index count area con : List ℕ) (r : FileReading) (index' count' area' con' : List ℕ) : Type 0 where
+pub record Reads (bytes index count area con : List ℕ) (r : Result (Header × ℕ) FileRefusal) (index' count' area' con' : List ℕ) : Type 0 where
   pub same : reading_of r index' count' area' con' ≡ read_file bytes
   pub few : Few r
   pub indices : index' ≡ over (held bytes).index index
@@ -68,10 +64,10 @@ pub record Reads (bytes index count area con : List ℕ) (r : FileReading) (inde
 abbrev pub header : Loader → Header
 header l = record { w = l.w; h = l.h; border = l.border; least = l.least; merge = l.merge }
 
-unfoldable pub reading_in : Loader → FileReading
+unfoldable pub reading_in : Loader → Result (Header × ℕ) FileRefusal
 reading_in l =
-    when eqb l.refusal 0 then file.Described (header l) l.spans else
-    when eqb l.refusal 21 then file.Refused TooLarge else file.Refused Malformed
+    when eqb l.refusal 0 then Ok (header l, l.spans) else
+    when eqb l.refusal 21 then Err TooLarge else Err Malformed
 
 -- numbers of 16 bits
 pub record Short (l : Loader) : Type 0 where
@@ -82,13 +78,13 @@ pub record Short (l : Loader) : Type 0 where
   pub merge : l.merge ≤ 65535
 
 -- where the file is refused: "now with a position counted from 0"
-unfoldable pub place_by : Placed → FilePlace
-place_by (refused_at n p F) = place.At (capped p)
-place_by (describes L) = place.Nowhere
+unfoldable pub place_by : Placed → Option ℕ
+place_by (refused_at n p F) = Some (capped p)
+place_by (describes L) = None
 
 -- by a loader's numbers
-unfoldable pub place_in : Loader → FilePlace
-place_in l = when eqb l.refusal 0 then place.Nowhere else place.At l.position
+unfoldable pub place_in : Loader → Option ℕ
+place_in l = when eqb l.refusal 0 then None else Some l.position
 
 -- before the first byte
 unfoldable pub begun : List ℕ → List ℕ → List ℕ → List ℕ → Loading

@@ -11,6 +11,10 @@ use Rattle.field.specs.Lent.{lent}
 unfoldable pub led : ℕ → ℕ → List ℕ → List ℕ
 led between j t = when eqb j 0 then t else between ∷ t
 
+-- the byte before text j of those that are joined
+unfoldable pub leader : ℕ → ℕ → List ℕ
+leader between j = when eqb j 0 then [] else between ∷ []
+
 -- texts j, j + 1, .., k of them, each led
 unfoldable pub leds : ℕ → ℕ → ℕ → (ℕ → List ℕ) → List ℕ
 leds between zero j f = []

@@ -1,5 +1,5 @@
-// Bytes written from a place on. Each function gives the place after what it wrote.
-ghost use Rattle.std.specs.Prelude.{◌≡◌, [], ◌∷◌, ◌+◌, ◌%◌};
+// Bytes written from a place on. Each function gives the place after what it wrote: list and place are no struct, since the crates above write by `put` in this form.
+ghost use Rattle.std.specs.Prelude.{◌≡◌, [], ◌∷◌};
 ghost use Rattle.rules.specs.Listing.{decimal};
 ghost use Rattle.file.specs.Written.{Room, Wrote};
 ghost use Rattle.file.specs.Shown.{named};
@@ -18,19 +18,9 @@ pub(crate) fn put_all(out: &mut [u8], at: usize, text: &[u8]) -> usize
     requires { Room out.old at text.now }
     ensures { Wrote out.old at text.now result out.new }
 {
-    let mut i = 0;
-    while i < text.len() {
-        out[at + i] = text[i];
-        i += 1;
-    }
-    at + i
-}
-
-// The last digit of v.
-fn digit(v: u16) -> u8
-    ensures { result ≡ 48 + v % 10 }
-{
-    48 + (v % 10) as u8
+    let end = at + text.len();
+    out[at..end].copy_from_slice(text);
+    end
 }
 
 // A number in decimal.
@@ -38,11 +28,12 @@ pub(crate) fn put_decimal(out: &mut [u8], at: usize, v: u16) -> usize
     requires { Room out.old at (decimal v) }
     ensures { Wrote out.old at (decimal v) result out.new }
 {
+    let last = b'0' + (v % 10) as u8;
     if v < 10 {
-        return put(out, at, digit(v));
+        return put(out, at, last);
     }
     let next = put_decimal(out, at, v / 10);
-    put(out, next, digit(v))
+    put(out, next, last)
 }
 
 // A name and a number.

@@ -6,20 +6,19 @@ ghost use Rattle.file.specs.Reads.{file_number, Lists, Reads, Whole, Short, head
 use load::bytes::feed;
 use load::{Loader, load_begin, load_end};
 
-// Document 01's refusals of a file.
+// Document 01's refusals of a file, with its numbers.
 #[derive(Clone, Copy)]
 pub enum FileRefusal {
-    Malformed,
-    TooLarge,
+    Malformed = 20,
+    TooLarge = 21,
 }
 
-// Document 01's number of a file's refusal.
-pub fn file_number(r: FileRefusal) -> u16
-    ensures { result ≡ file_number r }
-{
-    match r {
-        FileRefusal::Malformed => 20,
-        FileRefusal::TooLarge => 21,
+impl FileRefusal {
+    // Document 01's number.
+    pub fn number(self) -> u16
+        ensures { result ≡ file_number self }
+    {
+        self as u16
     }
 }
 
@@ -31,20 +30,6 @@ pub struct Header {
     pub border: u16,
     pub least: u16,
     pub merge: u16,
-}
-
-// What reading a file comes to: a refusal, or its header and the number of its spans, the field being in the lent lists.
-#[derive(Clone, Copy)]
-pub enum FileReading {
-    Refused(FileRefusal),
-    Described(Header, usize),
-}
-
-// Where a file is refused.
-#[derive(Clone, Copy)]
-pub enum FilePlace {
-    At(u32),
-    Nowhere,
 }
 
 // The most cells and spans of a file's field.
@@ -74,7 +59,7 @@ fn load_whole(
     load_end(l)
 }
 
-// The header of a loader that was not refused.
+// The header of a loader that was not refused. No `From`, since it asks that the numbers are short.
 fn header_of(l: Loader) -> Header
     requires { Short l }
     ensures { result ≡ header l }
@@ -88,67 +73,51 @@ fn header_of(l: Loader) -> Header
     }
 }
 
-// What a loader's numbers say of its file.
-fn reading(l: Loader) -> FileReading
+// What a loader's numbers say of its file: 0 and 21 are numbers there, since a loader is the C interface's.
+fn reading(l: Loader) -> Result<(Header, usize), FileRefusal>
     requires { l.refusal ≡ 0 → Short l }
     ensures { result ≡ reading_in l }
 {
-    if l.refusal == 0 {
-        return FileReading::Described(header_of(l), l.spans as usize);
+    match l.refusal {
+        0 => Ok((header_of(l), l.spans as usize)),
+        21 => Err(FileRefusal::TooLarge),
+        _ => Err(FileRefusal::Malformed),
     }
-    if l.refusal == 21 {
-        return FileReading::Refused(FileRefusal::TooLarge);
-    }
-    FileReading::Refused(FileRefusal::Malformed)
 }
 
-// A file's field into the lent lists.
+// A file's field into the lent lists: its header and the number of its spans.
 pub fn read_file(
     bytes: &[u8],
     index: &mut [u32],
     count: &mut [u8],
     area: &mut [u8],
     con: &mut [u8],
-) -> FileReading
+) -> Result<(Header, usize), FileRefusal>
     requires { Lists index.old count.old area.old con.old }
     ensures { Reads bytes.now index.old count.old area.old con.old
         result index.new count.new area.new con.new }
 {
-    let l = load_whole(bytes, index, count, area, con);
-    reading(l)
+    reading(load_whole(bytes, index, count, area, con))
 }
 
-fn place_in(l: Loader) -> FilePlace
+fn place_in(l: Loader) -> Option<u32>
     ensures { result ≡ place_in l }
 {
     if l.refusal == 0 {
-        return FilePlace::Nowhere;
+        None
+    } else {
+        Some(l.position)
     }
-    FilePlace::At(l.position)
 }
 
-// The place where a file is refused; the lists are room for the field.
-fn place_with(
-    bytes: &[u8],
-    index: &mut [u32],
-    count: &mut [u8],
-    area: &mut [u8],
-    con: &mut [u8],
-) -> FilePlace
-    requires { Lists index.old count.old area.old con.old }
-    ensures { result ≡ place_by (read_file_at 1024 200 bytes.now) }
-{
-    let l = load_whole(bytes, index, count, area, con);
-    place_in(l)
-}
-
-// The same, with room of its own.
-pub fn place(bytes: &[u8]) -> FilePlace
+// The place where a file is refused, if it is.
+pub fn place(bytes: &[u8]) -> Option<u32>
     ensures { result ≡ place_by (read_file_at 1024 200 bytes.now) }
 {
     let mut index = [0u32; 1024];
     let mut count = [0u8; 1024];
     let mut area = [0u8; 200];
     let mut con = [0u8; 800];
-    place_with(bytes, &mut index, &mut count, &mut area, &mut con)
+    let l = load_whole(bytes, &mut index, &mut count, &mut area, &mut con);
+    place_in(l)
 }

@@ -5,7 +5,7 @@ ghost use Rattle.file.specs.Written.{Room, Wrote};
 ghost use Rattle.file.specs.Shown.{heading, shown, numbered, Listable, Prints};
 
 use crate::put::{put, put_named};
-use crate::row::put_rows;
+use crate::row::Grid;
 
 // "A refused run prints the one line `refused` and its number."
 pub fn write_refused(out: &mut [u8], n: u16) -> usize
@@ -46,5 +46,12 @@ pub fn write_listing(
         Prints out.old (listing F max_distance (numbered max_region overlaps cut ids.now)) result out.new }
 {
     let next = put_heading(out, max_distance, max_region, overlaps, cut);
-    put_rows(out, next, w, h, index, count, ids)
+    let grid = Grid {
+        w,
+        h,
+        index,
+        count,
+        ids,
+    };
+    grid.put_rows(out, next)
 }

@@ -4,7 +4,7 @@ use Prim.Native.Nat.{ℕ, ◌+◌, ◌-◌, ◌*◌, ◌≤◌, ◌<◌}
 use native.Mathlib.Omega.{arith}
 use native.Mathlib.Decide.{ℕ_discrete, dec_lt}
 use mathlib.Core.Path.{◌≡◌, refl, sym, ap, ◌∙◌}
-use mathlib.Core.Bool.{Bool, true, false}
+use mathlib.Core.Bool.{Bool, true, false, not}
 use mathlib.Core.List.{List, [], ◌∷◌}
 use lib.ListN.{length, get_or, set, replicate, length-set, length-replicate, get_or-replicate}
 use lib.Seq.{get_or-set_same, get_or-set_other}
@@ -109,13 +109,9 @@ module _ (least t : ℕ) (rs : List Rec) (l : List ℕ) (q : t ≡ total rs l) w
   unfolding small ◌and◌
   large h = rw (← q, le-ltb t least h)
 
-  pub small_by : t < least → (b : Bool) → b ≡ any_flagged rs l → b ≡ true → false ≡ small least rs l
+  pub small_by : t < least → (b : Bool) → b ≡ any_flagged rs l → not b ≡ small least rs l
   unfolding small ◌and◌
-  small_by h b p z = rw (← q, lt-ltb t least h, ← p, z)
-
-  pub small_yes : t < least → (b : Bool) → b ≡ any_flagged rs l → b ≡ false → true ≡ small least rs l
-  unfolding small ◌and◌
-  small_yes h b p z = rw (← q, lt-ltb t least h, ← p, z)
+  small_by h b p = rw (← q, lt-ltb t least h, ← p) refl
 
 -- ---- one record removed
 

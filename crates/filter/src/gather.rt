@@ -26,10 +26,7 @@ fn reach_one(ws: &mut [u16], m: usize, r: u16, top: usize) -> usize
         return top;
     }
     let q = r as usize;
-    if ws[VISITED * m + q] != 0 {
-        return top;
-    }
-    if ws[q] == 0 {
+    if ws[VISITED * m + q] != 0 || ws[q] == 0 {
         return top;
     }
     ws[WAITING * m + top] = ws[q];
@@ -44,13 +41,12 @@ fn reach(ws: &mut [u16], m: usize, i: usize, top: usize) -> usize
         (f : ℕ) → group_at ws.new m result f ≡ reach list (group_at ws.old m top f) }
     ensures waiting { Waiting m result ws.new × Frame (visits_at m) (found_at m) ws.old ws.new }
 {
+    let a = start_of(ws, m, LISTS * m, i);
     let e = end_of(ws, m, LISTS * m, i);
-    let mut k = start_of(ws, m, LISTS * m, i);
     let mut n = top;
-    while k < e {
+    for k in a..e {
         let r = ws[k];
         n = reach_one(ws, m, r, n);
-        k += 1;
     }
     n
 }
@@ -81,7 +77,7 @@ fn pop(ws: &mut [u16], m: usize, top: usize, f: usize) -> usize
     r as usize
 }
 
-// The whole group of the one that waits. Gives how many are found.
+// The whole group of the one that waits. Gives how many are found. The stack grows while it is taken from, so the loop asks for its top.
 pub(crate) fn gather(ws: &mut [u16], m: usize) -> usize
     requires { Waiting m 1 ws.old × Found m 0 ws.old }
     ensures result_after { group_at ws.new m 0 result ≡ gather (suc m) (stack_at ws.old (waiting_at m) 1) (recs_of ws.old m) [] }

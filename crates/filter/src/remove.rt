@@ -19,11 +19,9 @@ pub(crate) fn total(ws: &[u16], m: usize, f: usize) -> usize
     ensures { result ≡ total (recs_of ws.now m) (found_in ws.now m f) }
 {
     let mut sum = 0;
-    let mut k = 0;
-    while k < f {
+    for k in 0..f {
         let i = at(ws, FOUND * m + k);
         sum += at(ws, m + i);
-        k += 1;
     }
     sum
 }
@@ -43,13 +41,11 @@ fn any_flagged(ws: &[u16], m: usize, f: usize) -> bool
     requires { Gathered m f ws.now }
     ensures { result ≡ any_flagged (recs_of ws.now m) (found_in ws.now m f) }
 {
-    let mut k = 0;
-    while k < f {
+    for k in 0..f {
         let i = at(ws, FOUND * m + k);
         if lists_flagged(list_of(ws, m, LISTS * m, i)) {
             return true;
         }
-        k += 1;
     }
     false
 }
@@ -60,13 +56,7 @@ fn small(ws: &[u16], m: usize, f: usize, least: u16, count: usize) -> bool
     requires count_value { count ≡ total (recs_of ws.now m) (found_in ws.now m f) }
     ensures { result ≡ small least (recs_of ws.now m) (found_in ws.now m f) }
 {
-    if least as usize <= count {
-        return false;
-    }
-    if any_flagged(ws, m, f) {
-        return false;
-    }
-    true
+    count < least as usize && !any_flagged(ws, m, f)
 }
 
 // Record i gets id 0 and count 0.
@@ -86,11 +76,9 @@ fn remove_all(ws: &mut [u16], m: usize, f: usize)
     ensures m_after { recs_of ws.new m ≡ remove_all (found_in ws.old m f) (recs_of ws.old m) }
     ensures records_in { RecordsIn m ws.new × Frame 0 (areas_at m) ws.old ws.new }
 {
-    let mut k = 0;
-    while k < f {
+    for k in 0..f {
         let i = at(ws, FOUND * m + k);
         remove_one(ws, m, i);
-        k += 1;
     }
 }
 

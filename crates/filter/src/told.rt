@@ -14,13 +14,11 @@ use crate::whole::filter_one;
 fn gone(before: u16, after: u16, count: usize, told: usize) -> usize
     ensures { result ≡ (when not (eqb before 0) and eqb after 0 then count else told) }
 {
-    if before == 0 {
-        return told;
+    if before != 0 && after == 0 {
+        count
+    } else {
+        told
     }
-    if after != 0 {
-        return told;
-    }
-    count
 }
 
 // All records, in order. Gives the count of the group with which record r is removed, 0 if it is not.
@@ -31,12 +29,10 @@ pub fn filter_told(ws: &mut [u16], m: usize, least: u16, r: usize) -> usize
     ensures value { result ≡ gone_with least r m (recs_of ws.old m) }
 {
     let mut told = 0;
-    let mut i = 0;
-    while i < m {
+    for i in 0..m {
         let before = ws[r];
         let count = filter_one(ws, m, least, i);
         told = gone(before, ws[r], count, told);
-        i += 1;
     }
     told
 }

@@ -33,13 +33,7 @@ pub(crate) fn filter_one(ws: &mut [u16], m: usize, least: u16, i: usize) -> usiz
     ensures calm { Calm m ws.new × Frame 0 (spare_at m) ws.old ws.new }
     ensures value { result ≡ turn_count i (recs_of ws.old m) }
 {
-    if ws[i] == 0 {
-        return 0;
-    }
-    if ws[m + i] == 0 {
-        return 0;
-    }
-    if ws[VISITED * m + i] != 0 {
+    if ws[i] == 0 || ws[m + i] == 0 || ws[VISITED * m + i] != 0 {
         return 0;
     }
     filter_group(ws, m, least, i)

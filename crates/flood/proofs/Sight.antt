@@ -13,11 +13,13 @@ use Rattle.rules.specs.Field.{none}
 use Rattle.rules.specs.Net.{Net, near, corner, area_of}
 use Rattle.rules.specs.Growth.{Marks, Seed, flagged, other, sees, or_else, objects}
 use Rattle.rules.specs.Refusals.{most_spans}
-use Rattle.laws.proofs.Basics.{if-ind, get_d_any}
+use Rattle.laws.proofs.Basics.{get_d_any}
 use Rattle.field.proofs.Places.{turned}
 use Rattle.net.specs.Table.{net_at, AtSpan}
 use Rattle.net.proofs.Tables.{area_at, area_none, near-at, near_is}
-use Rattle.flood.specs.Looks.{bears, sees_from}
+use Rattle.flood.specs.declared.look.View.{View}
+use Rattle.flood.specs.declared.look.View.TheVariants.{Nothing, TheEnd, Objection}
+use Rattle.flood.specs.Looks.{view_number, bears, sees_from}
 use Rattle.flood.specs.Stack.{marks_at}
 
 -- ---------------------------------------------------------------- a span that is looked at
@@ -85,10 +87,6 @@ module _ (table : ℕ) (ar ids ws cons : List ℕ) (q : Seed) (s d : ℕ) (v : A
 
 -- ---------------------------------------------------------------- the four directions
 
-sees_cases : (P : ℕ → Type 0) → P 0 → P 1 → P 2 → (N : Net) (m : Marks) (q : Seed) (c d : ℕ) → P (sees N m q c d)
-unfolding sees
-sees_cases P p0 p1 p2 N m q c d = if-ind P _ (λ _. p0) (λ _. if-ind P _ (λ _. p1) (λ _. if-ind P _ (λ _. p2) (λ _. if-ind P _ (λ _. p2) (λ _. p0))))
-
 or_else_zero : (a : ℕ) → or_else a 0 ≡ a
 unfolding or_else
 or_else_zero zero = refl
@@ -104,31 +102,25 @@ pub record Looking (N : Net) (m : Marks) (q : Seed) (s d : ℕ) : Type 0 where
   pub same : sees_from N m q s 4 0 ≡ sees_from N m q s (4 - d) d
 
 module _ (N : Net) (m : Marks) (q : Seed) (s d : ℕ) (v : Looking N m q s d) where
-  module _ (l : ℕ) (h : d < 4) (e : l ≡ sees N m q s d) where
+  module _ (l : View) (h : d < 4) (e : view_number l ≡ sees N m q s d) where
     left : 4 - d ≡ suc (4 - (d + 1))
     left = omega arith
 
-    now_on : sees_from N m q s 4 0 ≡ or_else l (sees_from N m q s (4 - (d + 1)) (d + 1))
+    now_on : sees_from N m q s 4 0 ≡ or_else (view_number l) (sees_from N m q s (4 - (d + 1)) (d + 1))
     unfolding sees_from
     now_on = rw e (rw left at v.same)
 
-    looking_past : l ≡ 0 → Looking N m q s (d + 1)
-    unfolding or_else
-    looking_past z = record { few = omega arith; same = rw z at now_on }
+    pub looking_on : l ≡ Nothing → Looking N m q s (d + 1)
+    unfolding or_else view_number
+    looking_on z = record { few = omega arith; same = rw z at now_on }
 
-    pub looking_stops : l ≡ 1 → false ≡ objects N m q s
-    unfolding or_else
+    pub looking_stops : l ≡ TheEnd → false ≡ objects N m q s
+    unfolding or_else view_number
     looking_stops k = let z = rw k at now_on in sym (objects_from N m q s ∙ ap (λ (x : ℕ). eqb x 2) z)
 
-    pub looking_objects : l ≡ 2 → true ≡ objects N m q s
-    unfolding or_else
+    pub looking_objects : l ≡ Objection → true ≡ objects N m q s
+    unfolding or_else view_number
     looking_objects k = let z = rw k at now_on in sym (objects_from N m q s ∙ ap (λ (x : ℕ). eqb x 2) z)
-
-    pub looking_on : (l ≡ 1 → ⊥) → (l ≡ 2 → ⊥) → Looking N m q s (d + 1)
-    unfolding or_else
-    looking_on a b =
-        let z : l ≡ 0 = sees_cases (λ x. l ≡ x → l ≡ 0) (λ y. y) (λ y. absurd (a y)) (λ y. absurd (b y)) N m q s d e in
-        looking_past z
 
   pub looking_done : 4 ≤ d → false ≡ objects N m q s
   unfolding sees_from

@@ -22,17 +22,14 @@ use Rattle.space.specs.Space.{stack_at}
 use Rattle.rules.specs.Refusals.{most_spans}
 use Rattle.space.proofs.Laws.{stack_at_pop, length-sec}
 use Rattle.flood.specs.declared.flow.Height.{Height}
+use Rattle.flood.specs.declared.look.View.{View}
+use Rattle.flood.specs.declared.look.View.TheVariants.{Nothing, TheEnd, Objection}
+use Rattle.flood.specs.Looks.{view_number}
 use Rattle.flood.specs.Stack.{marks_at, flow_at, Placed, Blank, Flooding, Kept, Begins}
 use Rattle.flood.proofs.Visits.{popped_marks}
 use Rattle.flood.proofs.Floods.{first, begun, start-flow, Running, running_start, running_falls, running_on}
 
 -- ---------------------------------------------------------------- the objecting span
-
-pub at_yes : (v l : ℕ) → l ≡ v → l ≡ 2 → true ≡ eqb v 2
-at_yes v l e k = sym (eq-eqb v 2 (sym e ∙ k))
-
-pub at_no : (v l : ℕ) → l ≡ v → (l ≡ 2 → ⊥) → false ≡ eqb v 2
-at_no v l e k = sym (ne_eqb v 2 (λ y. k (e ∙ y)))
 
 -- a direction that leads nowhere
 none-objector : (N : Net) (m : Marks) (q : Seed) (s d : ℕ) → near N s d ≡ none → get_or m.ids none 0 ≡ 0 → near N none ((d + 1) % 4) ≡ none → objector N m q s d ≡ none
@@ -66,24 +63,51 @@ module _ (table : ℕ) (ar ids ws cons : List ℕ) (q : Seed) (s d : ℕ) (v : A
   unfolding objector corner when◌then◌else◌
   objector-corner r o y h u eu = rw (there, sym o ∙ y) (eu ∙ sym (near-at table ar ws t ((d + 1) % 4) v.room h (turned d 1)))
 
-module _ (N : Net) (m : Marks) (q : Seed) (s : ℕ) (a : Bool) (ea : a ≡ eqb (sees N m q s 0) 2) where
-  pub objecting_0 : a ≡ true → (o : ℕ) → o ≡ objector N m q s 0 → o ≡ objecting N m q s
-  unfolding objecting when◌then◌else◌
-  objecting_0 y o e = rw (sym ea ∙ y) e
+-- the first of k directions from d that sees an objection, or else the one past them
+pub objecting_from : Net → Marks → Seed → ℕ → ℕ → ℕ → ℕ
+objecting_from N m q c zero d = objector N m q c d
+objecting_from N m q c (suc k) d = when eqb (sees N m q c d) 2 then objector N m q c d else objecting_from N m q c k (d + 1)
 
-  module _ (y : a ≡ false) (b : Bool) (eb : b ≡ eqb (sees N m q s 1) 2) where
-    pub objecting_1 : b ≡ true → (o : ℕ) → o ≡ objector N m q s 1 → o ≡ objecting N m q s
-    unfolding objecting when◌then◌else◌
-    objecting_1 z o e = rw (sym ea ∙ y, sym eb ∙ z) e
+no_objection : (l : View) → (l ≡ Objection → ⊥) → eqb (view_number l) 2 ≡ false
+unfolding view_number
+no_objection Nothing z = refl
+no_objection TheEnd z = refl
+no_objection Objection z = absurd (z refl)
 
-    module _ (z : b ≡ false) (c : Bool) (ec : c ≡ eqb (sees N m q s 2) 2) where
-      pub objecting_2 : c ≡ true → (o : ℕ) → o ≡ objector N m q s 2 → o ≡ objecting N m q s
-      unfolding objecting when◌then◌else◌
-      objecting_2 x o e = rw (sym ea ∙ y, sym eb ∙ z, sym ec ∙ x) e
+-- at direction d of the first three: what is left to look at gives what all give
+pub record Objecting (N : Net) (m : Marks) (q : Seed) (s d : ℕ) : Type 0 where
+  pub few : d ≤ 3
+  pub same : objecting N m q s ≡ objecting_from N m q s (3 - d) d
 
-      pub objecting_3 : c ≡ false → (o : ℕ) → o ≡ objector N m q s 3 → o ≡ objecting N m q s
-      unfolding objecting when◌then◌else◌
-      objecting_3 x o e = rw (sym ea ∙ y, sym eb ∙ z, sym ec ∙ x) e
+pub objecting_start : (N : Net) (m : Marks) (q : Seed) (s : ℕ) → Objecting N m q s 0
+unfolding objecting objecting_from
+objecting_start N m q s = record { few = omega arith; same = refl }
+
+module _ (N : Net) (m : Marks) (q : Seed) (s d : ℕ) (v : Objecting N m q s d) where
+  module _ (l : View) (h : d < 3) (e : view_number l ≡ sees N m q s d) where
+    left : 3 - d ≡ suc (3 - (d + 1))
+    left = omega arith
+
+    now_at : objecting N m q s ≡ when eqb (view_number l) 2 then objector N m q s d else objecting_from N m q s (3 - (d + 1)) (d + 1)
+    unfolding objecting_from
+    now_at = rw e (rw left at v.same)
+
+    pub objecting_here : l ≡ Objection → (o : ℕ) → o ≡ objector N m q s d → o ≡ objecting N m q s
+    unfolding view_number when◌then◌else◌
+    objecting_here z o y = y ∙ sym (rw z at now_at)
+
+    past : eqb (view_number l) 2 ≡ false → Objecting N m q s (d + 1)
+    unfolding when◌then◌else◌
+    past z = record { few = omega arith; same = rw z at now_at }
+
+    pub objecting_on : (l ≡ Objection → ⊥) → Objecting N m q s (d + 1)
+    objecting_on z = past (no_objection l z)
+
+  pub objecting_last : 3 ≤ d → (o : ℕ) → o ≡ objector N m q s 3 → o ≡ objecting N m q s
+  unfolding objecting_from
+  objecting_last h o y =
+      let z : d ≡ 3 = omega (arith, v.few) in
+      y ∙ sym (rw z at v.same)
 
 -- ---------------------------------------------------------------- a visit
 

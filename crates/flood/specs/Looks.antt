@@ -4,10 +4,18 @@ use Rattle.rules.specs.Base.{◌and◌}
 use Rattle.rules.specs.Net.{Net}
 use Rattle.rules.specs.Growth.{Marks, Seed, other, sees, or_else}
 use Rattle.flood.specs.declared.look.Seed as code
+use Rattle.flood.specs.declared.look.View.{View}
+use Rattle.flood.specs.declared.look.View.TheVariants.{Nothing, TheEnd, Objection}
 
 -- what the code has of a seed is the rule's
 abbrev pub seed_of : code.Seed → Seed
 seed_of q = record { area = q.area; id = q.id; limit = q.limit }
+
+-- what a span sees in one direction, as the rule numbers it
+unfoldable pub view_number : View → ℕ
+view_number Nothing = 0
+view_number TheEnd = 1
+view_number Objection = 2
 
 -- span u has the seed's area and another nonzero id
 unfoldable pub bears : List ℕ → List ℕ → Seed → ℕ → Bool

@@ -12,8 +12,8 @@ ghost use Rattle.flood.specs.Stories.{story_of};
 use crate::look::{Seed, objects};
 use crate::story::{Story, give_back};
 use field::place::{NO_LAYER, SpanIx, connections};
-use field::read::at16;
 use net::{Sections, neighbour};
+use std::mem;
 
 // The stack's height, and how many spans count.
 #[derive(Clone, Copy)]
@@ -48,13 +48,7 @@ fn push_one(
         return height;
     }
     let t = neighbour(ws, at.table, span, d).0;
-    if area[t] != seed.area {
-        return height;
-    }
-    if ids[t] != 0 {
-        return height;
-    }
-    if dist[t] < seed.limit {
+    if area[t] != seed.area || ids[t] != 0 || dist[t] < seed.limit {
         return height;
     }
     ids[t] = seed.id;
@@ -62,7 +56,7 @@ fn push_one(
     ws[at.stack + height.top] = t as u16;
     Height {
         top: height.top + 1,
-        count: height.count,
+        ..height
     }
 }
 
@@ -99,9 +93,7 @@ fn pop(ws: &mut [u16], i: usize) -> usize
     requires { i < length ws.old }
     ensures { (result ≡ get_or ws.old i 0) × (ws.new ≡ set ws.old i 0) }
 {
-    let entry = at16(ws, i);
-    ws[i] = 0;
-    entry
+    mem::take(&mut ws[i]) as usize
 }
 
 // The stack after a visit, and the story of the watched span.
@@ -145,10 +137,7 @@ fn visit(
         let told = give_back(area, ids, ws, at.table, cons, SpanIx(s), seed, story);
         ids[s] = 0;
         return Visited {
-            height: Height {
-                top,
-                count: height.count,
-            },
+            height: Height { top, ..height },
             story: told,
         };
     }
@@ -160,16 +149,6 @@ fn visit(
         height: push_all(area, dist, ids, ws, at, cons, SpanIx(s), seed, counted),
         story,
     }
-}
-
-// Two below a level, but not below 0.
-fn below(level: u16) -> u16
-    ensures { result ≡ level - 2 }
-{
-    if level < 2 {
-        return 0;
-    }
-    level - 2
 }
 
 // How many spans count, and the story of the watched span.
@@ -209,13 +188,14 @@ pub fn flood_region(
     let seed = Seed {
         area: area[s],
         id,
-        limit: below(level),
+        limit: level.saturating_sub(2),
     };
     ids[s] = id;
     ws[s] = 0;
     ws[stack] = s as u16;
     let mut height = Height { top: 1, count: 0 };
     let mut told = story;
+    // A stack that each visit changes: no range fits.
     while 0 < height.top {
         let v = visit(area, con, dist, ids, ws, at, seed, height, told);
         height = v.height;

@@ -4,7 +4,7 @@ ghost use Rattle.rules.specs.Field.{none};
 ghost use Rattle.rules.specs.Growth.{other, sees, objects};
 ghost use Rattle.rules.specs.Refusals.{most_spans};
 ghost use Rattle.net.specs.Table.{net_at, AtSpan};
-ghost use Rattle.flood.specs.Looks.{seed_of, bears};
+ghost use Rattle.flood.specs.Looks.{seed_of, view_number, bears};
 ghost use Rattle.flood.specs.Stack.{marks_at};
 
 use field::place::{NO_LAYER, NO_SPAN, SpanIx};
@@ -20,20 +20,18 @@ pub struct Seed {
 }
 
 // What a span sees in one direction: nothing, the end of the looking, or an objection.
-pub(crate) const NOTHING: u8 = 0;
-
-const THE_END: u8 = 1;
-
-pub(crate) const OBJECTION: u8 = 2;
+#[derive(Clone, Copy)]
+pub(crate) enum View {
+    Nothing,
+    TheEnd,
+    Objection,
+}
 
 // Another nonzero id?
 pub(crate) fn other(region: u16, id: u16) -> bool
     ensures { result ≡ other id region }
 {
-    if region == RegionId::NONE.0 {
-        return false;
-    }
-    region != id
+    region != RegionId::NONE.0 && region != id
 }
 
 // Has the span, if it is one, the seed's area and another nonzero id?
@@ -43,14 +41,7 @@ fn bears(area: &[u8], ids: &[u16], span: SpanIx, seed: Seed) -> bool
     ensures { result ≡ bears area.now ids.now (seed_of seed) span.0 }
 {
     let u = span.0;
-    if u == NO_SPAN {
-        return false;
-    }
-    if area[u] != seed.area {
-        return false;
-    }
-    let region = ids[u];
-    other(region, seed.id)
+    u != NO_SPAN && area[u] == seed.area && other(ids[u], seed.id)
 }
 
 // What a span that has the connections cons sees in direction d.
@@ -63,31 +54,31 @@ pub(crate) fn sees(
     span: SpanIx,
     d: usize,
     seed: Seed,
-) -> u8
+) -> View
     requires { AtSpan table area.now ws.now cons span.0 × (length ids.now ≡ length area.now) × (d < 4) × (seed.area < 256) }
     ensures { let net = net_at table area.now ws.now in
         let marks = marks_at (length area.now) ids.now ws.now in
-        result ≡ sees net marks (seed_of seed) span.0 d }
+        view_number result ≡ sees net marks (seed_of seed) span.0 d }
 {
     if cons[d] == NO_LAYER {
-        return NOTHING;
+        return View::Nothing;
     }
     let t = neighbour(ws, table, span, d).0;
     if area[t] != seed.area {
-        return NOTHING;
+        return View::Nothing;
     }
     let region = ids[t];
     if RegionId(region).is_border() {
-        return THE_END;
+        return View::TheEnd;
     }
     if other(region, seed.id) {
-        return OBJECTION;
+        return View::Objection;
     }
     let corner = neighbour(ws, table, SpanIx(t), (d + 1) % 4);
     if bears(area, ids, corner, seed) {
-        return OBJECTION;
+        return View::Objection;
     }
-    NOTHING
+    View::Nothing
 }
 
 // Does a span that has the connections cons object to the seed's id?
@@ -105,16 +96,12 @@ pub(crate) fn objects(
         let marks = marks_at (length area.now) ids.now ws.now in
         result ≡ objects net marks (seed_of seed) span.0 }
 {
-    let mut d = 0;
-    while d < 4 {
-        let look = sees(area, ids, ws, table, cons, span, d, seed);
-        if look == THE_END {
-            return false;
+    for d in 0..4 {
+        match sees(area, ids, ws, table, cons, span, d, seed) {
+            View::Nothing => {}
+            View::TheEnd => return false,
+            View::Objection => return true,
         }
-        if look == OBJECTION {
-            return true;
-        }
-        d += 1;
     }
     false
 }

@@ -1,18 +1,18 @@
 // What growth does to one span, noted as it goes: "Why has this span no room?"
-ghost use Rattle.std.specs.Prelude.{◌≡◌, true, ◌<◌, length, eqb};
-ghost use Rattle.rules.specs.Growth.{sees, objects};
+ghost use Rattle.std.specs.Prelude.{◌≡◌, true, ◌<◌, length};
+ghost use Rattle.rules.specs.Growth.{objects};
 ghost use Rattle.rules.specs.Reasons.{begins, objector, objecting, visit_tells};
 ghost use Rattle.net.specs.Table.{net_at, AtSpan};
 ghost use Rattle.flood.specs.Looks.{seed_of};
 ghost use Rattle.flood.specs.Stack.{marks_at};
 ghost use Rattle.flood.specs.Stories.{story_of};
 
-use crate::look::{OBJECTION, Seed, other, sees};
+use crate::look::{Seed, View, other, sees};
 use field::place::{NO_SPAN, SpanIx};
 use net::neighbour;
 
 // The span that is watched; the span whose id it took at an expansion, NOBODY until then; the id of the last flood that gave it back, 0 until then, and
-// the objecting span. Four numbers of 16 bits, since it goes through every flood: so it is one register.
+// the objecting span. Four numbers of 16 bits, since it goes through every flood: so it is one register, which an Option for each would not be.
 #[derive(Clone, Copy)]
 pub struct Story {
     pub span: u16,
@@ -36,28 +36,6 @@ pub fn begins(span: u16) -> Story
     }
 }
 
-// Does a span that has the connections cons see an objection in direction d?
-fn objects_at(
-    area: &[u8],
-    ids: &[u16],
-    ws: &[u16],
-    table: usize,
-    cons: [u8; 4],
-    span: SpanIx,
-    d: usize,
-    seed: Seed,
-) -> bool
-    requires { AtSpan table area.now ws.now cons span.0 × (length ids.now ≡ length area.now) × (d < 4) × (seed.area < 256) }
-    ensures { let net = net_at table area.now ws.now in
-        let marks = marks_at (length area.now) ids.now ws.now in
-        result ≡ eqb (sees net marks (seed_of seed) span.0 d) 2 }
-{
-    if sees(area, ids, ws, table, cons, span, d, seed) == OBJECTION {
-        return true;
-    }
-    false
-}
-
 // The span that makes the objection in direction d: the neighbour, or else its corner.
 fn objector(
     area: &[u8],
@@ -78,8 +56,7 @@ fn objector(
     if t == NO_SPAN {
         return NOBODY;
     }
-    let region = ids[t];
-    if other(region, seed.id) {
+    if other(ids[t], seed.id) {
         return t as u16;
     }
     neighbour(ws, table, SpanIx(t), (d + 1) % 4).0 as u16
@@ -100,14 +77,10 @@ fn objecting(
         let marks = marks_at (length area.now) ids.now ws.now in
         result ≡ objecting net marks (seed_of seed) span.0 }
 {
-    if objects_at(area, ids, ws, table, cons, span, 0, seed) {
-        return objector(area, ids, ws, table, cons, span, 0, seed);
-    }
-    if objects_at(area, ids, ws, table, cons, span, 1, seed) {
-        return objector(area, ids, ws, table, cons, span, 1, seed);
-    }
-    if objects_at(area, ids, ws, table, cons, span, 2, seed) {
-        return objector(area, ids, ws, table, cons, span, 2, seed);
+    for d in 0..3 {
+        if let View::Objection = sees(area, ids, ws, table, cons, span, d, seed) {
+            return objector(area, ids, ws, table, cons, span, d, seed);
+        }
     }
     objector(area, ids, ws, table, cons, span, 3, seed)
 }
@@ -135,9 +108,8 @@ pub(crate) fn give_back(
         return story;
     }
     Story {
-        span: story.span,
-        from: story.from,
         gave: seed.id,
         objecting: objecting(area, ids, ws, table, cons, span, seed),
+        ..story
     }
 }

@@ -1,4 +1,5 @@
 -- Laws of the growth.
+pub mod Stopped
 pub mod FloodLaws
 pub mod SpreadLaws
 pub mod StackLaws

@@ -1,4 +1,4 @@
--- Two results that satisfy the promise of `growth::grow` coincide: numbers, story, ids and every number of the workspace.
+-- Two results that satisfy the promise of `growth::grow` coincide: numbers, story, and so the result itself, ids and every number of the workspace.
 -- The workspace is zeros where growth worked, the field's net in the table, and what it was elsewhere.
 use Prim.Native.Nat.{ℕ, ◌+◌, ◌-◌, ◌*◌, ◌≤◌, ◌<◌}
 use native.Mathlib.Omega.{arith}
@@ -11,7 +11,14 @@ use Rattle.rules.specs.Field.{Field, spans}
 use Rattle.rules.specs.Net.{Net}
 use Rattle.rules.specs.Reasons.{Story, begins, story}
 use Rattle.net.specs.Table.{net_at}
+use Rattle.std.specs.Prelude.{Result, Ok, Err}
+use Rattle.flood.specs.declared.story.Story as code
+use Rattle.flood.specs.Stories.{story_of}
+use Rattle.growth.specs.declared.turns.Growth.{Growth}
+use Rattle.growth.specs.declared.turns.Stop.{Stop}
+use Rattle.growth.specs.Stops.{stop_of, next_of, story_in}
 use Rattle.growth.specs.Grow.{growth_room, Whole}
+use Rattle.growth.proofs.Stopped.{some_stop, stop_same}
 
 -- what a call promises of its story
 pub record Told (F : Field) (dist : List ℕ) (most border s stop : ℕ) (y : Story) : Type 0 where
@@ -74,3 +81,23 @@ module _ (F : Field) (dist : List ℕ) (most border table s : ℕ) (ws : List �
 
   pub one_workspace : ws₁ ≡ ws₂
   one_workspace = ext_get_or 0 ws₁ ws₂ (n₁ ∙ sym n₂) (λ i l. one_number i)
+
+-- ---------------------------------------------------------------- of the result itself
+
+story_same : (g h : code.Story) → story_of g ≡ story_of h → g ≡ h
+story_same g h e = rw (ap (λ (y : Story). y.span) e, ap (λ (y : Story). y.from) e, ap (λ (y : Story). y.gave) e, ap (λ (y : Story). y.objecting) e)
+
+-- a result is told by its numbers and its story
+result_same : (y : Story) (a b : Result Growth Stop) → stop_of a ≡ stop_of b → next_of a ≡ next_of b → story_in y a ≡ story_in y b → a ≡ b
+result_same y (Err s) (Err t) e f g = ap Err (stop_same s t e)
+result_same y (Err s) (Ok h) e f g = absurd (some_stop s e)
+result_same y (Ok g) (Err t) e f h = absurd (some_stop t (sym e))
+result_same y (Ok g) (Ok h) e f k = ap Ok (rw (f, story_same g.story h.story k))
+
+pub one_result : (F : Field) (dist : List ℕ) (most border table s : ℕ) (ws : List ℕ) → growth_room (spans F) ≤ table → (a b : Result Growth Stop) (ids ws₁ ids' ws₂ : List ℕ)
+    → Whole F dist most border table ws (next_of a) (stop_of a) ids ws₁ → Whole F dist most border table ws (next_of b) (stop_of b) ids' ws₂
+    → Told F dist most border s (stop_of a) (story_in (begins s) a) → Told F dist most border s (stop_of b) (story_in (begins s) b)
+    → length ws₁ ≡ length ws → length ws₂ ≡ length ws → a ≡ b
+one_result F dist most border table s ws past a b ids ws₁ ids' ws₂ v w t u n₁ n₂ =
+    result_same (begins s) a b (one_stop F dist most border table s ws past _ _ _ _ _ _ ids ws₁ ids' ws₂ v w t u n₁ n₂)
+    (one_next F dist most border table s ws past _ _ _ _ _ _ ids ws₁ ids' ws₂ v w t u n₁ n₂) (one-story F dist most border table s ws past _ _ _ _ _ _ ids ws₁ ids' ws₂ v w t u n₁ n₂)

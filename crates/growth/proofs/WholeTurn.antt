@@ -85,9 +85,9 @@ module _ (ar con dist : List ℕ) (at : Sections) (next : ℕ) (fs : List ℕ) (
 
   pub turn_strayed : (ids₂ ws₂ : List ℕ) → Expanded ar con at next fs' j' level ids ws₁ ids₂ ws₂
       → (y : Bool) → y ≡ expand_strays (net_at at.table ar ws₁) level (marks_at (length ar) ids ws₁) (get_or (stacks_at (length ar) ws₁ fs') j' []) → y ≡ true
-      → Turned ar con dist at next fs j level ids ws next 13 fs' j' ids₂ ws₂
+      → (id : ℕ) (fs₃ : List ℕ) (j₃ : ℕ) → Turned ar con dist at next fs j level ids ws id 13 fs₃ j₃ ids₂ ws₂
   unfolding stops_at when◌then◌else◌
-  turn_strayed ids₂ ws₂ x y e z = record {
+  turn_strayed ids₂ ws₂ x y e z id fs₃ j₃ = record {
     size = x.size ∙ size₁;
     past = λ z h. x.past z h ∙ l.past z h;
     stops = λ t o. rw (← l.turn, sym (strays_is t o y e) ∙ z);
@@ -115,9 +115,9 @@ module _ (ar con dist : List ℕ) (at : Sections) (next : ℕ) (fs : List ℕ) (
       unfolding stops_at when◌then◌else◌
       stops_is r q = q ∙ rw (sym (strays_is t o y ye) ∙ yf, f.out ∙ rule_out)
 
-    pub turn_out : next' ≡ 0x8000 → Turned ar con dist at next fs j level ids ws next 12 fs' j' ids₃ ws₃
+    pub turn_out : next' ≡ 0x8000 → (id : ℕ) (fs₃ : List ℕ) (j₃ : ℕ) → Turned ar con dist at next fs j level ids ws id 12 fs₃ j₃ ids₃ ws₃
     unfolding when◌then◌else◌
-    turn_out z = record {
+    turn_out z id fs₃ j₃ = record {
       size = f.size ∙ x.size ∙ size₁;
       past = past₃;
       stops = λ t o. rw (← l.turn) (stops_is t o 12 (rw (eq-eqb next' 0x8000 z)));

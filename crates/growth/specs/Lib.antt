@@ -1,4 +1,5 @@
 -- What growth's contracts cite.
 pub mod Floods
 pub mod Turns
+pub mod Stops
 pub mod Grow

@@ -10,7 +10,6 @@ ghost use Rattle.growth.specs.Floods.{flood_one, one_tells, IdsBelowNext, Floode
 
 use expand::Stack;
 use field::place::{NO_SPAN, SpanIx};
-use field::read::at16;
 use flood::flow::flood_region;
 use flood::story::Story;
 use net::Sections;
@@ -104,15 +103,13 @@ pub(crate) fn flood_all(
         (result.next ≡ 0x8000 → ⊥) → story_of result.story ≡ floods_tell net dist.now level entries before next (story_of story) }
 {
     let mut f = Floods { next, story };
-    let mut j: usize = 0;
-    while j < stack.fill {
-        let entry = at16(ws, stack.at + j);
+    for j in 0..stack.fill {
+        let entry = ws[stack.at + j] as usize;
         let told = f.story;
         f = flood_one(area, con, dist, ids, ws, at, entry, level, f.next, told);
         if f.next == RegionId::BORDER_REGION.0 {
             return f;
         }
-        j += 1;
     }
     f
 }

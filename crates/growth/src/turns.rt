@@ -4,6 +4,7 @@ ghost use Rattle.rules.specs.Refusals.{most_spans};
 ghost use Rattle.rules.specs.Reasons.{turns_tell};
 ghost use Rattle.net.specs.Table.{net_at};
 ghost use Rattle.flood.specs.Stories.{story_of};
+ghost use Rattle.growth.specs.Stops.{stop_of, next_of, story_in, turn_next, fills_in, number_in, turn_story};
 ghost use Rattle.growth.specs.Turns.{SectionsFor, Left, Loaded, Between, Turned, TurnTold, begun, AllTurns};
 
 use crate::floods::flood_all;
@@ -51,29 +52,27 @@ fn turn_stack(n: usize, l: LevelStacks) -> Stack
     }
 }
 
-// What growth comes to: the next id, the refusal that stops it, and the story of the watched span.
+// What growth comes to: the next id, and the story of the watched span.
 #[derive(Clone, Copy)]
 pub struct Growth {
     pub next: u16,
-    pub stop: u16,
     pub story: Story,
 }
 
-// Nothing stops it.
-pub const GOES_ON: u16 = 0;
+// What stops it.
+#[derive(Clone, Copy)]
+pub enum Stop {
+    // A successful flood would make the next id a flagged one.
+    NoIds,
+    // A sum that expansion computes would exceed what a source distance can be.
+    NoSum,
+}
 
-// A successful flood would make the next id a flagged one.
-pub const IDS_RUN_OUT: u16 = 12;
-
-// A sum that expansion computes would exceed what a source distance can be.
-pub(crate) const TOO_FAR: u16 = 13;
-
-// The stacks after a turn, the next id, what stops it, and the story of the watched span.
+// The stacks after a turn, the next id, and the story of the watched span.
 #[derive(Clone, Copy)]
 pub struct TurnResult {
     pub stacks: LevelStacks,
     pub next: u16,
-    pub stop: u16,
     pub story: Story,
 }
 
@@ -89,43 +88,32 @@ fn turn(
     level: u16,
     next: u16,
     story: Story,
-) -> TurnResult
+) -> Result<TurnResult, Stop>
     requires { Between area.now con.now at next l.fills l.turn ids.old ws.old × (length dist.now ≡ length area.now) }
     ensures fact { let ids₀ = ids.old in let ws₀ = ws.old in
         Turned area.now con.now dist.now at next l.fills l.turn level ids₀ ws₀
-        result.next result.stop result.stacks.fills result.stacks.turn ids.new ws.new }
+        (turn_next result) (stop_of result) (fills_in result) (number_in result) ids.new ws.new }
     ensures fact_2 { let ids₀ = ids.old in let ws₀ = ws.old in
         TurnTold area.now dist.now at.table next l.fills l.turn level ids₀ ws₀
-        result.stop (story_of story) (story_of result.story) }
+        (stop_of result) (story_of story) (turn_story (story_of story) result) }
 {
     let stacks = load(area, dist, ids, ws, at, l, level);
     let stack = turn_stack(area.len(), stacks);
     let e = expand_regions(area, ids, ws, at, stack, level, story);
     if e.strays {
-        return TurnResult {
-            stacks,
-            next,
-            stop: TOO_FAR,
-            story,
-        };
+        return Err(Stop::NoSum);
     }
     let expanded = e.story;
     let f = flood_all(area, con, dist, ids, ws, at, stack, level, next, expanded);
     if f.next == RegionId::BORDER_REGION.0 {
-        return TurnResult {
-            stacks,
-            next,
-            stop: IDS_RUN_OUT,
-            story,
-        };
+        return Err(Stop::NoIds);
     }
     let told = f.story;
-    TurnResult {
+    Ok(TurnResult {
         stacks,
         next: f.next,
-        stop: GOES_ON,
         story: told,
-    }
+    })
 }
 
 // All turns, `count` of them, each two levels below the one before: rule 2.
@@ -139,39 +127,29 @@ pub(crate) fn turns(
     count: u16,
     next: u16,
     story: Story,
-) -> Growth
+) -> Result<Growth, Stop>
     requires between { Between area.now con.now at next [] 7 ids.old ws.old × (length dist.now ≡ length area.now) }
     requires count_bound { 2 * count ≤ 65536 }
     ensures fact { let ids₀ = ids.old in let ws₀ = ws.old in
-        AllTurns area.now dist.now at.table count next ids₀ ws₀ result.next result.stop ids.new ws.new }
+        AllTurns area.now dist.now at.table count next ids₀ ws₀ (next_of result) (stop_of result) ids.new ws.new }
     ensures story_value { let net = net_at at.table area.now ws.old in
         let start = begun (length area.now) ids.old ws.old next in
-        result.stop ≡ 0 → story_of result.story ≡ turns_tell net dist.now (2 * count) count start (story_of story) }
+        stop_of result ≡ 0 → story_in (story_of story) result ≡ turns_tell net dist.now (2 * count) count start (story_of story) }
 {
     let mut l = LevelStacks {
         fills: [0; 8],
         turn: 7,
     };
     let mut id = next;
-    let mut left = count;
     let mut told = story;
-    while left > 0 {
-        left -= 1;
-        let t = turn(area, con, dist, ids, ws, at, l, 2 * left, id, told);
-        if t.stop != GOES_ON {
-            return Growth {
-                next: id,
-                stop: t.stop,
-                story,
-            };
-        }
+    for left in (0..count).rev() {
+        let t = turn(area, con, dist, ids, ws, at, l, 2 * left, id, told)?;
         l = t.stacks;
         id = t.next;
         told = t.story;
     }
-    Growth {
+    Ok(Growth {
         next: id,
-        stop: GOES_ON,
         story: told,
-    }
+    })
 }

@@ -10,7 +10,9 @@ use Rattle.rules.specs.Plain.{rooms_outcome}
 use Rattle.rooms.specs.Dense.{first_in, past_in}
 use Rattle.extents.proofs.Finished.{Measured, finished_measured, rooms_finished, not_refused_sound}
 use Rattle.plain.proofs.Measured.{plain-finished, plain_sound}
-use Rattle.watershed.specs.declared.regions.RegionAnswer.{RegionAnswer}
+use Rattle.std.specs.Prelude.{Result}
+use Rattle.checker.specs.declared.Refusal.{Refusal}
+use Rattle.numbering.specs.declared.Regions as numbering
 use Rattle.watershed.specs.Answer.{AnswersRegions, regions_refused_by, max_region_in}
 use Rattle.watershed.specs.Answer as entry
 use Rattle.gussetraft.specs.declared.Regions.{Regions}
@@ -19,7 +21,7 @@ use Rattle.gussetraft.specs.Exported.{GivesRegions, LeavesRooms}
 use Rattle.gussetraft.specs.PlainRooms.{GivesRooms, LeavesPlainRooms}
 
 -- r and ids' are what the call returns and leaves
-pub regions_entry_measured : (F : Field) (dist : List ℕ) (most : ℕ) (z : Sizes) (ws ids : List ℕ) (r : RegionAnswer) (ws' ids' : List ℕ)
+pub regions_entry_measured : (F : Field) (dist : List ℕ) (most : ℕ) (z : Sizes) (ws ids : List ℕ) (r : Result numbering.Regions Refusal) (ws' ids' : List ℕ)
     → AnswersRegions (region_outcome dense F dist most z ws ids) r ws' ids' → entry.GivesRooms dense F z.border r ids' → regions_refused_by r ≡ 0 → Measured F ids' (max_region_in r)
 unfolding first_in past_in
 regions_entry_measured F dist most z ws ids r ws' ids' g l e =

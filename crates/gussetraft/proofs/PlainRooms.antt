@@ -5,12 +5,13 @@ use mathlib.Core.Path.{◌≡◌, sym, ap, ◌∙◌}
 use mathlib.Core.List.{List}
 use Rattle.rules.specs.Field.{Field}
 use Rattle.rules.specs.Plain.{RoomsOutcome}
-use Rattle.plain.specs.declared.RoomsAnswer.{RoomsAnswer}
+use Rattle.std.specs.Prelude.{Result}
+use Rattle.checker.specs.declared.Refusal.{Refusal}
 use Rattle.plain.specs.Answer.{rooms_refused_by, rooms_most_in, outcome, GivesPlainRooms}
 use Rattle.gussetraft.specs.declared.roomids.Rooms.{Rooms}
 use Rattle.gussetraft.specs.PlainRooms.{GivesRooms, LeavesPlainRooms}
 
-pub gives_rooms : (o : RoomsOutcome) (a : RoomsAnswer) (r : Rooms) (ws ids : List ℕ) → outcome a ws ids ≡ o
+pub gives_rooms : (o : RoomsOutcome) (a : Result ℕ Refusal) (r : Rooms) (ws ids : List ℕ) → outcome a ws ids ≡ o
     → r.refusal ≡ rooms_refused_by a → r.max_region ≡ rooms_most_in a → GivesRooms o r ws ids
 gives_rooms o a r ws ids p e f =
     record {
@@ -20,7 +21,7 @@ gives_rooms o a r ws ids p e f =
       numbers = ap (λ v. v.ids) p;
     }
 
-pub leaves-plain_rooms : (F : Field) (border : ℕ) (a : RoomsAnswer) (r : Rooms) (ids : List ℕ) → GivesPlainRooms F border a ids
+pub leaves-plain_rooms : (F : Field) (border : ℕ) (a : Result ℕ Refusal) (r : Rooms) (ids : List ℕ) → GivesPlainRooms F border a ids
     → r.refusal ≡ rooms_refused_by a → r.max_region ≡ rooms_most_in a → LeavesPlainRooms F border r ids
 leaves-plain_rooms F border a r ids g e f = record { rooms = λ z. rw f (g.rooms (sym e ∙ z)) }
 

@@ -20,13 +20,13 @@ ghost use Rattle.refresh.specs.Into.{GivesInto};
 ghost use Rattle.watershed.specs.Answer.{refused_by, most_in, regions_refused_by, max_region_in, overlaps_in, cut_in};
 ghost use Rattle.gussetraft.specs.Exported.{Gives, LeavesDistances, GivesRegions, LeavesRooms, GivesMending, GivesStages};
 
-use checker::refusal_number;
-use mend::{MendAnswer, mend};
+use checker::Refusal;
+use field::lent::Heightfield;
+use mend::{MendRefusal, mend};
+use numbering::Regions as Found;
+use refresh::build_distance_stages;
 use refresh::into::refresh_into;
-use refresh::{StagesAnswer, build_distance_stages};
-use watershed::{
-    DistanceAnswer, RegionAnswer, build_distance_field, build_regions, build_regions_compared,
-};
+use watershed::{build_distance_field, build_regions, build_regions_compared};
 
 // The answer of the distance entry: 0 or the refusal number, and max_distance.
 #[repr(C)]
@@ -54,71 +54,52 @@ pub struct Mending {
     pub count: u32,
 }
 
-fn numbers(a: DistanceAnswer) -> Distances
+fn numbers(a: Result<u16, Refusal>) -> Distances
     ensures { (result.refusal ≡ refused_by a) × (result.max_distance ≡ most_in a) }
 {
     match a {
-        DistanceAnswer::Refused(r) => Distances {
-            refusal: refusal_number(r),
+        Err(r) => Distances {
+            refusal: r.number(),
             max_distance: 0,
         },
-        DistanceAnswer::Done(m) => Distances {
+        Ok(m) => Distances {
             refusal: 0,
             max_distance: m,
         },
     }
 }
 
-fn region_numbers(a: RegionAnswer) -> Regions
+fn region_numbers(a: Result<Found, Refusal>) -> Regions
     ensures { (result.refusal ≡ regions_refused_by a) × (result.max_region ≡ max_region_in a)
         × (result.overlaps ≡ overlaps_in a) × (result.cut ≡ cut_in a) }
 {
     match a {
-        RegionAnswer::Refused(r) => Regions {
-            refusal: refusal_number(r),
+        Err(r) => Regions {
+            refusal: r.number(),
             max_region: 0,
             overlaps: 0,
             cut: 0,
         },
-        RegionAnswer::Done(m, o, u) => Regions {
+        Ok(v) => Regions {
             refusal: 0,
-            max_region: m,
-            overlaps: o,
-            cut: u,
+            max_region: v.max_region,
+            overlaps: v.overlaps,
+            cut: v.cut,
         },
     }
 }
 
-fn mend_numbers(a: MendAnswer) -> Mending
+fn mend_numbers(a: Result<u32, MendRefusal>) -> Mending
     ensures { (result.refusal ≡ mend_refused_by a) × (result.count ≡ changes_in a) }
 {
     match a {
-        MendAnswer::Refused(r) => Mending {
-            refusal: refusal_number(r) as u32,
+        Err(r) => Mending {
+            refusal: r.number() as u32,
             count: 0,
         },
-        MendAnswer::NoRoom => Mending {
-            refusal: 27,
-            count: 0,
-        },
-        MendAnswer::Done(k) => Mending {
+        Ok(k) => Mending {
             refusal: 0,
             count: k,
-        },
-    }
-}
-
-fn stages_numbers(a: StagesAnswer) -> Distances
-    ensures { (result.refusal ≡ stages_refused_by a) × (result.max_distance ≡ stages_most_in a) }
-{
-    match a {
-        StagesAnswer::Refused(r) => Distances {
-            refusal: refusal_number(r),
-            max_distance: 0,
-        },
-        StagesAnswer::Done(m) => Distances {
-            refusal: 0,
-            max_distance: m,
         },
     }
 }
@@ -140,7 +121,15 @@ pub extern "C" fn gussetraft_build_distance_field(
     ensures meaning { let F = lent w h index.now count.now area.now con.now in
         LeavesDistances F result raw.new blurred.new }
 {
-    numbers(build_distance_field(w, h, index, count, area, con, raw, blurred))
+    let field = Heightfield {
+        w: w as usize,
+        h: h as usize,
+        index,
+        count,
+        area,
+        con,
+    };
+    numbers(build_distance_field(&field, raw, blurred))
 }
 
 #[unsafe(no_mangle)]
@@ -166,13 +155,16 @@ pub extern "C" fn gussetraft_build_regions(
     ensures rooms { let F = lent w h index.now count.now area.now con.now in
         LeavesRooms dense F border_size result ids.new }
 {
-    let answer = build_regions(
-        w,
-        h,
+    let field = Heightfield {
+        w: w as usize,
+        h: h as usize,
         index,
         count,
         area,
         con,
+    };
+    let answer = build_regions(
+        &field,
         dist,
         max_distance,
         border_size,
@@ -207,13 +199,16 @@ pub extern "C" fn gussetraft_build_regions_compared(
     ensures rooms { let F = lent w h index.now count.now area.now con.now in
         LeavesRooms compared F border_size result ids.new }
 {
-    let compared = build_regions_compared(
-        w,
-        h,
+    let field = Heightfield {
+        w: w as usize,
+        h: h as usize,
         index,
         count,
         area,
         con,
+    };
+    let compared = build_regions_compared(
+        &field,
         dist,
         max_distance,
         border_size,
@@ -258,7 +253,15 @@ pub extern "C" fn gussetraft_build_distance_stages(
         let o = stages_outcome F pass1.old raw.old blurred.old in
         GivesStages o result pass1.new raw.new blurred.new }
 {
-    stages_numbers(build_distance_stages(w, h, index, count, area, con, pass1, raw, blurred))
+    let field = Heightfield {
+        w: w as usize,
+        h: h as usize,
+        index,
+        count,
+        area,
+        con,
+    };
+    numbers(build_distance_stages(&field, pass1, raw, blurred))
 }
 
 // The answer's eight numbers are more than every machine returns by value in the same way, so they are written to a list; the refusal is given too.
@@ -283,7 +286,13 @@ pub extern "C" fn gussetraft_refresh_distance_field_into(
         GivesInto F (rect x0 z0 x1 z1) pass1.old raw.old blurred.old answer.old
         result pass1.new raw.new blurred.new answer.new }
 {
-    refresh_into(
-        w, h, index, count, area, con, x0, z0, x1, z1, pass1, raw, blurred, answer,
-    )
+    let field = Heightfield {
+        w: w as usize,
+        h: h as usize,
+        index,
+        count,
+        area,
+        con,
+    };
+    refresh_into(&field, x0, z0, x1, z1, pass1, raw, blurred, answer)
 }

@@ -5,8 +5,9 @@ ghost use Rattle.field.specs.Lent.{lent};
 ghost use Rattle.plain.specs.Answer.{rooms_refused_by, rooms_most_in};
 ghost use Rattle.gussetraft.specs.PlainRooms.{GivesRooms, LeavesPlainRooms};
 
-use checker::refusal_number;
-use plain::{RoomsAnswer, build_rooms};
+use checker::Refusal;
+use field::lent::Heightfield;
+use plain::build_rooms;
 
 // The answer of the entry: 0 or the refusal number, and max_region.
 #[repr(C)]
@@ -16,15 +17,15 @@ pub struct Rooms {
     pub max_region: u16,
 }
 
-fn rooms_numbers(a: RoomsAnswer) -> Rooms
+fn rooms_numbers(a: Result<u16, Refusal>) -> Rooms
     ensures { (result.refusal ≡ rooms_refused_by a) × (result.max_region ≡ rooms_most_in a) }
 {
     match a {
-        RoomsAnswer::Refused(r) => Rooms {
-            refusal: refusal_number(r),
+        Err(r) => Rooms {
+            refusal: r.number(),
             max_region: 0,
         },
-        RoomsAnswer::Done(m) => Rooms {
+        Ok(m) => Rooms {
             refusal: 0,
             max_region: m,
         },
@@ -49,5 +50,13 @@ pub extern "C" fn gussetraft_build_rooms(
     ensures rooms { let F = lent w h index.now count.now area.now con.now in
         LeavesPlainRooms F border_size result ids.new }
 {
-    rooms_numbers(build_rooms(w, h, index, count, area, con, border_size, workspace, ids))
+    let field = Heightfield {
+        w: w as usize,
+        h: h as usize,
+        index,
+        count,
+        area,
+        con,
+    };
+    rooms_numbers(build_rooms(&field, border_size, workspace, ids))
 }

@@ -41,12 +41,7 @@ fn push_level(stacks: &mut [u16], n: usize, fills: &mut [u16], k: usize, x: u16)
 fn stack_of(level: u16, distance: u16) -> usize
     ensures { result ≡ level / 2 - distance / 2 }
 {
-    let a = (level / 2) as usize;
-    let b = (distance / 2) as usize;
-    if a < b {
-        return 0;
-    }
-    a - b
+    (level / 2).saturating_sub(distance / 2) as usize
 }
 
 // Span i goes to its stack.
@@ -96,10 +91,8 @@ fn sort_some(
         let n = length area.now in
         Moved n stacks.old fills.old stacks.new fills.new after }
 {
-    let mut k = i;
-    while k < e {
+    for k in i..e {
         sort_one(area, dist, ids, stacks, fills, level, k);
-        k += 1;
     }
 }
 
@@ -107,11 +100,7 @@ fn sort_some(
 fn least(level: u16) -> u16
     ensures { result ≡ 2 * (level / 2 - last_stack) }
 {
-    let a = level / 2;
-    if a <= LAST {
-        return 0;
-    }
-    2 * (a - LAST)
+    2 * (level / 2).saturating_sub(LAST)
 }
 
 // Found before, or a span of that id and distance may go to a stack. No branch, so that the compiler can take many at once.
@@ -127,10 +116,8 @@ fn any_open(dist: &[u16], ids: &[u16], from: u16) -> bool
     ensures { result ≡ any_open dist.now ids.now from (length dist.now) }
 {
     let mut found = false;
-    let mut i = 0;
-    while i < dist.len() {
+    for i in 0..dist.len() {
         found = or_open(found, ids[i], dist[i], from);
-        i += 1;
     }
     found
 }
@@ -179,6 +166,7 @@ pub fn sort_cells_by_level(
     let mut fills = [0u16; STACKS];
     let from = least(level);
     let n = area.len();
+    // Counted by hand: it goes by blocks, and tells where the last whole one ends.
     let mut i = 0;
     while BLOCK <= n - i {
         sort_block(area, dist, ids, stacks, &mut fills, level, from, i);
@@ -225,10 +213,8 @@ pub fn append_stacks(ids: &[u16], stacks: &mut [u16], l: LevelStacks, j: usize) 
     let src = j - 1;
     let count = l.fills[src] as usize;
     let mut fills = l.fills;
-    let mut i: usize = 0;
-    while i < count {
+    for i in 0..count {
         append_one(ids, stacks, &mut fills, j, i);
-        i += 1;
     }
     LevelStacks { fills, turn: j }
 }

@@ -1,6 +1,37 @@
 // Lists that the calls lend.
 ghost use Rattle.std.specs.Prelude.{◌≤◌, length};
 
+use field::lent::Heightfield;
+
+// A field that is lent these lists.
+pub(crate) fn lent<'a>(
+    w: usize,
+    h: usize,
+    index: &'a [u32],
+    count: &'a [u8],
+    area: &'a [u8],
+    con: &'a [u8],
+) -> Heightfield<'a> {
+    Heightfield {
+        w,
+        h,
+        index,
+        count,
+        area,
+        con,
+    }
+}
+
+// A field of 3 by 3 cells that is.
+pub(crate) fn lent_3_by_3<'a>(
+    index: &'a [u32],
+    count: &'a [u8],
+    area: &'a [u8],
+    con: &'a [u8],
+) -> Heightfield<'a> {
+    lent(3, 3, index, count, area, con)
+}
+
 // 3 by 3 cells with a span each, all connected.
 pub const INDEX: [u32; 9] = [0, 1, 2, 3, 4, 5, 6, 7, 8];
 
@@ -31,7 +62,7 @@ pub const LAYERS_CON: [u8; 80] = [
 pub(crate) fn count_in_twos(l: &mut [u32])
     requires { length l.old ≤ 65536 }
 {
-    for i in 0..l.len() {
-        l[i] = 2 * i as u32;
+    for (i, x) in l.iter_mut().enumerate() {
+        *x = 2 * i as u32;
     }
 }

@@ -9,25 +9,46 @@ mod show;
 
 use fields::{
     AREAS, CON, COUNT, INDEX, LAYERS_AREA, LAYERS_CON, LAYERS_COUNT, LAYERS_INDEX, count_in_twos,
+    lent, lent_3_by_3,
 };
 use regions::{distances, regions};
 use show::run;
 use std::io::Result;
 
 fn samples(rt: &impl Print) -> Result<()> {
-    run(rt, "open 3 by 3", 3, 3, &INDEX, &COUNT, &[1; 9], &CON, 9, 9)?;
-    run(rt, "area 0", 3, 3, &INDEX, &COUNT, &[0; 9], &CON, 9, 9)?;
-    run(rt, "two areas", 3, 3, &INDEX, &COUNT, &AREAS, &CON, 9, 9)?;
-    run(rt, "no cells", 0, 0, &[], &[], &[], &[], 0, 0)?;
+    run(
+        rt,
+        "open 3 by 3",
+        &lent_3_by_3(&INDEX, &COUNT, &[1; 9], &CON),
+        9,
+        9,
+    )?;
+    run(
+        rt,
+        "area 0",
+        &lent_3_by_3(&INDEX, &COUNT, &[0; 9], &CON),
+        9,
+        9,
+    )?;
+    run(
+        rt,
+        "two areas",
+        &lent_3_by_3(&INDEX, &COUNT, &AREAS, &CON),
+        9,
+        9,
+    )?;
+    run(rt, "no cells", &lent(0, 0, &[], &[], &[], &[]), 0, 0)?;
     run(
         rt,
         "layers",
-        4,
-        3,
-        &LAYERS_INDEX,
-        &LAYERS_COUNT,
-        &LAYERS_AREA,
-        &LAYERS_CON,
+        &lent(
+            4,
+            3,
+            &LAYERS_INDEX,
+            &LAYERS_COUNT,
+            &LAYERS_AREA,
+            &LAYERS_CON,
+        ),
         20,
         20,
     )
@@ -35,10 +56,34 @@ fn samples(rt: &impl Print) -> Result<()> {
 
 // Refusal 1: empty cells, 256 and 257 wide, and high.
 fn sides(rt: &impl Print) -> Result<()> {
-    run(rt, "w 256", 256, 1, &[0; 256], &[0; 256], &[], &[], 0, 0)?;
-    run(rt, "w 257", 257, 1, &[0; 257], &[0; 257], &[], &[], 0, 0)?;
-    run(rt, "h 256", 1, 256, &[0; 256], &[0; 256], &[], &[], 0, 0)?;
-    run(rt, "h 257", 1, 257, &[0; 257], &[0; 257], &[], &[], 0, 0)
+    run(
+        rt,
+        "w 256",
+        &lent(256, 1, &[0; 256], &[0; 256], &[], &[]),
+        0,
+        0,
+    )?;
+    run(
+        rt,
+        "w 257",
+        &lent(257, 1, &[0; 257], &[0; 257], &[], &[]),
+        0,
+        0,
+    )?;
+    run(
+        rt,
+        "h 256",
+        &lent(1, 256, &[0; 256], &[0; 256], &[], &[]),
+        0,
+        0,
+    )?;
+    run(
+        rt,
+        "h 257",
+        &lent(1, 257, &[0; 257], &[0; 257], &[], &[]),
+        0,
+        0,
+    )
 }
 
 // Refusal 2: 250 by 130 cells of two spans each.
@@ -48,24 +93,14 @@ fn spans(rt: &impl Print) -> Result<()> {
     run(
         rt,
         "n 65,000",
-        250,
-        130,
-        &index,
-        &[2; 32500],
-        &[1; 65000],
-        &[255; 260000],
+        &lent(250, 130, &index, &[2; 32500], &[1; 65000], &[255; 260000]),
         65000,
         65000,
     )?;
     run(
         rt,
         "n 65,001",
-        250,
-        130,
-        &index,
-        &[2; 32500],
-        &[1; 65001],
-        &[255; 260004],
+        &lent(250, 130, &index, &[2; 32500], &[1; 65001], &[255; 260004]),
         65001,
         65001,
     )
@@ -79,49 +114,35 @@ fn short_lists(rt: &impl Print) -> Result<()> {
     run(
         rt,
         "index short",
-        3,
-        3,
-        &index[..8],
-        &COUNT,
-        &[1; 9],
-        &CON,
+        &lent_3_by_3(&index[..8], &COUNT, &[1; 9], &CON),
         9,
         9,
     )?;
     run(
         rt,
         "count short",
-        3,
-        3,
-        &INDEX,
-        &count[..8],
-        &[1; 9],
-        &CON,
+        &lent_3_by_3(&INDEX, &count[..8], &[1; 9], &CON),
         9,
         9,
     )?;
     run(
         rt,
         "con short",
-        3,
-        3,
-        &INDEX,
-        &COUNT,
-        &[1; 9],
-        &con[..35],
+        &lent_3_by_3(&INDEX, &COUNT, &[1; 9], &con[..35]),
         9,
         9,
     )?;
-    run(rt, "raw short", 3, 3, &INDEX, &COUNT, &[1; 9], &CON, 8, 9)?;
+    run(
+        rt,
+        "raw short",
+        &lent_3_by_3(&INDEX, &COUNT, &[1; 9], &CON),
+        8,
+        9,
+    )?;
     run(
         rt,
         "blurred short",
-        3,
-        3,
-        &INDEX,
-        &COUNT,
-        &[1; 9],
-        &CON,
+        &lent_3_by_3(&INDEX, &COUNT, &[1; 9], &CON),
         9,
         8,
     )
@@ -131,40 +152,35 @@ fn long_lists(rt: &impl Print) -> Result<()> {
     run(
         rt,
         "index long",
-        3,
-        3,
-        &[0; 10],
-        &COUNT,
-        &[1; 9],
-        &CON,
+        &lent_3_by_3(&[0; 10], &COUNT, &[1; 9], &CON),
         9,
         9,
     )?;
     run(
         rt,
         "count long",
-        3,
-        3,
-        &INDEX,
-        &[1; 10],
-        &[1; 9],
-        &CON,
+        &lent_3_by_3(&INDEX, &[1; 10], &[1; 9], &CON),
         9,
         9,
     )?;
     run(
-        rt, "con long", 3, 3, &INDEX, &COUNT, &[1; 9], &[255; 37], 9, 9,
+        rt,
+        "con long",
+        &lent_3_by_3(&INDEX, &COUNT, &[1; 9], &[255; 37]),
+        9,
+        9,
     )?;
-    run(rt, "raw long", 3, 3, &INDEX, &COUNT, &[1; 9], &CON, 10, 9)?;
+    run(
+        rt,
+        "raw long",
+        &lent_3_by_3(&INDEX, &COUNT, &[1; 9], &CON),
+        10,
+        9,
+    )?;
     run(
         rt,
         "blurred long",
-        3,
-        3,
-        &INDEX,
-        &COUNT,
-        &[1; 9],
-        &CON,
+        &lent_3_by_3(&INDEX, &COUNT, &[1; 9], &CON),
         9,
         10,
     )
@@ -175,24 +191,14 @@ fn cells(rt: &impl Print) -> Result<()> {
     run(
         rt,
         "count 63",
-        1,
-        1,
-        &[0],
-        &[63],
-        &[1; 63],
-        &[255; 252],
+        &lent(1, 1, &[0], &[63], &[1; 63], &[255; 252]),
         63,
         63,
     )?;
     run(
         rt,
         "count 64",
-        1,
-        1,
-        &[0],
-        &[64],
-        &[1; 64],
-        &[255; 256],
+        &lent(1, 1, &[0], &[64], &[1; 64], &[255; 256]),
         64,
         64,
     )?;
@@ -201,12 +207,7 @@ fn cells(rt: &impl Print) -> Result<()> {
     run(
         rt,
         "index off by one",
-        3,
-        3,
-        &index,
-        &COUNT,
-        &[1; 9],
-        &CON,
+        &lent_3_by_3(&index, &COUNT, &[1; 9], &CON),
         9,
         9,
     )?;
@@ -215,12 +216,7 @@ fn cells(rt: &impl Print) -> Result<()> {
     run(
         rt,
         "counts sum to 10",
-        3,
-        3,
-        &INDEX,
-        &count,
-        &[1; 9],
-        &CON,
+        &lent_3_by_3(&INDEX, &count, &[1; 9], &CON),
         9,
         9,
     )
@@ -233,12 +229,7 @@ fn connections(rt: &impl Print) -> Result<()> {
     run(
         rt,
         "off the grid",
-        3,
-        3,
-        &INDEX,
-        &COUNT,
-        &[1; 9],
-        &off,
+        &lent_3_by_3(&INDEX, &COUNT, &[1; 9], &off),
         9,
         9,
     )?;
@@ -247,18 +238,19 @@ fn connections(rt: &impl Print) -> Result<()> {
     run(
         rt,
         "missing layer",
-        3,
-        3,
-        &INDEX,
-        &COUNT,
-        &[1; 9],
-        &missing,
+        &lent_3_by_3(&INDEX, &COUNT, &[1; 9], &missing),
         9,
         9,
     )?;
     let mut one_way = CON;
     one_way[2] = 255;
-    run(rt, "one way", 3, 3, &INDEX, &COUNT, &[1; 9], &one_way, 9, 9)
+    run(
+        rt,
+        "one way",
+        &lent_3_by_3(&INDEX, &COUNT, &[1; 9], &one_way),
+        9,
+        9,
+    )
 }
 
 fn main(rt: HostRuntime) -> Result<()> {

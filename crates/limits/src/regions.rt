@@ -1,18 +1,25 @@
 // The region entry on the open field of 3 by 3, at the limits that are its own: workspace and distances.
-use crate::fields::{CON, COUNT, INDEX};
+use crate::fields::{CON, COUNT, INDEX, lent_3_by_3};
 use crate::show::list;
-use checker::refusal_number;
-use std::io::Result;
-use watershed::{RegionAnswer, build_regions};
+use checker::Refusal;
+use numbering::Regions;
+use std::io;
+use watershed::build_regions;
 
 // A line for the answer: refused and its number, or max_region, the overlap count and the number of records cut short.
-fn answer(rt: &impl Print, r: RegionAnswer) -> Result<()> {
+fn answer(rt: &impl Print, r: Result<Regions, Refusal>) -> io::Result<()> {
     match r {
-        RegionAnswer::Refused(k) => {
-            let n = refusal_number(k);
+        Ok(
+            Regions {
+                max_region,
+                overlaps,
+                cut,
+            },
+        ) => println!(rt; "max_region {max_region} overlaps {overlaps} cut {cut}"),
+        Err(r) => {
+            let n = r.number();
             println!(rt; "refused {n}")
         }
-        RegionAnswer::Done(m, o, u) => println!(rt; "max_region {m} overlaps {o} cut {u}"),
     }
 }
 
@@ -25,10 +32,9 @@ fn call(
     least: u16,
     workspace: &mut [u16],
     ids: &mut [u16],
-) -> Result<()> {
-    let r = build_regions(
-        3, 3, &INDEX, &COUNT, &[1; 9], &CON, dist, most, border, least, 0, workspace, ids,
-    );
+) -> io::Result<()> {
+    let field = lent_3_by_3(&INDEX, &COUNT, &[1; 9], &CON);
+    let r = build_regions(&field, dist, most, border, least, 0, workspace, ids);
     answer(rt, r)?;
     list(rt, "ids", ids)?;
     list(rt, "workspace", workspace)
@@ -44,7 +50,7 @@ fn lend(
     ws: &mut [u16],
     m: usize,
     ids: &mut [u16],
-) -> Result<()> {
+) -> io::Result<()> {
     if ws.len() < m {
         return Ok(());
     }
@@ -60,14 +66,14 @@ fn run(
     border: u16,
     least: u16,
     work: usize,
-) -> Result<()> {
+) -> io::Result<()> {
     print!(rt; "{name}: ")?;
     let mut ws = [7u16; 5300];
     let mut ids = [7u16; 9];
     lend(rt, dist, most, border, least, &mut ws, work, &mut ids)
 }
 
-pub(crate) fn regions(rt: &impl Print) -> Result<()> {
+pub(crate) fn regions(rt: &impl Print) -> io::Result<()> {
     run(rt, "regions", &[0, 0, 0, 0, 2, 0, 0, 0, 0], 2, 0, 0, 5248)?;
     run(rt, "border 1", &[0, 0, 0, 0, 2, 0, 0, 0, 0], 2, 1, 0, 5248)?;
     run(
@@ -108,7 +114,7 @@ pub(crate) fn regions(rt: &impl Print) -> Result<()> {
     )
 }
 
-pub(crate) fn distances(rt: &impl Print) -> Result<()> {
+pub(crate) fn distances(rt: &impl Print) -> io::Result<()> {
     run(
         rt,
         "max_distance 510",

@@ -1,16 +1,17 @@
 // A call of the entry, and what it gave.
-use checker::refusal_number;
-use std::io::Result;
-use watershed::{DistanceAnswer, build_distance_field};
+use checker::Refusal;
+use field::lent::Heightfield;
+use std::io;
+use watershed::build_distance_field;
 
 // A line for the answer: refused and its number, or max_distance and its value.
-fn answer(rt: &impl Print, r: DistanceAnswer) -> Result<()> {
+fn answer(rt: &impl Print, r: Result<u16, Refusal>) -> io::Result<()> {
     match r {
-        DistanceAnswer::Refused(k) => {
-            let n = refusal_number(k);
+        Ok(m) => println!(rt; "max_distance {m}"),
+        Err(r) => {
+            let n = r.number();
             println!(rt; "refused {n}")
         }
-        DistanceAnswer::Done(m) => println!(rt; "max_distance {m}"),
     }
 }
 
@@ -20,26 +21,18 @@ fn mix(h: u64, v: u16) -> u64 {
 }
 
 fn digest(l: &[u16]) -> u64 {
-    let mut h: u64 = 0;
-    for i in 0..l.len() {
-        h = mix(h, l[i]);
-    }
-    h
+    l.iter().fold(0, |h, &v| mix(h, v))
 }
 
-fn number(rt: &impl Print, v: u16) -> Result<()> {
-    print!(rt; " {v}")
-}
-
-fn numbers(rt: &impl Print, l: &[u16]) -> Result<()> {
-    for i in 0..l.len() {
-        number(rt, l[i])?;
+fn numbers(rt: &impl Print, l: &[u16]) -> io::Result<()> {
+    for v in l {
+        print!(rt; " {v}")?;
     }
     Ok(())
 }
 
 // The numbers of a short list; of a long one its length and a digest.
-pub(crate) fn list(rt: &impl Print, name: &str, l: &[u16]) -> Result<()> {
+pub(crate) fn list(rt: &impl Print, name: &str, l: &[u16]) -> io::Result<()> {
     print!(rt; "{name}")?;
     if 64 < l.len() {
         let length = l.len();
@@ -54,16 +47,11 @@ pub(crate) fn list(rt: &impl Print, name: &str, l: &[u16]) -> Result<()> {
 // A call, its answer, and the two lists after it.
 fn call(
     rt: &impl Print,
-    w: u16,
-    h: u16,
-    index: &[u32],
-    count: &[u8],
-    area: &[u8],
-    con: &[u8],
+    field: &Heightfield,
     raw: &mut [u16],
     blurred: &mut [u16],
-) -> Result<()> {
-    let r = build_distance_field(w, h, index, count, area, con, raw, blurred);
+) -> io::Result<()> {
+    let r = build_distance_field(field, raw, blurred);
     answer(rt, r)?;
     list(rt, "raw", raw)?;
     list(rt, "blurred", blurred)
@@ -72,43 +60,28 @@ fn call(
 // A call that is lent the first m numbers of a and the first n of b.
 fn lend(
     rt: &impl Print,
-    w: u16,
-    h: u16,
-    index: &[u32],
-    count: &[u8],
-    area: &[u8],
-    con: &[u8],
+    field: &Heightfield,
     a: &mut [u16],
     b: &mut [u16],
     m: usize,
     n: usize,
-) -> Result<()> {
-    if a.len() < m {
+) -> io::Result<()> {
+    if a.len() < m || b.len() < n {
         return Ok(());
     }
-    if b.len() < n {
-        return Ok(());
-    }
-    call(rt, w, h, index, count, area, con, &mut a[..m], &mut b[..n])
+    call(rt, field, &mut a[..m], &mut b[..n])
 }
 
 // A call that is lent lists of so many 7s for the distances, at most 65,001.
 pub(crate) fn run(
     rt: &impl Print,
     name: &str,
-    w: u16,
-    h: u16,
-    index: &[u32],
-    count: &[u8],
-    area: &[u8],
-    con: &[u8],
+    field: &Heightfield,
     raws: usize,
     blurs: usize,
-) -> Result<()> {
+) -> io::Result<()> {
     print!(rt; "{name}: ")?;
     let mut a = [7u16; 65001];
     let mut b = [7u16; 65001];
-    lend(
-        rt, w, h, index, count, area, con, &mut a, &mut b, raws, blurs,
-    )
+    lend(rt, field, &mut a, &mut b, raws, blurs)
 }

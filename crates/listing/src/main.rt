@@ -4,25 +4,12 @@
 
 #![tactic(auto)]
 
-use answer::reply;
-use console::{arg, arg_count, buffer, fail, read_first, text};
-use file::read::{FilePlace, place};
+use answer::print_reply;
+use console::{arg_count, arg_text, buffer, fail, read_first, tell_place};
+use file::read::place;
 use std::fs;
 use std::io::{Read, Result};
 use std::rt::{Env, Files};
-
-fn print_reply(rt: &impl Print, bytes: &[u8]) -> Result<()> {
-    let mut out = [0u8; 4096];
-    let n = reply(bytes, &mut out);
-    rt.write_all(&out[..n])
-}
-
-fn tell_place(rt: &impl Eprint, bytes: &[u8]) -> Result<()> {
-    match place(bytes) {
-        FilePlace::At(p) => eprintln!(rt; "position {p}"),
-        FilePlace::Nowhere => Ok(()),
-    }
-}
 
 // A read that fails is told, by name.
 fn print_file(rt: &(impl Print + Eprint + Alloc), from: &mut impl Read, name: &str) -> Result<()> {
@@ -30,7 +17,7 @@ fn print_file(rt: &(impl Print + Eprint + Alloc), from: &mut impl Read, name: &s
     match read_first(from, &mut bytes) {
         Ok(n) => {
             print_reply(rt, &bytes[..n])?;
-            tell_place(rt, &bytes[..n])
+            tell_place(rt, place(&bytes[..n]))
         }
         Err(e) => fail(rt, name, &e),
     }
@@ -45,22 +32,16 @@ fn print_at(rt: &(impl Files + Print + Eprint + Alloc), path: &str) -> Result<()
 
 fn print_named(rt: &(impl Env + Files + Print + Eprint + Alloc)) -> Result<()> {
     let mut path = buffer();
-    match arg(rt, 1, &mut path) {
-        Ok(n) => match text(&path[..n]) {
-            Ok(name) => print_at(rt, name),
-            Err(e) => fail(rt, "the file's name", &e),
-        },
+    match arg_text(rt, 1, &mut path) {
+        Ok(name) => print_at(rt, name),
         Err(e) => fail(rt, "the file's name", &e),
     }
 }
 
 fn main(rt: HostRuntime) -> Result<()> {
-    let n = arg_count(&rt, 3);
-    if n < 2 {
-        return print_file(&rt, &mut rt.stdin(), "standard input");
+    match arg_count(&rt, 3) {
+        0 | 1 => print_file(&rt, &mut rt.stdin(), "standard input"),
+        2 => print_named(&rt),
+        _ => eprintln!(rt; "usage: listing [FILE]"),
     }
-    if 2 < n {
-        return eprintln!(rt; "usage: listing [FILE]");
-    }
-    print_named(&rt)
 }

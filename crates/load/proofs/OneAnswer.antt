@@ -14,8 +14,8 @@ use Rattle.rules.specs.Load.{Loading, load_piece, piece_refusal, going}
 use Rattle.load.specs.Numbers.{loader_of, loading, piece_refused_by, loader_after}
 use Rattle.load.specs.Into.{numbers_of, loader_in, position_of, left, refused3, loading_in, Outcome, PieceOutcome, end_outcome, piece_outcome, Given, GivenPiece}
 use Rattle.load.specs.declared.Loader.{Loader}
-use Rattle.load.specs.declared.PieceAnswer.{PieceAnswer}
-use Rattle.load.specs.declared.PieceAnswer.TheVariants.{Taken, TooShort}
+use Rattle.std.specs.Prelude.{Result, Ok, Err}
+use Rattle.load.specs.declared.TooShort.{TooShort}
 use Rattle.load.specs.declared.into.LoadAnswer.{LoadAnswer}
 use Rattle.load.proofs.Pieces.{cut_in_two, room_stays, loads, piece_changes_nothing, end_changes_nothing}
 use Rattle.load.proofs.Stored.{loader_written, numbers_read}
@@ -51,14 +51,14 @@ one_loader l m e = ap code_of e
 three_none : ◌≡◌ {A = ℕ} 0 3 → ⊥
 three_none e = omega arith
 
-one_answer : (l : Loader) (a b : PieceAnswer) → piece_refused_by a ≡ piece_refused_by b → loader_of (loader_after l a) ≡ loader_of (loader_after l b) → a ≡ b
-one_answer l (Taken m) (Taken n) e f = ap Taken (one_loader m n f)
-one_answer l (Taken m) TooShort e f = absurd (three_none e)
-one_answer l TooShort (Taken n) e f = absurd (three_none (sym e))
-one_answer l TooShort TooShort e f = refl
+one_answer : (l : Loader) (a b : Result Loader TooShort) → piece_refused_by a ≡ piece_refused_by b → loader_of (loader_after l a) ≡ loader_of (loader_after l b) → a ≡ b
+one_answer l (Ok m) (Ok n) e f = ap Ok (one_loader m n f)
+one_answer l (Ok m) (Err u) e f = absurd (three_none e)
+one_answer l (Err u) (Ok n) e f = absurd (three_none (sym e))
+one_answer l (Err u) (Err v) e f = refl
 
 -- `load_piece`
-pub one_piece : (l : Loader) (k : ℕ) (y : Loading) (a b : PieceAnswer) (i c s o i' c' s' o' : List ℕ) → piece_refused_by a ≡ k → piece_refused_by b ≡ k
+pub one_piece : (l : Loader) (k : ℕ) (y : Loading) (a b : Result Loader TooShort) (i c s o i' c' s' o' : List ℕ) → piece_refused_by a ≡ k → piece_refused_by b ≡ k
     → loading (loader_after l a) i c s o ≡ y → loading (loader_after l b) i' c' s' o' ≡ y → (a ≡ b) × (i ≡ i') × (c ≡ c') × (s ≡ s') × (o ≡ o')
 one_piece l k y a b i c s o i' c' s' o' e f p q =
     let u = p ∙ sym q in (

@@ -1,20 +1,18 @@
 -- The loader's numbers in a list of 17: read and written they are the loader's, and each call gives what its outcome says.
 -- Assumes nothing.
-use Prim.Native.Nat.{ℕ, zero, suc, ◌+◌}
+use Prim.Native.Nat.{ℕ, zero, suc}
 use native.Mathlib.Omega.{arith}
 use mathlib.Core.Path.{◌≡◌, refl, ap, ◌∙◌}
 use mathlib.Core.List.{List, [], ◌∷◌}
-use lib.ListN.{length, get_or, set}
+use lib.ListN.{length, get_or}
 use borrow.Author.Tests.{eq-eqb, ne_eqb}
 use Rattle.rules.specs.Base.{when◌then◌else◌, tab}
 use Rattle.rules.specs.Load.{Loader, Loading, load_begin, load_end, load_piece, piece_refusal}
 use Rattle.load.specs.declared.Loader.{Loader as Code}
-use Rattle.load.specs.declared.PieceAnswer.{PieceAnswer}
-use Rattle.load.specs.declared.PieceAnswer.TheVariants.{Taken, TooShort}
-use Rattle.load.specs.Numbers.{loader_of, loading, piece_refused_by, loader_after}
+use Rattle.load.specs.Numbers.{loader_of, loading}
 use Rattle.load.proofs.Pieces.{refusal_cut}
 use Rattle.load.specs.declared.into.LoadAnswer.{LoadAnswer}
-use Rattle.load.specs.Into.{numbers_of, loader_in, position_of, left, left_by, refused3, begin_outcome, end_outcome, loading_in, piece_outcome, Given, GivenPiece}
+use Rattle.load.specs.Into.{numbers_of, loader_in, position_of, left, refused3, begin_outcome, end_outcome, loading_in, piece_outcome, Given, GivenPiece}
 
 -- ---------------------------------------------------------------- a list by its elements
 
@@ -42,26 +40,6 @@ numbers_read ns e = seventeen ns e
 pub loader_written : (l : Loader) → loader_in (numbers_of l) ≡ l
 unfolding numbers_of loader_in
 loader_written l = refl
-
-pub four_stored : (l m n o r : List ℕ) (i a b c d : ℕ) → m ≡ set l i a → n ≡ set m (i + 1) b → o ≡ set n (i + 2) c → r ≡ set o (i + 3) d
-    → r ≡ set (set (set (set l i a) (i + 1) b) (i + 2) c) (i + 3) d
-four_stored l m n o r i a b c d e f g h = rw (← e, ← f, ← g) h
-
-all_stored : (l : List ℕ) (a0 a1 a2 a3 a4 a5 a6 a7 a8 a9 a10 a11 a12 a13 a14 a15 a16 : ℕ) → length l ≡ 17
-    → set (set (set (set (set (set (set (set (set (set (set (set (set (set (set (set (set l 0 a0) 1 a1) 2 a2) 3 a3) 4 a4) 5 a5) 6 a6) 7 a7) 8 a8) 9 a9) 10 a10) 11 a11) 12 a12) 13 a13) 14 a14) 15 a15) 16 a16
-    ≡ a0 ∷ a1 ∷ a2 ∷ a3 ∷ a4 ∷ a5 ∷ a6 ∷ a7 ∷ a8 ∷ a9 ∷ a10 ∷ a11 ∷ a12 ∷ a13 ∷ a14 ∷ a15 ∷ a16 ∷ []
-unfolding tab
-all_stored l a0 a1 a2 a3 a4 a5 a6 a7 a8 a9 a10 a11 a12 a13 a14 a15 a16 e = rw (← seventeen l e) refl
-
-pub stored : (l m n o p r : List ℕ) (k : Loader) → length l ≡ 17
-    → m ≡ set (set (set (set l 0 k.most_cells) 1 k.most_spans) 2 k.kind) 3 k.got
-    → n ≡ set (set (set (set m 4 k.start) 5 k.received) 6 k.w) 7 k.h
-    → o ≡ set (set (set (set n 8 k.border) 9 k.least) 10 k.merge) 11 k.cells
-    → p ≡ set (set (set (set o 12 k.spans) 13 k.due) 14 k.refusal) 15 k.position
-    → r ≡ set p 16 k.ended → r ≡ numbers_of k
-unfolding numbers_of
-stored l m n o p r k e a b c d f =
-    f ∙ rw (d, c, b, a) (all_stored l k.most_cells k.most_spans k.kind k.got k.start k.received k.w k.h k.border k.least k.merge k.cells k.spans k.due k.refusal k.position k.ended e)
 
 -- ---------------------------------------------------------------- what a call gives
 
@@ -108,13 +86,6 @@ module _ (r : LoadAnswer) (ns ns' : List ℕ) where
       unfolding end_outcome when◌then◌else◌
       end_given k p q = rw (eq-eqb (length ns) 17 right, ← p, ← q) (given_left l e f g)
 
-  -- the answer written
-  pub put-taken : (l : Code) (a : PieceAnswer) → a ≡ Taken l → r.refusal ≡ l.refusal → r.position ≡ position_of (loader_of l) → ns' ≡ numbers_of (loader_of l) → Given (left_by a ns) r ns'
-  put-taken l a q e f g = rw q (given_left (loader_of l) e f g)
-
-  pub put_short : (a : PieceAnswer) → a ≡ TooShort → r.refusal ≡ 3 → r.position ≡ 0 → Given (left_by a ns) r ns
-  put_short a q e f = rw q (given_3 e f)
-
   module _ (piece index count area con index' count' area' con' : List ℕ) (right : length ns ≡ 17) (k : Code) (p : loader_of k ≡ loader_in ns) where
     abbrev x : Loading
     x = loading k index count area con
@@ -123,16 +94,21 @@ module _ (r : LoadAnswer) (ns ns' : List ℕ) where
     unfolding loading_in
     same-loading = rw p refl
 
-    pub piece_given : (a : PieceAnswer) → (piece_refused_by a ≡ piece_refusal x) × (loading (loader_after k a) index' count' area' con' ≡ load_piece piece x) → Given (left_by a ns) r ns'
+    pub piece_taken : (l : Code) → (0 ≡ piece_refusal x) × (loading l index' count' area' con' ≡ load_piece piece x)
+        → r.refusal ≡ l.refusal → r.position ≡ position_of (loader_of l) → ns' ≡ numbers_of (loader_of l)
         → GivenPiece (piece_outcome piece ns index count area con) r ns' index' count' area' con'
     unfolding piece_outcome when◌then◌else◌
-    piece_given (Taken l) q g =
-        rw (eq-eqb (length ns) 17 right, ← same-loading, ← q.0, ← q.1) (record { said = g; indices = refl; counts = refl; areas = refl; cons = refl })
-    piece_given TooShort q g =
+    piece_taken l q e f g =
+        rw (eq-eqb (length ns) 17 right, ← same-loading, ← q.0, ← q.1) (record { said = given_left (loader_of l) e f g; indices = refl; counts = refl; areas = refl; cons = refl })
+
+    pub piece_short : (3 ≡ piece_refusal x) × (loading k index' count' area' con' ≡ load_piece piece x) → r.refusal ≡ 3 → r.position ≡ 0
+        → GivenPiece (piece_outcome piece ns index count area con) r ns index' count' area' con'
+    unfolding piece_outcome when◌then◌else◌
+    piece_short q e f =
         let y : loading k index' count' area' con' ≡ x = q.1 ∙ refusal_cut piece x (λ e. no_three (q.0 ∙ e)) in
         rw (eq-eqb (length ns) 17 right, ← same-loading, ← q.0)
         (record {
-          said = g;
+          said = given_3 e f;
           indices = ap (λ (z : Loading). z.index) y;
           counts = ap (λ (z : Loading). z.count) y;
           areas = ap (λ (z : Loading). z.area) y;

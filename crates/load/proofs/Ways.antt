@@ -2,38 +2,29 @@
 -- Assumes nothing.
 use Prim.Native.Nat.{ℕ, ◌+◌, ◌-◌, ◌*◌, ◌%◌, ◌≤◌, ◌<◌}
 use native.Mathlib.Omega.{arith}
-use native.Mathlib.Nat.{mul-le-mul}
+use native.Mathlib.Decide.{dec_lt}
+use Rattle.std.specs.Prelude.{min, ◌^◌}
+use Rattle.std.proofs.Math.Nat.{min-eq_left, min-eq_right}
 use native.Mathlib.Numerals.{add-one}
-use mir.Val.{Fits}
-use mir.Syntax.{w32, w64}
 use mathlib.Core.Path.{◌≡◌, refl, sym, ◌∙◌}
 use mathlib.Core.Bool.{Bool, true, false}
 use mathlib.Core.List.{List}
 use lib.ListN.{length, get_or, set, drop, drop_of_length-le}
-use lib.Seq.{drop-cons, set_out}
-use borrow.Author.Tests.{lt-ltb, le-ltb, le-leb, lt-leb, eq-eqb, ne_eqb}
-use Rattle.rules.specs.Base.{◌and◌, when◌then◌else◌}
+use lib.Seq.{drop-cons}
+use borrow.Author.Tests.{lt-ltb, le-ltb, eq-eqb, ne_eqb}
+use Rattle.rules.specs.Base.{when◌then◌else◌}
 use Rattle.rules.specs.Load.{Loader, Loading, going, up, refusing, onward, counted, wanted, kind_byte, number_with, sized, headed, header_byte, cell_on, cell_byte, span_on, span_byte}
 use Rattle.rules.specs.Load.{with, taken, byte_in, feed, closed, load_end, roomy, piece_refusal, load_piece}
-use Rattle.laws.proofs.Basics.{if-ind}
 use Rattle.load.specs.Numbers.{ended_by}
 
 -- ---------------------------------------------------------------- numbers
 
-pub product_fits : (w h : ℕ) → Fits w32 w → Fits w32 h → Fits w64 (w * h)
-product_fits w h p q =
-    let a : w ≤ 4294967295 = omega (arith, p.fits) in
-    let b : h ≤ 4294967295 = omega (arith, q.fits) in
-    let m : w * h ≤ 4294967295 * 4294967295 = mul-le-mul a b in
-    record { fits = omega arith }
-
-pub up_more : (n : ℕ) → n < 4294967295 → n + 1 ≡ up n
+pub saturates : (n r : ℕ) → n ≤ 4294967295 → r ≡ min (n + 1) (2 ^ 32 - 1) → r ≡ up n
 unfolding up when◌then◌else◌
-up_more n h = rw (lt-ltb n 4294967295 h)
-
-pub up-stays : (n : ℕ) → 4294967295 ≤ n → n ≡ up n
-unfolding up when◌then◌else◌
-up-stays n h = rw (le-ltb n 4294967295 h)
+saturates n r b e = elim (dec_lt n 4294967295) [
+  | yes h ↦ let p : n + 1 ≤ 4294967295 = omega arith in rw (lt-ltb n 4294967295 h) (e ∙ min-eq_left p)
+  | no h ↦ let p : 4294967295 ≤ n + 1 = omega arith in rw (le-ltb n 4294967295 (omega arith)) (e ∙ min-eq_right p ∙ omega arith)
+]
 
 pub number_low : (i got old b : ℕ) → got ≡ i → b ≡ number_with i got old b
 unfolding number_with when◌then◌else◌
@@ -46,9 +37,6 @@ number_high i got old b n e = rw (ne_eqb got i n, eq-eqb got (i + 1) e)
 pub number_other : (i got old b : ℕ) → (got ≡ i → ⊥) → (got ≡ i + 1 → ⊥) → old ≡ number_with i got old b
 unfolding number_with when◌then◌else◌
 number_other i got old b n m = rw (ne_eqb got i n, ne_eqb got (i + 1) m)
-
-pub put_out : (l m : List ℕ) (i v : ℕ) → length l ≤ i → m ≡ l → m ≡ set l i v
-put_out l m i v h e = e ∙ sym (set_out l i v h)
 
 -- ---------------------------------------------------------------- kinds
 
@@ -121,29 +109,17 @@ module _ (l : Loader) where
   unfolding span_on when◌then◌else◌
   span_last r m u d h e f k g = rw (le-ltb l.got 4 h, ← e, ← f, ← k) g
 
-  pub span_area : (r : Loader) (b : ℕ) (area con area' : List ℕ) → l.got ≡ 0 → r ≡ span_on l → area' ≡ set area l.spans b → (index count : List ℕ)
-      → record { loader = r; index = index; count = count; area = area'; con = con } ≡ span_byte (record { loader = l; index = index; count = count; area = area; con = con }) b
+  pub span_area : (r : Loader) (b : ℕ) (area con area' con' : List ℕ) → l.got ≡ 0 → r ≡ span_on l → area' ≡ set area l.spans b → con' ≡ con → (index count : List ℕ)
+      → record { loader = r; index = index; count = count; area = area'; con = con' } ≡ span_byte (record { loader = l; index = index; count = count; area = area; con = con }) b
   unfolding span_byte when◌then◌else◌
-  span_area r b area con area' e g a index count = rw (eq-eqb l.got 0 e, g, a) refl
+  span_area r b area con area' con' e g a k index count = rw (eq-eqb l.got 0 e, g, a, k) refl
 
-  pub span_con : (r : Loader) (b : ℕ) (area con con' : List ℕ) → (l.got ≡ 0 → ⊥) → r ≡ span_on l → con' ≡ set con (4 * l.spans + (l.got - 1)) b → (index count : List ℕ)
-      → record { loader = r; index = index; count = count; area = area; con = con' } ≡ span_byte (record { loader = l; index = index; count = count; area = area; con = con }) b
+  pub span_con : (r : Loader) (b : ℕ) (area con area' con' : List ℕ) → (l.got ≡ 0 → ⊥) → r ≡ span_on l → area' ≡ area → con' ≡ set con (4 * l.spans + (l.got - 1)) b → (index count : List ℕ)
+      → record { loader = r; index = index; count = count; area = area'; con = con' } ≡ span_byte (record { loader = l; index = index; count = count; area = area; con = con }) b
   unfolding span_byte when◌then◌else◌
-  span_con r b area con con' n g a index count = rw (ne_eqb l.got 0 n, g, a) refl
+  span_con r b area con area' con' n g k a index count = rw (ne_eqb l.got 0 n, g, a, k) refl
 
-  -- ---------------------------------------------------------------- going, and the end
-
-  pub refused_stops : (l.refusal ≡ 0 → ⊥) → false ≡ going l
-  unfolding going ◌and◌
-  refused_stops n = rw (ne_eqb l.refusal 0 n)
-
-  pub ended-stops : l.refusal ≡ 0 → (l.ended ≡ 0 → ⊥) → false ≡ going l
-  unfolding going ◌and◌
-  ended-stops e n = rw (eq-eqb l.refusal 0 e, ne_eqb l.ended 0 n)
-
-  pub neither_goes : l.refusal ≡ 0 → l.ended ≡ 0 → true ≡ going l
-  unfolding going ◌and◌
-  neither_goes e f = rw (eq-eqb l.refusal 0 e, eq-eqb l.ended 0 f)
+  -- ---------------------------------------------------------------- the end
 
   pub end_read : (r : Loader) → l.kind ≡ 4 → r ≡ closed l → r ≡ ended_by l
   unfolding ended_by when◌then◌else◌
@@ -215,60 +191,15 @@ module _ (l : Loader) (index count area con : List ℕ) where
   abbrev lent : Loading
   lent = record { loader = l; index = index; count = count; area = area; con = con }
 
-  pub roomy_no_index : length index < l.most_cells → false ≡ roomy lent
-  unfolding roomy ◌and◌
-  roomy_no_index h = rw (lt-leb l.most_cells (length index) h)
+  pub piece_short : (g r : Bool) → g ≡ going l → g ≡ true → r ≡ roomy lent → r ≡ false → (piece : List ℕ) → (3 ≡ piece_refusal lent) × (lent ≡ load_piece piece lent)
+  unfolding load_piece piece_refusal when◌then◌else◌
+  piece_short g r e h f k piece = rw (sym e ∙ h, sym f ∙ k) (refl, refl)
 
-  module _ (i : l.most_cells ≤ length index) where
-    pub roomy_no_count : length count < l.most_cells → false ≡ roomy lent
-    unfolding roomy ◌and◌
-    roomy_no_count h = rw (le-leb l.most_cells (length index) i, lt-leb l.most_cells (length count) h)
+  module _ (piece : List ℕ) (y : Loading) (q : y ≡ feed piece lent) where
+    pub piece_going : (g r : Bool) → g ≡ going l → g ≡ true → r ≡ roomy lent → r ≡ true → (0 ≡ piece_refusal lent) × (y ≡ load_piece piece lent)
+    unfolding load_piece piece_refusal when◌then◌else◌
+    piece_going g r e h f k = rw (sym e ∙ h, sym f ∙ k) (refl, q)
 
-    module _ (k : l.most_cells ≤ length count) where
-      pub roomy_no_area : length area < l.most_spans → false ≡ roomy lent
-      unfolding roomy ◌and◌
-      roomy_no_area h = rw (le-leb l.most_cells (length index) i, le-leb l.most_cells (length count) k, lt-leb l.most_spans (length area) h)
-
-      module _ (s : l.most_spans ≤ length area) where
-        pub roomy_no_con : length con < 4 * l.most_spans → false ≡ roomy lent
-        unfolding roomy ◌and◌
-        roomy_no_con h =
-            rw (le-leb l.most_cells (length index) i, le-leb l.most_cells (length count) k, le-leb l.most_spans (length area) s, lt-leb (4 * l.most_spans) (length con) h)
-
-        pub roomy_all : 4 * l.most_spans ≤ length con → true ≡ roomy lent
-        unfolding roomy ◌and◌
-        roomy_all h =
-            rw (le-leb l.most_cells (length index) i, le-leb l.most_cells (length count) k, le-leb l.most_spans (length area) s, le-leb (4 * l.most_spans) (length con) h)
-
-  pub piece_going : (g r : Bool) → g ≡ going l → g ≡ true → r ≡ roomy lent → r ≡ true → 0 ≡ piece_refusal lent
-  unfolding piece_refusal when◌then◌else◌
-  piece_going g r e h f k = rw (sym e ∙ h, sym f ∙ k)
-
-  pub piece_short : (g r : Bool) → g ≡ going l → g ≡ true → r ≡ roomy lent → r ≡ false → 3 ≡ piece_refusal lent
-  unfolding piece_refusal when◌then◌else◌
-  piece_short g r e h f k = rw (sym e ∙ h, sym f ∙ k)
-
-  pub piece_over : (g : Bool) → g ≡ going l → g ≡ false → 0 ≡ piece_refusal lent
-  unfolding piece_refusal when◌then◌else◌
-  piece_over g e h = rw (sym e ∙ h)
-
-  three : (piece_refusal lent ≡ 0 → ⊥) → 3 ≡ piece_refusal lent
-  unfolding piece_refusal
-  three =
-      if-ind (λ (p : ℕ). (p ≡ 0 → ⊥) → 3 ≡ p) (going l) (λ e. if-ind (λ (p : ℕ). (p ≡ 0 → ⊥) → 3 ≡ p) (roomy lent) (λ f n. absurd (n refl)) (λ f n. refl))
-      (λ e n. absurd (n refl))
-
-  module _ (r : ℕ) (e : r ≡ piece_refusal lent) where
-    pub piece_three : (r ≡ 0 → ⊥) → 3 ≡ piece_refusal lent
-    piece_three n = three (λ q. n (e ∙ q))
-
-    pub piece_stays : (piece : List ℕ) → (r ≡ 0 → ⊥) → lent ≡ load_piece piece lent
-    unfolding load_piece when◌then◌else◌
-    piece_stays piece n = rw (ne_eqb (piece_refusal lent) 0 (λ q. n (e ∙ q)))
-
-    pub piece_none : r ≡ 0 → 0 ≡ piece_refusal lent
-    piece_none h = sym h ∙ e
-
-    pub piece_fed : (piece : List ℕ) (y : Loading) → r ≡ 0 → y ≡ feed piece lent → y ≡ load_piece piece lent
-    unfolding load_piece when◌then◌else◌
-    piece_fed piece y h q = rw (sym e ∙ h) q
+    pub piece_over : (g : Bool) → g ≡ going l → g ≡ false → (0 ≡ piece_refusal lent) × (y ≡ load_piece piece lent)
+    unfolding load_piece piece_refusal when◌then◌else◌
+    piece_over g e h = rw (sym e ∙ h) (refl, q)

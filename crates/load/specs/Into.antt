@@ -2,9 +2,6 @@
 use Rattle.std.specs.Prelude.{ℕ, ◌≡◌, List, [], ◌∷◌, length, get_or, eqb}
 use Rattle.rules.specs.Base.{when◌then◌else◌}
 use Rattle.rules.specs.Load.{Loader, Loading, load_begin, load_end, load_piece, piece_refusal}
-use Rattle.load.specs.Numbers.{loader_of}
-use Rattle.load.specs.declared.PieceAnswer.{PieceAnswer}
-use Rattle.load.specs.declared.PieceAnswer.TheVariants.{Taken, TooShort}
 use Rattle.load.specs.declared.into.LoadAnswer.{LoadAnswer}
 
 -- the numbers of a loader, in order
@@ -52,11 +49,6 @@ left l = record { refusal = l.refusal; position = position_of l; numbers = numbe
 -- a call refused 3
 unfoldable pub refused3 : List ℕ → Outcome
 refused3 ns = record { refusal = 3; position = 0; numbers = ns }
-
--- by the answer of a call with a piece
-abbrev pub left_by : PieceAnswer → List ℕ → Outcome
-left_by (Taken l) ns = left (loader_of l)
-left_by TooShort ns = refused3 ns
 
 unfoldable pub begin_outcome : ℕ → ℕ → List ℕ → Outcome
 begin_outcome cells spans ns = when eqb (length ns) 17 then left (load_begin cells spans) else refused3 ns

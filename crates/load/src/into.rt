@@ -2,11 +2,10 @@
 ghost use Rattle.std.specs.Prelude.{◌≡◌, ◌+◌, ◌<◌, length, set};
 ghost use Rattle.rules.specs.Load.{load_begin};
 ghost use Rattle.load.specs.Numbers.{loader_of};
-ghost use Rattle.load.specs.Into.{numbers_of, loader_in, position_of, left_by, Given, GivenPiece, begin_outcome, piece_outcome, end_outcome};
+ghost use Rattle.load.specs.Into.{numbers_of, loader_in, position_of, Given, GivenPiece, begin_outcome, piece_outcome, end_outcome};
 ghost use Rattle.load.specs.Calls.{AllBytes, Limits};
 
-use crate::bytes::put32;
-use crate::{Loader, PieceAnswer, load_begin, load_end, load_piece};
+use crate::{Loader, TooShort, load_begin, load_end, load_piece};
 
 // What a call gives: 0 or the number of the refusal, and its position, 0 where there is none.
 #[repr(C)]
@@ -19,8 +18,13 @@ pub struct LoadAnswer {
 // How many numbers a loader has.
 const NUMBERS: usize = 17;
 
-const WRONG_LENGTH: u32 = 3;
+// The call itself is refused: a list is too short, or the loader's is not of 17 numbers.
+const WRONG_LENGTH: LoadAnswer = LoadAnswer {
+    refusal: 3,
+    position: 0,
+};
 
+// By their places, as C has them: a conversion from an array would ask a copy of the list first.
 fn read(numbers: &[u32]) -> Loader
     requires { length numbers.now ≡ 17 }
     ensures { loader_of result ≡ loader_in numbers.now }
@@ -46,71 +50,41 @@ fn read(numbers: &[u32]) -> Loader
     }
 }
 
-// Four numbers from place i on.
-fn put4(to: &mut [u32], i: usize, a: u32, b: u32, c: u32, d: u32)
-    requires { i < 17 }
-    ensures { to.new ≡ set (set (set (set to.old i a) (i + 1) b) (i + 2) c) (i + 3) d }
-{
-    put32(to, i, a);
-    put32(to, i + 1, b);
-    put32(to, i + 2, c);
-    put32(to, i + 3, d);
-}
-
 fn write(l: Loader, to: &mut [u32])
     requires { length to.old ≡ 17 }
     ensures { to.new ≡ numbers_of (loader_of l) }
 {
-    put4(to, 0, l.most_cells, l.most_spans, l.kind, l.got);
-    put4(to, 4, l.start, l.received, l.w, l.h);
-    put4(to, 8, l.border, l.least, l.merge, l.cells);
-    put4(to, 12, l.spans, l.due, l.refusal, l.position);
-    put32(to, 16, l.ended);
+    to.copy_from_slice(&[
+        l.most_cells,
+        l.most_spans,
+        l.kind,
+        l.got,
+        l.start,
+        l.received,
+        l.w,
+        l.h,
+        l.border,
+        l.least,
+        l.merge,
+        l.cells,
+        l.spans,
+        l.due,
+        l.refusal,
+        l.position,
+        l.ended,
+    ]);
 }
 
-// What a loader says of its file.
-fn said(l: Loader) -> LoadAnswer
-    ensures { (result.refusal ≡ l.refusal) × (result.position ≡ position_of (loader_of l)) }
-{
-    if l.refusal == 0 {
-        return LoadAnswer {
-            refusal: 0,
-            position: 0,
-        };
-    }
-    LoadAnswer {
-        refusal: l.refusal,
-        position: l.position,
-    }
-}
-
-fn wrong_length() -> LoadAnswer
-    ensures { (result.refusal ≡ 3) × (result.position ≡ 0) }
-{
-    LoadAnswer {
-        refusal: WRONG_LENGTH,
-        position: 0,
-    }
-}
-
-// The loader written, and what it says.
+// The loader written, and what it says of its file.
 fn put(l: Loader, to: &mut [u32]) -> LoadAnswer
     requires { length to.old ≡ 17 }
     ensures refusal_value { (result.refusal ≡ l.refusal) × (result.position ≡ position_of (loader_of l)) }
     ensures to_after { to.new ≡ numbers_of (loader_of l) }
 {
     write(l, to);
-    said(l)
-}
-
-// The same of a call with a piece; nothing is written where a list was too short.
-fn put_answer(a: PieceAnswer, to: &mut [u32]) -> LoadAnswer
-    requires { length to.old ≡ 17 }
-    ensures { Given (left_by a to.old) result to.new }
-{
-    match a {
-        PieceAnswer::Taken(l) => put(l, to),
-        PieceAnswer::TooShort => wrong_length(),
+    LoadAnswer {
+        refusal: l.refusal,
+        position: if l.refusal == 0 { 0 } else { l.position },
     }
 }
 
@@ -120,7 +94,7 @@ pub fn load_begin_into(most_cells: u32, most_spans: u32, loader: &mut [u32]) -> 
     ensures limits { Limits most_cells most_spans }
 {
     if loader.len() != NUMBERS {
-        return wrong_length();
+        return WRONG_LENGTH;
     }
     put(load_begin(most_cells, most_spans), loader)
 }
@@ -140,10 +114,12 @@ pub fn load_piece_into(
     ensures bytes { AllBytes piece.now }
 {
     if loader.len() != NUMBERS {
-        return wrong_length();
+        return WRONG_LENGTH;
     }
-    let answer = load_piece(read(loader), piece, index, count, area, con);
-    put_answer(answer, loader)
+    match load_piece(read(loader), piece, index, count, area, con) {
+        Ok(l) => put(l, loader),
+        Err(TooShort) => WRONG_LENGTH,
+    }
 }
 
 // As `load_end`.
@@ -151,7 +127,7 @@ pub fn load_end_into(loader: &mut [u32]) -> LoadAnswer
     ensures { Given (end_outcome loader.old) result loader.new }
 {
     if loader.len() != NUMBERS {
-        return wrong_length();
+        return WRONG_LENGTH;
     }
     put(load_end(read(loader)), loader)
 }

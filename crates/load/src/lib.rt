@@ -13,8 +13,8 @@ use crate::bytes::feed;
 
 // The numbers of a loader: the limits of refusal 21; the kind of the record under way (0: none), the bytes of its body so far and the place of its kind
 // byte; the bytes received; the header's numbers; the cells and spans so far and the spans of the last cell that are still to come; the refusal and its
-// position; and whether the end was declared.
-#[derive(Clone, Copy)]
+// position; and whether the end was declared. All are numbers, kind and end too: a caller in C hands in any (`load::into`), and each is promised to stay.
+#[derive(Clone, Copy, Default)]
 pub struct Loader {
     pub most_cells: u32,
     pub most_spans: u32,
@@ -35,12 +35,9 @@ pub struct Loader {
     pub ended: u32,
 }
 
-// What a call with a piece comes to: the loader after it, whose refusal is the file's; or a lent list was too short, and nothing changed.
-#[derive(Clone, Copy)]
-pub enum PieceAnswer {
-    Taken(Loader),
-    TooShort,
-}
+// A lent list is too short for a field within the loader's limits; nothing changed.
+#[derive(Clone, Copy, PartialEq, Eq)]
+pub struct TooShort;
 
 // A loader before the first byte, for a field of at most so many cells and spans.
 pub fn load_begin(most_cells: u32, most_spans: u32) -> Loader
@@ -49,70 +46,32 @@ pub fn load_begin(most_cells: u32, most_spans: u32) -> Loader
     Loader {
         most_cells,
         most_spans,
-        kind: 0,
-        got: 0,
-        start: 0,
-        received: 0,
-        w: 0,
-        h: 0,
-        border: 0,
-        least: 0,
-        merge: 0,
-        cells: 0,
-        spans: 0,
-        due: 0,
-        refusal: 0,
-        position: 0,
-        ended: 0,
+        ..Loader::default()
     }
 }
 
-// Neither refused nor ended.
-pub fn is_going(l: Loader) -> bool
-    ensures { result ≡ going (loader_of l) }
-{
-    if l.refusal != 0 {
-        return false;
+impl Loader {
+    // Neither refused nor ended.
+    pub fn is_going(self) -> bool
+        ensures { result ≡ going (loader_of self) }
+    {
+        self.refusal == 0 && self.ended == 0
     }
-    if l.ended != 0 {
-        return false;
+
+    // Lists that take a field within the limits.
+    fn is_roomy(self, index: &[u32], count: &[u8], area: &[u8], con: &[u8]) -> bool
+        ensures { result ≡ roomy (loading self index.now count.now area.now con.now) }
+    {
+        let cells = self.most_cells as usize;
+        let spans = self.most_spans as usize;
+        cells <= index.len()
+            && cells <= count.len()
+            && spans <= area.len()
+            && 4 * spans <= con.len()
     }
-    true
 }
 
-// Lists that take a field within the limits.
-fn is_roomy(l: Loader, index: &[u32], count: &[u8], area: &[u8], con: &[u8]) -> bool
-    ensures { result ≡ roomy (loading l index.now count.now area.now con.now) }
-{
-    if index.len() < l.most_cells as usize {
-        return false;
-    }
-    if count.len() < l.most_cells as usize {
-        return false;
-    }
-    if area.len() < l.most_spans as usize {
-        return false;
-    }
-    if con.len() < 4 * (l.most_spans as usize) {
-        return false;
-    }
-    true
-}
-
-// The refusal of the call itself: 3 for a list that is too short, while the loader is going.
-fn piece_refusal(l: Loader, index: &[u32], count: &[u8], area: &[u8], con: &[u8]) -> u32
-    ensures { result ≡ piece_refusal (loading l index.now count.now area.now con.now) }
-{
-    if is_going(l) {
-        if is_roomy(l, index, count, area, con) {
-            return 0;
-        }
-        return 3;
-    }
-    0
-}
-
-// The next piece of the file.
+// The next piece of the file. The call itself is refused where a list is too short and the loader is going; another refusal is the file's, and the loader's.
 pub fn load_piece(
     l: Loader,
     piece: &[u8],
@@ -120,23 +79,20 @@ pub fn load_piece(
     count: &mut [u8],
     area: &mut [u8],
     con: &mut [u8],
-) -> PieceAnswer
+) -> Result<Loader, TooShort>
     ensures { let x = loading l index.old count.old area.old con.old in
         let x' = loading (loader_after l result) index.new count.new area.new con.new in
         (piece_refused_by result ≡ piece_refusal x) × (x' ≡ load_piece piece.now x) }
 {
-    if piece_refusal(l, index, count, area, con) != 0 {
-        return PieceAnswer::TooShort;
+    if l.is_going() && !l.is_roomy(index, count, area, con) {
+        return Err(TooShort);
     }
-    PieceAnswer::Taken(feed(l, piece, index, count, area, con))
+    Ok(feed(l, piece, index, count, area, con))
 }
 
 // The end of the file.
 pub fn load_end(l: Loader) -> Loader
     ensures { loader_of result ≡ load_end (loader_of l) }
 {
-    if is_going(l) {
-        return bytes::ended(l);
-    }
-    l
+    if l.is_going() { l.ended() } else { l }
 }

@@ -11,38 +11,10 @@ mod whole;
 ghost use Rattle.std.specs.Prelude.{◌≤◌};
 
 use crate::whole::print_file;
-use console::{arg, arg_count, buffer, fail, read_first};
-use file::read::{FilePlace, place};
+use console::{arg, arg_count, buffer, fail, number, read_first, tell_place};
+use file::read::place;
 use std::io::{Read, Result};
 use std::rt::Env;
-
-// The number that the text is, 0 where it is none or above 999: no scale is 0.
-fn scale(text: &[u8]) -> u16 {
-    let mut v: u16 = 0;
-    let mut i: usize = 0;
-    while i < text.len() {
-        let b = text[i];
-        if b < 48 {
-            return 0;
-        }
-        if 57 < b {
-            return 0;
-        }
-        if 99 < v {
-            return 0;
-        }
-        v = v * 10 + (b - 48) as u16;
-        i += 1;
-    }
-    v
-}
-
-fn tell_place(rt: &impl Eprint, bytes: &[u8]) -> Result<()> {
-    match place(bytes) {
-        FilePlace::At(p) => eprintln!(rt; "position {p}"),
-        FilePlace::Nowhere => Ok(()),
-    }
-}
 
 // A read that fails is told.
 fn print_input(rt: &(impl Print + Eprint + Alloc), from: &mut impl Read, k: u16) -> Result<()> {
@@ -50,7 +22,7 @@ fn print_input(rt: &(impl Print + Eprint + Alloc), from: &mut impl Read, k: u16)
     match read_first(from, &mut bytes) {
         Ok(n) => {
             print_file(rt, &bytes[..n], k)?;
-            tell_place(rt, &bytes[..n])
+            tell_place(rt, place(&bytes[..n]))
         }
         Err(e) => fail(rt, "standard input", &e),
     }
@@ -62,7 +34,12 @@ fn main(rt: HostRuntime) -> Result<()> {
     }
     let mut text = buffer();
     match arg(&rt, 1, &mut text) {
-        Ok(n) => print_input(&rt, &mut rt.stdin(), scale(&text[..n])),
+        // No scale is 0.
+        Ok(n) => print_input(
+            &rt,
+            &mut rt.stdin(),
+            number(&text[..n], 999).unwrap_or(0) as u16,
+        ),
         Err(e) => fail(&rt, "the scale", &e),
     }
 }

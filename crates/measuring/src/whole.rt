@@ -1,56 +1,21 @@
 // From a file's bytes to the table of its rooms: both entries, and then one record after the other.
-ghost use Rattle.std.specs.Prelude.{◌≤◌, length};
+ghost use Rattle.std.specs.Prelude.{◌≤◌, length, Ok};
 ghost use Rattle.file.specs.Reads.{Few, Lists};
-ghost use Rattle.file.specs.declared.read.FileReading.TheVariants.{Described};
 
-use crate::print::{print_refused, print_room};
-use checker::refusal_number;
-use file::read::{FileReading, Header, file_number, read_file};
-use sizes::{RoomAnswer, measure_room};
+use crate::print::print_room;
+use console::print_refused;
+use field::lent::Heightfield;
+use file::read::{Header, read_file};
+use sizes::measure_room;
 use std::io::Result;
-use watershed::{DistanceAnswer, RegionAnswer, build_distance_field, build_regions};
-
-// Says whether it was measured.
-fn print_answer(rt: &impl Print, id: u16, a: RoomAnswer) -> Result<bool> {
-    match a {
-        RoomAnswer::Refused(x) => {
-            print_refused(rt, refusal_number(x))?;
-            Ok(false)
-        }
-        RoomAnswer::WrongScale => {
-            print_refused(rt, 9)?;
-            Ok(false)
-        }
-        RoomAnswer::WrongIds => {
-            print_refused(rt, 10)?;
-            Ok(false)
-        }
-        RoomAnswer::Measured(m) => {
-            print_room(rt, id, m)?;
-            Ok(true)
-        }
-    }
-}
+use watershed::{build_distance_field, build_regions};
 
 // Ids 1 to most, up to one that is refused.
-fn print_rooms(
-    rt: &impl Print,
-    w: u16,
-    h: u16,
-    index: &[u32],
-    count: &[u8],
-    area: &[u8],
-    con: &[u8],
-    ids: &[u16],
-    most: u16,
-    k: u16,
-) -> Result<()> {
-    let mut id: u16 = 0;
-    while id < most {
-        id += 1;
-        let a = measure_room(w, h, index, count, area, con, ids, most, k, id);
-        if print_answer(rt, id, a)? {} else {
-            return Ok(());
+fn print_rooms(rt: &impl Print, field: &Heightfield, ids: &[u16], most: u16, k: u16) -> Result<()> {
+    for id in 1..=most {
+        match measure_room(field, ids, most, k, id) {
+            Ok(room) => print_room(rt, id, room)?,
+            Err(r) => return print_refused(rt, r.number()),
         }
     }
     Ok(())
@@ -58,24 +23,16 @@ fn print_rooms(
 
 fn print_regions(
     rt: &impl Print,
+    field: &Heightfield,
     head: Header,
     k: u16,
-    index: &[u32],
-    count: &[u8],
-    area: &[u8],
-    con: &[u8],
     dist: &[u16],
     max_distance: u16,
     workspace: &mut [u16],
     ids: &mut [u16],
 ) -> Result<()> {
     match build_regions(
-        head.w,
-        head.h,
-        index,
-        count,
-        area,
-        con,
+        field,
         dist,
         max_distance,
         head.border,
@@ -84,33 +41,24 @@ fn print_regions(
         workspace,
         ids,
     ) {
-        RegionAnswer::Refused(x) => print_refused(rt, refusal_number(x)),
-        RegionAnswer::Done(m, o, u) => print_rooms(
-            rt, head.w, head.h, index, count, area, con, ids, m, k,
-        ),
+        Ok(r) => print_rooms(rt, field, ids, r.max_region, k),
+        Err(r) => print_refused(rt, r.number()),
     }
 }
 
 fn print_field(
     rt: &impl Print,
+    field: &Heightfield,
     head: Header,
     k: u16,
-    index: &[u32],
-    count: &[u8],
-    area: &[u8],
-    con: &[u8],
     raw: &mut [u16],
     blurred: &mut [u16],
     workspace: &mut [u16],
     ids: &mut [u16],
 ) -> Result<()> {
-    match build_distance_field(head.w, head.h, index, count, area, con, raw, blurred) {
-        DistanceAnswer::Refused(x) => print_refused(rt, refusal_number(x)),
-        DistanceAnswer::Done(m) => {
-            print_regions(
-                rt, head, k, index, count, area, con, blurred, m, workspace, ids,
-            )
-        }
+    match build_distance_field(field, raw, blurred) {
+        Ok(m) => print_regions(rt, field, head, k, blurred, m, workspace, ids),
+        Err(r) => print_refused(rt, r.number()),
     }
 }
 
@@ -125,21 +73,27 @@ fn print_first(
     area: &[u8],
     con: &[u8],
 ) -> Result<()>
-    requires { Lists index.now count.now area.now con.now × Few (Described head n) }
+    requires { Lists index.now count.now area.now con.now × Few (Ok (head, n)) }
 {
-    let cells = head.w as usize * head.h as usize;
+    let w = head.w as usize;
+    let h = head.h as usize;
+    let field = Heightfield {
+        w,
+        h,
+        index: &index[..w * h],
+        count: &count[..w * h],
+        area: &area[..n],
+        con: &con[..4 * n],
+    };
     let mut raw = [0u16; 200];
     let mut blurred = [0u16; 200];
     let mut workspace = [0u16; 29696];
     let mut ids = [0u16; 200];
     print_field(
         rt,
+        &field,
         head,
         k,
-        &index[..cells],
-        &count[..cells],
-        &area[..n],
-        &con[..4 * n],
         &mut raw[..n],
         &mut blurred[..n],
         &mut workspace,
@@ -154,7 +108,7 @@ pub(crate) fn print_file(rt: &impl Print, bytes: &[u8], k: u16) -> Result<()> {
     let mut area = [0u8; 200];
     let mut con = [0u8; 800];
     match read_file(bytes, &mut index, &mut count, &mut area, &mut con) {
-        FileReading::Refused(x) => print_refused(rt, file_number(x)),
-        FileReading::Described(head, n) => print_first(rt, head, n, k, &index, &count, &area, &con),
+        Err(r) => print_refused(rt, r.number()),
+        Ok((head, n)) => print_first(rt, head, n, k, &index, &count, &area, &con),
     }
 }

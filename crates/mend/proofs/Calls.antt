@@ -8,18 +8,18 @@ use Rattle.rules.specs.Field.{Field}
 use Rattle.rules.specs.Refusals.{refusal}
 use Rattle.rules.specs.Mend.{MendOutcome, relinked, mend_outcome}
 use Rattle.mend.specs.Answer.{mend_refused_by, changes_in, outcome}
-use Rattle.mend.specs.declared.MendAnswer.{MendAnswer}
-use Rattle.mend.specs.declared.MendAnswer.TheVariants.{Done}
+use Rattle.std.specs.Prelude.{Result, Ok}
+use Rattle.mend.specs.declared.MendRefusal.{MendRefusal}
 use Rattle.mend.proofs.Mended.{mend_sound, sound_same, mend_fits}
 
-module _ (F : Field) (changes : List ℕ) (a : MendAnswer) (con l : List ℕ) (e : outcome a con l ≡ mend_outcome F changes) (z : mend_refused_by a ≡ 0) where
+module _ (F : Field) (changes : List ℕ) (a : Result ℕ MendRefusal) (con l : List ℕ) (e : outcome a con l ≡ mend_outcome F changes) (z : mend_refused_by a ≡ 0) where
   -- "The result is never refused 5 or 6"
   pub call_leaves_sound : refusal (relinked F con) [] ≡ 0
   call_leaves_sound =
       rw (ap (λ (v : MendOutcome). v.con) e) (mend_sound F changes (sym (ap (λ (v : MendOutcome). v.refused) e) ∙ z))
 
   -- "mending twice is mending once"
-  pub call_twice : (again : List ℕ) (b : MendAnswer) (con' l' : List ℕ) → outcome b con' l' ≡ mend_outcome (relinked F con) again
+  pub call_twice : (again : List ℕ) (b : Result ℕ MendRefusal) (con' l' : List ℕ) → outcome b con' l' ≡ mend_outcome (relinked F con) again
       → (mend_refused_by b ≡ 0) × (changes_in b ≡ 0) × (con' ≡ con) × (l' ≡ again)
   call_twice again b con' l' f =
       let g = f ∙ sound_same (relinked F con) call_leaves_sound again in (
@@ -30,8 +30,8 @@ module _ (F : Field) (changes : List ℕ) (a : MendAnswer) (con l : List ℕ) (e
       )
 
 -- every change has its place in the list
-pub call_fits : (F : Field) (changes : List ℕ) (a : MendAnswer) (con l : List ℕ) (k : ℕ) → outcome a con l ≡ mend_outcome F changes → a ≡ Done k
+pub call_fits : (F : Field) (changes : List ℕ) (a : Result ℕ MendRefusal) (con l : List ℕ) (k : ℕ) → outcome a con l ≡ mend_outcome F changes → a ≡ Ok k
     → 3 * k ≤ length changes
 call_fits F changes a con l k e z =
-    let f : outcome (Done k) con l ≡ mend_outcome F changes = ap (λ (v : MendAnswer). outcome v con l) (sym z) ∙ e in
+    let f : outcome (Ok k) con l ≡ mend_outcome F changes = ap (λ (v : Result ℕ MendRefusal). outcome v con l) (sym z) ∙ e in
     rw (ap (λ (v : MendOutcome). v.count) f) (mend_fits F changes (sym (ap (λ (v : MendOutcome). v.refused) f)))

@@ -4,11 +4,11 @@ use Prim.Native.Nat.{ℕ, ◌+◌, ◌*◌, ◌/◌, ◌≤◌, ◌<◌}
 use native.Mathlib.Omega.{arith}
 use native.Mathlib.Nat.{div-add-mod'}
 use mathlib.Core.Path.{◌≡◌, refl, sym, ap, ◌∙◌}
-use mathlib.Core.Bool.{Bool, true, false}
+use mathlib.Core.Bool.{true}
 use mathlib.Core.List.{List, [], ◌∷◌}
 use lib.ListN.{length}
 use lib.Dec.{leb}
-use borrow.Author.Tests.{eq-eqb, ne_eqb, lt-ltb, le-ltb, lt-leb, le-leb, leb-true, leb-false}
+use borrow.Author.Tests.{eq-eqb, ne_eqb, lt-ltb, le-ltb, lt-leb, le-leb}
 use Rattle.rules.specs.Base.{◌and◌, when◌then◌else◌, every}
 use Rattle.rules.specs.Field.{Field, spans}
 use Rattle.rules.specs.Refusals.{wrong_length, refusal}
@@ -16,12 +16,10 @@ use Rattle.rules.specs.Mend.{MendOutcome, changed, mend_refusal, mend_outcome}
 use Rattle.field.specs.Lent.{lent}
 use Rattle.checker.specs.Answer.{number_of, verdict_number}
 use Rattle.checker.specs.declared.Refusal.{Refusal}
-use Rattle.checker.specs.declared.Refusal.TheVariants.{TooWide, TooMany, WrongLength, WrongCells, WrongReach, WrongBack, TooShort, TooFar, NoIds, NoSum}
-use Rattle.checker.specs.declared.Verdict.{Verdict}
-use Rattle.checker.specs.declared.Verdict.TheVariants.{Sound, Refused}
+use Rattle.std.specs.Prelude.{Result, Ok, Err}
 use Rattle.checker.proofs.Numbers.{number_pos}
 use Rattle.mend.specs.Walk.{state, ground, walk, Ready}
-use Rattle.mend.specs.Answer.{past_cells, before_links}
+use Rattle.mend.specs.Answer.{before_links}
 use Rattle.mend.proofs.Before.{links_only, ends_celled}
 use Rattle.mend.proofs.WalkLaws.{walk_keeps}
 use Rattle.mend.proofs.Walked.{walk_counts, walk_writes}
@@ -39,51 +37,39 @@ made_outcome : {a b c d : List ℕ} {m k : ℕ} → state a b m ≡ state c d k
     → ◌≡◌ {A = MendOutcome} (record { refused = 0; count = m; con = a; changes = b }) (record { refused = 0; count = k; con = c; changes = d })
 made_outcome e = ap (λ v. record { refused = 0; count = v.found; con = v.con; changes = v.changes }) e
 
-past_is : (r : Refusal) → past_cells r ≡ leb 5 (number_of r)
-past_is TooWide = refl
-past_is TooMany = refl
-past_is WrongLength = refl
-past_is WrongCells = refl
-past_is WrongReach = refl
-past_is WrongBack = refl
-past_is TooShort = refl
-past_is TooFar = refl
-past_is NoIds = refl
-past_is NoSum = refl
-
 -- a number is one of 1 to 4, or past them
-low_before : (u : ℕ) → 0 < u → leb 5 u ≡ false → (leb 1 u and leb u 4) ≡ true
+low_before : (u : ℕ) → 0 < u → u < 5 → (leb 1 u and leb u 4) ≡ true
 unfolding ◌and◌
-low_before u p e = rw (le-leb 1 u p) (le-leb u 4 (omega (arith, leb-false 5 u e)))
+low_before u p l = rw (le-leb 1 u p) (le-leb u 4 (omega arith))
 
-high_before : (u : ℕ) → leb 5 u ≡ true → before_links u ≡ 0
+high_before : (u : ℕ) → 5 ≤ u → before_links u ≡ 0
 unfolding before_links ◌and◌ when◌then◌else◌
-high_before u e = let l = leb-true 5 u e in rw (le-leb 1 u (omega arith), lt-leb u 4 (omega arith))
+high_before u l = rw (le-leb 1 u (omega arith), lt-leb u 4 (omega arith))
 
 module _ (w h : ℕ) (is ks ar cs : List ℕ) where
   -- the verdict, with two lists of n numbers as the entry's own
-  module _ (n : ℕ) (l : n ≡ length ar) (v : Verdict) (e : verdict_number v ≡ refusal (lent w h is ks ar cs) (n ∷ n ∷ [])) where
+  module _ (n : ℕ) (l : n ≡ length ar) (v : Result Unit Refusal) (e : verdict_number v ≡ refusal (lent w h is ks ar cs) (n ∷ n ∷ [])) where
     own_number : verdict_number v ≡ refusal (lent w h is ks ar cs) []
     own_number =
         let q : verdict_number v ≡ refusal (lent w h is ks ar cs) (length ar ∷ length ar ∷ []) = rw l at e in
         q ∙ lens_same (lent w h is ks ar cs)
 
-    pub ends_sound : (ch : List ℕ) → v ≡ Sound
+    pub ends_sound : (ch : List ℕ) → v ≡ Ok tt
         → ◌≡◌ {A = MendOutcome} (record { refused = 0; count = 0; con = cs; changes = ch }) (mend_outcome (lent w h is ks ar cs) ch)
     ends_sound ch z = sym (sound_same (lent w h is ks ar cs) (sym own_number ∙ ap verdict_number z) ch)
 
-    module _ (r : Refusal) (z : v ≡ Refused r) (b : Bool) (f : b ≡ past_cells r) where
+    module _ (r : Refusal) (z : v ≡ Err r) (k : ℕ) (f : k ≡ number_of r) where
       given : refusal (lent w h is ks ar cs) [] ≡ number_of r
       given = sym own_number ∙ ap verdict_number z
 
-      pub ends_refused : (ch : List ℕ) → b ≡ false
+      pub ends_refused : (ch : List ℕ) → k < 5
           → ◌≡◌ {A = MendOutcome} (record { refused = number_of r; count = 0; con = cs; changes = ch }) (mend_outcome (lent w h is ks ar cs) ch)
       unfolding mend_outcome mend_refusal when◌then◌else◌
       ends_refused ch y =
-          rw (given, low_before (number_of r) (number_pos r) (sym (f ∙ past_is r) ∙ y), ne_eqb (number_of r) 0 (λ k. omega (arith, number_pos r)))
+          rw (given, low_before (number_of r) (number_pos r) (omega (arith, f)), ne_eqb (number_of r) 0 (λ q. omega (arith, number_pos r)))
 
-      pub ends_mends : b ≡ true → before_links (refusal (lent w h is ks ar cs) []) ≡ 0
-      ends_mends y = rw given (high_before (number_of r) (sym (f ∙ past_is r) ∙ y))
+      pub ends_mends : 5 ≤ k → before_links (refusal (lent w h is ks ar cs) []) ≡ 0
+      ends_mends y = rw given (high_before (number_of r) (omega (arith, f)))
 
   -- a field with none of them
   module _ (ok : before_links (refusal (lent w h is ks ar cs) []) ≡ 0) (ch : List ℕ) where

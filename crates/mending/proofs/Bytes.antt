@@ -5,13 +5,13 @@ use native.Mathlib.Omega.{arith}
 use native.Mathlib.Numerals.{add-one}
 use mathlib.Core.Path.{◌≡◌, refl, sym, ap, ◌∙◌}
 use mathlib.Core.List.{List, [], ◌∷◌}
+use Rattle.std.specs.Prelude.{Result, Ok}
 use lib.ListN.{length, get_or, set}
 use Rattle.rules.specs.Base.{upto}
 use Rattle.rules.specs.Field.{Field, cell_of}
 use Rattle.rules.specs.Mend.{mend_outcome}
 use Rattle.mend.specs.Answer.{outcome}
-use Rattle.mend.specs.declared.MendAnswer.{MendAnswer}
-use Rattle.mend.specs.declared.MendAnswer.TheVariants.{Done}
+use Rattle.mend.specs.declared.MendRefusal.{MendRefusal}
 use Rattle.mend.proofs.Calls.{call_fits}
 use Rattle.mending.specs.Patch.{con_place, byte_mended, bytes_mended}
 
@@ -47,6 +47,6 @@ pub bytes_all : (count changes bytes b : List ℕ) (k made : ℕ) → b ≡ byte
 bytes_all count changes bytes b k made e p q = let z : k ≡ made = omega arith in rw (← z) e
 
 -- the changes that a call made have their places in the list as it leaves it
-pub room_left : (F : Field) (changes : List ℕ) (a : MendAnswer) (con l : List ℕ) (k : ℕ) → outcome a con l ≡ mend_outcome F changes → a ≡ Done k
+pub room_left : (F : Field) (changes : List ℕ) (a : Result ℕ MendRefusal) (con l : List ℕ) (k : ℕ) → outcome a con l ≡ mend_outcome F changes → a ≡ Ok k
     → length l ≡ length changes → 3 * k ≤ length l
 room_left F changes a con l k e z p = rw p (call_fits F changes a con l k e z)

@@ -66,8 +66,8 @@ module _ (ks : List ℕ) (s : ℕ) where
       pub layer_on : layer_of ks s ≡ layer_of (drop c ks) left → k ≤ left → layer_of ks s ≡ layer_of (drop (c + 1) ks) (left - k)
       layer_on f h = f ∙ ap (λ (x : List ℕ). layer_of x left) left_is ∙ layer_not k left (drop (c + 1) ks) h
 
-    pub cell-end : cell_of ks s ≡ c + cell_of (drop c ks) left → length ks ≤ c → c ≡ cell_of ks s
-    cell-end f h = omega (arith, f, ap (λ (x : List ℕ). cell_of x left) (drop_of_length-le ks h), cell-none left)
+    pub cell-end : cell_of ks s ≡ c + cell_of (drop c ks) left → length ks ≤ c → c ≤ length ks → length ks ≡ cell_of ks s
+    cell-end f h i = omega (arith, f, h, i, ap (λ (x : List ℕ). cell_of x left) (drop_of_length-le ks h), cell-none left)
 
     pub layer_end : layer_of ks s ≡ layer_of (drop c ks) left → length ks ≤ c → left ≡ layer_of ks s
     layer_end f h = sym (f ∙ ap (λ (x : List ℕ). layer_of x left) (drop_of_length-le ks h) ∙ layer_none left)

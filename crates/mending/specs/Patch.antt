@@ -1,11 +1,14 @@
 -- The mended file: the same bytes, with the connections that were changed set to none; and what is made of any bytes.
-use Rattle.std.specs.Prelude.{ℕ, ◌+◌, ◌-◌, ◌*◌, ◌≤◌, List, [], ◌∷◌, length, get_or, set, eqb, ltb}
+use Rattle.std.specs.Prelude.{ℕ, ◌+◌, ◌-◌, ◌*◌, ◌≤◌, List, [], ◌∷◌, length, get_or, set, eqb, ltb, Result, Ok, Err}
 use Rattle.rules.specs.Base.{when◌then◌else◌, upto}
 use Rattle.rules.specs.Field.{Field, cell_of}
 use Rattle.rules.specs.File.{Reading, refused, described, read_file}
 use Rattle.rules.specs.Mend.{mend_outcome}
-use Rattle.mending.specs.declared.whole.Filed.{Filed}
-use Rattle.mending.specs.declared.whole.Filed.TheVariants.{Refused, Made}
+use Rattle.file.specs.Reads.{file_number}
+use Rattle.mend.specs.Answer.{mend_number}
+use Rattle.mending.specs.declared.whole.Mended.{Mended}
+use Rattle.mending.specs.declared.whole.FiledRefusal.{FiledRefusal}
+use Rattle.mending.specs.declared.whole.FiledRefusal.TheVariants as why
 
 -- the layer of span s in its cell, the spans being laid out cell by cell
 unfoldable pub layer_of : List ℕ → ℕ → ℕ
@@ -48,12 +51,17 @@ read_mended (described L) changes bytes = field_mended L.field changes bytes
 unfoldable pub mended_file : List ℕ → List ℕ → MendedFile
 mended_file bytes changes = read_mended (read_file bytes) changes bytes
 
+-- the number of a refusal
+abbrev pub filed_number : FiledRefusal → ℕ
+filed_number (why.File r) = file_number r
+filed_number (why.Field r) = mend_number r
+
 -- an answer with the bytes at exit
-abbrev pub filed : Filed → List ℕ → MendedFile
-filed (Refused k) bytes = record { number = k; bytes = bytes }
-filed (Made w k) bytes = record { number = 0; bytes = bytes }
+abbrev pub filed : Result Mended FiledRefusal → List ℕ → MendedFile
+filed (Err r) bytes = record { number = filed_number r; bytes = bytes }
+filed (Ok m) bytes = record { number = 0; bytes = bytes }
 
 -- the changes that were made have their places
-abbrev pub Placed : Filed → List ℕ → Type 0
-Placed (Refused k) changes = Unit {0}
-Placed (Made w k) changes = 3 * k ≤ length changes
+abbrev pub Placed : Result Mended FiledRefusal → List ℕ → Type 0
+Placed (Err r) changes = Unit {0}
+Placed (Ok m) changes = 3 * m.changes ≤ length changes

@@ -9,52 +9,39 @@ mod whole;
 
 ghost use Rattle.std.specs.Prelude.{◌+◌, ◌*◌, ◌≤◌, ◌<◌, length};
 
-use crate::patch::spot_of;
-use crate::whole::{Filed, mend_file};
-use console::{buffer, fail, read_first};
-use field::read::at16;
-use file::read::{FilePlace, place};
+use crate::patch::{Spot, spot_of};
+use crate::whole::mend_file;
+use console::{buffer, fail, print_refused, read_first, tell_place};
+use file::read::place;
 use std::io::Result;
 
-fn print_refused(rt: &impl Print, n: u16) -> Result<()> {
-    println!(rt; "refused {n}")
-}
-
-fn tell_place(rt: &impl Eprint, bytes: &[u8]) -> Result<()> {
-    match place(bytes) {
-        FilePlace::At(p) => eprintln!(rt; "position {p}"),
-        FilePlace::Nowhere => Ok(()),
-    }
-}
-
-// A number of a line, and what comes after it.
-fn tell(rt: &impl Eprint, v: usize, after: &str) -> Result<()> {
-    eprint!(rt; "{v}{after}")
-}
-
 // Change number k.
-fn tell_change(rt: &impl Eprint, w: u16, count: &[u8], changes: &[u16], k: usize) -> Result<()>
+fn tell_change(rt: &impl Eprint, w: usize, count: &[u8], changes: &[u16], k: usize) -> Result<()>
     requires { (3 * k + 2 < length changes.now) × (length changes.now ≤ 2400) }
 {
-    let at = spot_of(count, at16(changes, 3 * k));
+    let Spot { cell, layer } = spot_of(count, changes[3 * k] as usize);
     if w == 0 {
         return Ok(());
     }
-    tell(rt, at.cell % w as usize, " ")?;
-    tell(rt, at.cell / w as usize, " ")?;
-    tell(rt, at.layer, " ")?;
-    tell(rt, at16(changes, 3 * k + 1), " ")?;
-    tell(rt, at16(changes, 3 * k + 2), "\n")
+    let x = cell % w;
+    let z = cell / w;
+    let d = changes[3 * k + 1];
+    let old = changes[3 * k + 2];
+    eprintln!(rt; "{x} {z} {layer} {d} {old}")
 }
 
 // The first `made` of them.
-fn tell_changes(rt: &impl Eprint, w: u16, count: &[u8], changes: &[u16], made: usize) -> Result<()>
+fn tell_changes(
+    rt: &impl Eprint,
+    w: usize,
+    count: &[u8],
+    changes: &[u16],
+    made: usize,
+) -> Result<()>
     requires { (3 * made ≤ length changes.now) × (length changes.now ≤ 2400) }
 {
-    let mut k: usize = 0;
-    while k < made {
+    for k in 0..made {
         tell_change(rt, w, count, changes, k)?;
-        k += 1;
     }
     Ok(())
 }
@@ -73,13 +60,13 @@ fn print_mended(rt: &(impl Print + Eprint), bytes: &mut [u8]) -> Result<()> {
         &mut con,
         &mut changes,
     ) {
-        Filed::Refused(k) => {
-            print_refused(rt, k)?;
-            tell_place(rt, bytes)
+        Err(r) => {
+            print_refused(rt, r.number())?;
+            tell_place(rt, place(bytes))
         }
-        Filed::Made(w, made) => {
+        Ok(m) => {
             rt.write_all(bytes)?;
-            tell_changes(rt, w, &count, &changes, made)
+            tell_changes(rt, m.width, &count, &changes, m.changes)
         }
     }
 }

@@ -4,7 +4,6 @@ ghost use Rattle.rules.specs.Field.{cell_of};
 ghost use Rattle.mending.specs.Patch.{layer_of, byte_mended, bytes_mended};
 
 use field::place::NO_LAYER;
-use field::read::{at8, at16};
 
 // Where a span is: its cell, and its layer there.
 #[derive(Clone, Copy)]
@@ -18,21 +17,16 @@ pub(crate) fn spot_of(count: &[u8], s: usize) -> Spot
     ensures { (result.cell ≡ cell_of count.now s) × (result.layer ≡ layer_of count.now s)
         × (result.cell ≤ length count.now) }
 {
-    let mut c: usize = 0;
     let mut left = s;
-    while c < count.len() {
-        let k = at8(count, c);
+    for (cell, &k) in count.iter().enumerate() {
+        let k = k as usize;
         if left < k {
-            return Spot {
-                cell: c,
-                layer: left,
-            };
+            return Spot { cell, layer: left };
         }
         left -= k;
-        c += 1;
     }
     Spot {
-        cell: c,
+        cell: count.len(),
         layer: left,
     }
 }
@@ -42,8 +36,8 @@ fn mend_byte(bytes: &mut [u8], count: &[u8], changes: &[u16], k: usize)
     requires { (3 * k + 1 < length changes.now) × (length changes.now ≤ 2400) × (length count.now ≤ 1024) }
     ensures { bytes.new ≡ byte_mended count.now changes.now k bytes.old }
 {
-    let s = at16(changes, 3 * k);
-    let d = at16(changes, 3 * k + 1);
+    let s = changes[3 * k] as usize;
+    let d = changes[3 * k + 1] as usize;
     let at = 11 + 2 * (spot_of(count, s).cell + 1) + 6 * s + 2 + d;
     if at < bytes.len() {
         bytes[at] = NO_LAYER;
@@ -55,9 +49,7 @@ pub(crate) fn mend_bytes(bytes: &mut [u8], count: &[u8], changes: &[u16], made: 
     requires { (3 * made ≤ length changes.now) × (length changes.now ≤ 2400) × (length count.now ≤ 1024) }
     ensures { bytes.new ≡ bytes_mended count.now changes.now made bytes.old }
 {
-    let mut k: usize = 0;
-    while k < made {
+    for k in 0..made {
         mend_byte(bytes, count, changes, k);
-        k += 1;
     }
 }

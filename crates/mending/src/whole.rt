@@ -1,20 +1,37 @@
 // A file mended: read, its field mended, and the changes made in its bytes.
-ghost use Rattle.std.specs.Prelude.{◌≡◌, ◌*◌, ◌≤◌, length};
+ghost use Rattle.std.specs.Prelude.{◌≡◌, ◌*◌, ◌≤◌, length, Ok};
 ghost use Rattle.field.specs.Lent.{lent};
 ghost use Rattle.file.specs.Reads.{Few, Lists, first};
-ghost use Rattle.file.specs.declared.read.FileReading.TheVariants.{Described};
-ghost use Rattle.mending.specs.Patch.{field_mended, mended_file, filed, Placed};
+ghost use Rattle.mending.specs.Patch.{field_mended, mended_file, filed, filed_number, Placed};
 
 use crate::patch::mend_bytes;
-use checker::refusal_number;
-use file::read::{FileReading, Header, file_number, read_file};
-use mend::{MendAnswer, mend};
+use file::read::{FileRefusal, Header, read_file};
+use mend::{MendRefusal, mend};
 
-// What mending a file comes to: a refusal's number, or its width and how many changes were made.
+// Why a file is not mended: it is no field's, or its field is refused.
 #[derive(Clone, Copy)]
-pub enum Filed {
-    Refused(u16),
-    Made(u16, usize),
+pub enum FiledRefusal {
+    File(FileRefusal),
+    Field(MendRefusal),
+}
+
+impl FiledRefusal {
+    // The number that is printed.
+    pub fn number(self) -> u16
+        ensures { result ≡ filed_number self }
+    {
+        match self {
+            FiledRefusal::File(r) => r.number(),
+            FiledRefusal::Field(r) => r.number(),
+        }
+    }
+}
+
+// A mended file: its width, and how many changes were made.
+#[derive(Clone, Copy)]
+pub struct Mended {
+    pub width: usize,
+    pub changes: usize,
 }
 
 // A field, and its file.
@@ -27,20 +44,23 @@ fn mend_field(
     area: &[u8],
     con: &mut [u8],
     changes: &mut [u16],
-) -> Filed
+) -> Result<Mended, FiledRefusal>
     requires { (length count.now ≤ 1024) × (length changes.old ≤ 2400) }
     ensures bytes_after { let F = lent w h index.now count.now area.now con.old in
         filed result bytes.new ≡ field_mended F changes.old bytes.old }
     ensures placed { Placed result changes.new }
 {
+    // No `?`: the proof of its way out did not close.
     match mend(w, h, index, count, area, con, changes) {
-        MendAnswer::Refused(k) => Filed::Refused(refusal_number(k)),
-        MendAnswer::NoRoom => Filed::Refused(27),
-        MendAnswer::Done(made) => {
+        Ok(made) => {
             let k = made as usize;
             mend_bytes(bytes, count, changes, k);
-            Filed::Made(w, k)
+            Ok(Mended {
+                width: w as usize,
+                changes: k,
+            })
         }
+        Err(r) => Err(FiledRefusal::Field(r)),
     }
 }
 
@@ -54,8 +74,8 @@ fn mend_first(
     area: &[u8],
     con: &mut [u8],
     changes: &mut [u16],
-) -> Filed
-    requires { Lists index.now count.now area.now con.old × Few (Described head n) × (length changes.old ≤ 2400) }
+) -> Result<Mended, FiledRefusal>
+    requires { Lists index.now count.now area.now con.old × Few (Ok (head, n)) × (length changes.old ≤ 2400) }
     ensures bytes_after { let c = head.w * head.h in
         let F = first head.w head.h c n index.now count.now area.now con.old in
         filed result bytes.new ≡ field_mended F changes.old bytes.old }
@@ -82,15 +102,13 @@ pub(crate) fn mend_file(
     area: &mut [u8],
     con: &mut [u8],
     changes: &mut [u16],
-) -> Filed
+) -> Result<Mended, FiledRefusal>
     requires { Lists index.old count.old area.old con.old × (length changes.old ≤ 2400) }
     ensures bytes_after { filed result bytes.new ≡ mended_file bytes.old changes.old }
     ensures placed { Placed result changes.new }
 {
     match read_file(bytes, index, count, area, con) {
-        FileReading::Refused(k) => Filed::Refused(file_number(k)),
-        FileReading::Described(head, n) => {
-            mend_first(head, n, bytes, index, count, area, con, changes)
-        }
+        Err(r) => Err(FiledRefusal::File(r)),
+        Ok((head, n)) => mend_first(head, n, bytes, index, count, area, con, changes),
     }
 }

@@ -1,5 +1,5 @@
 -- Laws of the picking. Assumes nothing.
-use Prim.Native.Nat.{ℕ, ◌+◌, ◌*◌, ◌≤◌, ◌<◌}
+use Prim.Native.Nat.{ℕ, ◌+◌, ◌≤◌, ◌<◌}
 use native.Mathlib.Omega.{arith}
 use native.Mathlib.Decide.{dec_lt}
 use native.Mathlib.Numerals.{add-one}
@@ -8,41 +8,17 @@ use mathlib.Core.Bool.{Bool, true, false}
 use mathlib.Core.List.{List, []}
 use lib.ListN.{drop_of_length-le, length, get_or, drop}
 use lib.Seq.{drop-cons}
-use borrow.Author.Tests.{eq-eqb, ne_eqb, lt-ltb, le-ltb, le-leb, lt-leb}
-use Rattle.rules.specs.Base.{when◌then◌else◌, ◌and◌}
+use borrow.Author.Tests.{le-leb, lt-leb}
+use Rattle.rules.specs.Base.{when◌then◌else◌}
 use Rattle.rules.specs.Records.{Rec, at}
 use Rattle.rules.specs.Merge.{Pick}
 use Rattle.table.specs.View.{list_at, rec_at, view, Under, Held}
-use Rattle.pool.specs.Fixed.{better, pick_one, picked_f, suits_f}
+use Rattle.pool.specs.Fixed.{better, pick_one, picked_f}
 use Rattle.table.proofs.ViewLaws.{view-at}
 
 rec_pick : (ws : List ℕ) (m s t r n : ℕ) → n ≡ get_or ws (m + r) 0 → ◌≡◌ {A = Pick} (record { size = n; id = get_or ws r 0 }) (record { size = (rec_at ws m s t r).count; id = (rec_at ws m s t r).id })
 unfolding rec_at
 rec_pick ws m s t r n e = rw e
-
-module _ (ws : List ℕ) (m s t i j size : ℕ) where
-  pub better_dead : get_or ws j 0 ≡ 0 → false ≡ better (view ws m s t) (rec_at ws m s t i) (rec_at ws m s t j) size
-  unfolding better rec_at ◌and◌
-  better_dead e = rw (eq-eqb (get_or ws j 0) 0 e)
-
-  module _ (n : get_or ws j 0 ≡ 0 → ⊥) where
-    pub better-over : (get_or ws (3 * m + j) 0 ≡ 0 → ⊥) → false ≡ better (view ws m s t) (rec_at ws m s t i) (rec_at ws m s t j) size
-    unfolding better rec_at ◌and◌
-    better-over o = rw (ne_eqb (get_or ws j 0) 0 n, ne_eqb (get_or ws (3 * m + j) 0) 0 o)
-
-    module _ (o : get_or ws (3 * m + j) 0 ≡ 0) (k : ℕ) (c : k ≡ get_or ws (m + j) 0) where
-      pub better_large : size ≤ k → false ≡ better (view ws m s t) (rec_at ws m s t i) (rec_at ws m s t j) size
-      unfolding better rec_at ◌and◌
-      better_large l = rw (ne_eqb (get_or ws j 0) 0 n, eq-eqb (get_or ws (3 * m + j) 0) 0 o, ← c, le-ltb k size l)
-
-      module _ (l : k < size) (x : Bool) (p : x ≡ suits_f (view ws m s t) (rec_at ws m s t i) (rec_at ws m s t j)) where
-        pub better_unfit : x ≡ false → false ≡ better (view ws m s t) (rec_at ws m s t i) (rec_at ws m s t j) size
-        unfolding better rec_at ◌and◌ suits_f
-        better_unfit z = rw (ne_eqb (get_or ws j 0) 0 n, eq-eqb (get_or ws (3 * m + j) 0) 0 o, ← c, lt-ltb k size l, ← p, z) refl
-
-        pub better_fit : x ≡ true → (y : Bool) → y ≡ suits_f (view ws m s t) (rec_at ws m s t j) (rec_at ws m s t i) → y ≡ better (view ws m s t) (rec_at ws m s t i) (rec_at ws m s t j) size
-        unfolding better rec_at ◌and◌ suits_f
-        better_fit z y q = rw (ne_eqb (get_or ws j 0) 0 n, eq-eqb (get_or ws (3 * m + j) 0) 0 o, ← c, lt-ltb k size l, ← p, z, ← q) refl
 
 module _ (ws : List ℕ) (m s t i r : ℕ) (p : Pick) where
   pub pick-flagged : 32768 ≤ r → p ≡ pick_one (view ws m s t) (rec_at ws m s t i) r (rec_at ws m s t r) p
@@ -57,19 +33,6 @@ module _ (ws : List ℕ) (m s t i r : ℕ) (p : Pick) where
     pub pick_moves : b ≡ true → (n : ℕ) → n ≡ get_or ws (m + r) 0 → ◌≡◌ {A = Pick} (record { size = n; id = get_or ws r 0 }) (pick_one (view ws m s t) (rec_at ws m s t i) r (rec_at ws m s t r) p)
     unfolding pick_one when◌then◌else◌
     pick_moves z n e = rw (lt-leb 32768 r h, ← q, z) (rec_pick ws m s t r n e)
-
-module _ (ws : List ℕ) (m s t r : ℕ) (held : Held m s t ws) (f : r < 32768 → r < m) (h : r < 32768) where
-  pub pick_in : r < m
-  pick_in = f h
-
-  pub pick_in0 : r < length ws
-  pick_in0 = omega (arith, held.floors.room, held.floors.past, f h)
-
-  pub pick_in1 : m + r < length ws
-  pick_in1 = omega (arith, held.floors.room, held.floors.past, f h)
-
-  pub pick_id : get_or ws r 0 < m
-  pick_id = held.ids r (f h)
 
 -- ---- all of the list
 

@@ -5,11 +5,11 @@ use native.Mathlib.Omega.{arith}
 use native.Mathlib.Decide.{ℕ_discrete}
 use mathlib.Core.Path.{◌≡◌, refl, sym, ap, ◌∙◌}
 use mathlib.Core.Logic.{⊎_elim}
-use mathlib.Core.Bool.{Bool, true, false}
+use mathlib.Core.Bool.{Bool, true, false, not}
 use mathlib.Core.List.{List, [], ◌∷◌}
 use lib.ListN.{drop_of_length-le, length, get_or, drop}
-use lib.Dec.{eqb}
-use borrow.Author.Tests.{eq-eqb, ne_eqb, le-leb, lt-leb}
+use lib.Dec.{eqb, leb}
+use borrow.Author.Tests.{eq-eqb, ne_eqb}
 use Rattle.rules.specs.Base.{◌and◌, ◌or◌, any, many}
 use Rattle.rules.specs.Records.{Rec, at, fresh}
 use Rattle.laws.proofs.Basics.{tab-at, any_more, any_past}
@@ -161,15 +161,10 @@ module _ (ws : List ℕ) (m s t i j : ℕ) where
   suits_area n = rw (ne_eqb (get_or ws (2 * m + i) 0) (get_or ws (2 * m + j) 0) n)
 
   module _ (e : get_or ws (2 * m + i) 0 ≡ get_or ws (2 * m + j) 0) (l : List ℕ) (k : ℕ) (f : l ≡ list_at ws m s i) (g : k ≡ many (eqb (get_or ws j 0)) l) where
-    pub suits-many : 1 < k → false ≡ suits_f (view ws m s t) (rec_at ws m s t i) (rec_at ws m s t j)
+    pub suits-many : leb k 1 ≡ false → false ≡ suits_f (view ws m s t) (rec_at ws m s t i) (rec_at ws m s t j)
     unfolding suits_f rec_at ◌and◌
-    suits-many n = rw (eq-eqb (get_or ws (2 * m + i) 0) (get_or ws (2 * m + j) 0) e, ← f, ← g, lt-leb k 1 n)
+    suits-many n = rw (eq-eqb (get_or ws (2 * m + i) 0) (get_or ws (2 * m + j) 0) e, ← f, ← g, n)
 
-    module _ (h : Held m s t ws) (n : k ≤ 1) (r : Bool) (q : r ≡ floor_in ws (view ws m s t) (get_or ws i 0) (get_or ws j 0)) where
-      pub suits_floor : r ≡ true → false ≡ suits_f (view ws m s t) (rec_at ws m s t i) (rec_at ws m s t j)
-      unfolding suits_f rec_at ◌and◌
-      suits_floor z = rw (eq-eqb (get_or ws (2 * m + i) 0) (get_or ws (2 * m + j) 0) e, ← f, ← g, le-leb k 1 n, ← floor_in-view ws m s t (get_or ws i 0) (get_or ws j 0) h, ← q, z) refl
-
-      pub suits_yes : r ≡ false → true ≡ suits_f (view ws m s t) (rec_at ws m s t i) (rec_at ws m s t j)
-      unfolding suits_f rec_at ◌and◌
-      suits_yes z = rw (eq-eqb (get_or ws (2 * m + i) 0) (get_or ws (2 * m + j) 0) e, ← f, ← g, le-leb k 1 n, ← floor_in-view ws m s t (get_or ws i 0) (get_or ws j 0) h, ← q, z) refl
+    pub suits_end : leb k 1 ≡ true → Held m s t ws → (r : Bool) → r ≡ floor_in ws (view ws m s t) (get_or ws i 0) (get_or ws j 0) → not r ≡ suits_f (view ws m s t) (rec_at ws m s t i) (rec_at ws m s t j)
+    unfolding suits_f rec_at ◌and◌
+    suits_end n h r q = rw (eq-eqb (get_or ws (2 * m + i) 0) (get_or ws (2 * m + j) 0) e, ← f, ← g, n, ← floor_in-view ws m s t (get_or ws i 0) (get_or ws j 0) h, ← q) refl

@@ -2,12 +2,14 @@
 -- Each merge leaves one record fewer that bears its own number, so there is room. Records with floors that stay bear the same ids as the rule's. Assumes nothing.
 use Prim.Native.Nat.{ℕ, zero, suc, ◌+◌, ◌-◌, ◌*◌, ◌≤◌, ◌<◌}
 use native.Mathlib.Omega.{arith}
+use native.Mathlib.Decide.{dec_lt}
 use native.Mathlib.Numerals.{add-one}
 use mathlib.Core.Path.{◌≡◌, refl, sym, ap, ◌∙◌}
 use mathlib.Core.Bool.{Bool}
 use mathlib.Core.List.{List, [], ◌∷◌, ◌++◌}
 use lib.ListN.{length, get_or, set, take, drop, length-set}
 use lib.Seq.{length-take-le, take_at, drop_at, take-set-le, get_or-take, get_or-drop, get_or-set_same, get_or-set_other}
+use Rattle.std.proofs.Common.{length-append, length-drop}
 use lib.Dec.{eqb}
 use borrow.Author.Tests.{eq-eqb, ne_eqb}
 use Rattle.rules.specs.Base.{when◌then◌else◌, upto}
@@ -27,7 +29,7 @@ use Rattle.pool.proofs.MergeLaws.{Both, alike_start, one_alike, round_alike, one
 use Rattle.merge.specs.declared.merge.Round.{Round}
 use Rattle.merge.specs.declared.told.Noted.{Noted}
 use Rattle.merge.specs.Rounds.{first_half}
-use Rattle.merge.specs.Told.{mergings_at, tells_f, round_merges_f, mergings_f, merge_at, MergedIn, NotedOne, NotedRound, NotedAll, FilteredIn, ToldRegions}
+use Rattle.merge.specs.Told.{mergings_at, tells_f, round_merges_f, mergings_f, merge_at, Noting, MergedIn, NotedOne, NotedRound, NotedAll, FilteredIn, ToldRegions}
 use Rattle.rules.specs.Filter.{filtered}
 use Rattle.rules.specs.Numbering.{Regions, numbered}
 use Rattle.space.specs.Space.{Frame}
@@ -39,6 +41,9 @@ use Rattle.merge.proofs.TurnLaws.{Rounds, rounds-start, rounds_go, rounds_falls,
 
 pub part_length : (end : ℕ) (ws : List ℕ) → end ≤ length ws → length (take end ws) ≡ end
 part_length end ws h = length-take-le end ws h
+
+pub part_size : (end : ℕ) (ws ys : List ℕ) → end ≤ length ws → length ys ≡ length (take end ws) → length (ys ++ drop end ws) ≡ length ws
+part_size end ws ys h l = omega (arith, length-append ys (drop end ws), length-drop end ws, length-take-le end ws h, l)
 
 pub merged_in : (area i m end : ℕ) (ws ys : List ℕ) (g r : Round) → end ≤ length ws → length ys ≡ length (take end ws)
     → record { recs = recs_of ys m; merges = r.merges } ≡ merge_one_f area i (record { recs = recs_of (take end ws) m; merges = g.merges })
@@ -85,7 +90,7 @@ tells_some area i g l e = rw (ne_eqb _ _ e)
 pub pool_mid : (m p h o end : ℕ) (ws : List ℕ) → end ≤ length ws → Pool m p h o (take end ws) → 16 * m ≤ end
 pool_mid m p h o end ws l P = omega (arith, P.halves.past, P.halves.into, length-take-le end ws l)
 
-module _ (area i m end : ℕ) (ws : List ℕ) (g : Noted) (h : i < m) (room : end + 2 * m ≤ length ws) (mid : 16 * m ≤ end)
+module _ (area i m end : ℕ) (ws : List ℕ) (g : Noted) (h : i < m) (room : end ≤ length ws) (mid : 16 * m ≤ end)
     (j : Joined (recs_of (take end ws) m)) (few : g.count + owners m (recs_of (take end ws) m) ≤ m)
     (ws₁ : List ℕ) (r : Round) (k : MergedIn area i m end ws g.round ws₁ r) (size : length ws₁ ≡ length ws) where
   falls : owners m (recs_of (take end ws₁) m) + r.merges ≤ owners m (recs_of (take end ws) m) + g.round.merges
@@ -108,26 +113,30 @@ module _ (area i m end : ℕ) (ws : List ℕ) (g : Noted) (h : i < m) (room : en
     sized = k.sized;
     laid = k.laid;
     few = omega (arith, falls);
-    told = kept ∙ sym (tells_none area i (merge_at m end ws g.round.merges) (mergings_at ws end g.count) (merges_is ∙ e));
+    told = λ _. kept ∙ sym (tells_none area i (merge_at m end ws g.round.merges) (mergings_at ws end g.count) (merges_is ∙ e));
   }
 
   -- it merges
   module _ (e : r.merges ≡ g.round.merges → ⊥) (old new : ℕ) (eo : old ≡ get_or ws i 0) (en : new ≡ get_or ws₁ i 0)
-      (ws₂ : List ℕ) (d : ws₂ ≡ set (set ws₁ (end + 2 * g.count) old) (end + 2 * g.count + 1) new) where
+      (ws₂ : List ℕ) (d : end + 2 * g.count + 1 < length ws₁ → ws₂ ≡ set (set ws₁ (end + 2 * g.count) old) (end + 2 * g.count + 1) new)
+      (full : length ws₁ ≤ end + 2 * g.count + 1 → ws₂ ≡ ws₁) where
     more_by : r.merges ≡ g.round.merges + 1
     more_by = omega (arith, k.more, grows)
       where
         grows : g.round.merges ≤ r.merges
         grows = rw (← merges_is) (one_grows area i (merge_at m end ws g.round.merges))
 
-    pub note_in : end + 2 * g.count + 1 < length ws₁
-    note_in = omega (arith, falls, more_by, few, room, size)
+    note_in : Noting m end ws → end + 2 * g.count + 1 < length ws₁
+    note_in w = omega (arith, falls, more_by, few, w, size)
 
     part₂ : take end ws₂ ≡ take end ws₁
     part₂ =
         let a : end ≤ end + 2 * g.count = omega arith in
         let b : end ≤ end + 2 * g.count + 1 = omega arith in
-        rw d (take-set-le end (set ws₁ (end + 2 * g.count) old) (end + 2 * g.count + 1) new b ∙ take-set-le end ws₁ (end + 2 * g.count) old a)
+        elim (dec_lt (end + 2 * g.count + 1) (length ws₁)) [
+          | yes l ↦ rw (d l) (take-set-le end (set ws₁ (end + 2 * g.count) old) (end + 2 * g.count + 1) new b ∙ take-set-le end ws₁ (end + 2 * g.count) old a)
+          | no l ↦ ap (take end) (full (omega arith))
+        ]
 
     old_is : (at (recs_of (take end ws) m) i).id ≡ get_or ws i 0
     old_is = id_at_lem (take end ws) m i h ∙ get_or-take end ws i 0 (omega arith)
@@ -135,14 +144,14 @@ module _ (area i m end : ℕ) (ws : List ℕ) (g : Noted) (h : i < m) (room : en
     new_is : (at (merge_one_f area i (merge_at m end ws g.round.merges)).recs i).id ≡ get_or ws₁ i 0
     new_is = sym (ap (λ (x : Merge). (at x.recs i).id) k.same) ∙ id_at_lem (take end ws₁) m i h ∙ get_or-take end ws₁ i 0 (omega arith)
 
-    first : get_or ws₂ (end + 2 * g.count) 0 ≡ old
-    first = rw d (get_or-set_other (set ws₁ (end + 2 * g.count) old) (end + 2 * g.count + 1) (end + 2 * g.count) new 0 (λ z. omega arith) ∙ get_or-set_same ws₁ (end + 2 * g.count) old 0 (omega (arith, note_in)))
+    first : end + 2 * g.count + 1 < length ws₁ → get_or ws₂ (end + 2 * g.count) 0 ≡ old
+    first l = rw (d l) (get_or-set_other (set ws₁ (end + 2 * g.count) old) (end + 2 * g.count + 1) (end + 2 * g.count) new 0 (λ z. omega arith) ∙ get_or-set_same ws₁ (end + 2 * g.count) old 0 (omega arith))
 
-    second : get_or ws₂ (end + 2 * g.count + 1) 0 ≡ new
-    second = rw d (get_or-set_same (set ws₁ (end + 2 * g.count) old) (end + 2 * g.count + 1) new 0 (rw length-set note_in))
+    second : end + 2 * g.count + 1 < length ws₁ → get_or ws₂ (end + 2 * g.count + 1) 0 ≡ new
+    second l = rw (d l) (get_or-set_same (set ws₁ (end + 2 * g.count) old) (end + 2 * g.count + 1) new 0 (rw length-set l))
 
-    before₂ : mergings_at ws₂ end g.count ≡ mergings_at ws₁ end g.count
-    before₂ = noted-same end g.count ws₁ ws₂ (λ x l u. rw d (
+    before₂ : end + 2 * g.count + 1 < length ws₁ → mergings_at ws₂ end g.count ≡ mergings_at ws₁ end g.count
+    before₂ w = noted-same end g.count ws₁ ws₂ (λ x l u. rw (d w) (
         get_or-set_other (set ws₁ (end + 2 * g.count) old) (end + 2 * g.count + 1) x new 0 (λ z. omega arith)
         ∙ get_or-set_other ws₁ (end + 2 * g.count) x old 0 (λ z. omega arith)))
 
@@ -154,10 +163,10 @@ module _ (area i m end : ℕ) (ws : List ℕ) (g : Noted) (h : i < m) (room : en
       sized = k.sized;
       laid = rw part₂ k.laid;
       few = rw part₂ (omega (arith, falls, more_by, few));
-      told =
+      told = λ w.
           noted_more end g.count ws₂
-          ∙ ap (λ (l : List Merging). l ++ (record { old = get_or ws₂ (end + 2 * g.count) 0; new = get_or ws₂ (end + 2 * g.count + 1) 0 } ∷ [])) (before₂ ∙ kept)
-          ∙ ap (λ (x : Merging). mergings_at ws end g.count ++ (x ∷ [])) (merging_eq (first ∙ eo ∙ sym old_is) (second ∙ en ∙ sym new_is))
+          ∙ ap (λ (l : List Merging). l ++ (record { old = get_or ws₂ (end + 2 * g.count) 0; new = get_or ws₂ (end + 2 * g.count + 1) 0 } ∷ [])) (before₂ (note_in w) ∙ kept)
+          ∙ ap (λ (x : Merging). mergings_at ws end g.count ++ (x ∷ [])) (merging_eq (first (note_in w) ∙ eo ∙ sym old_is) (second (note_in w) ∙ en ∙ sym new_is))
           ∙ sym (tells_some area i (merge_at m end ws g.round.merges) (mergings_at ws end g.count) (λ z. e (sym merges_is ∙ z)));
     }
 
@@ -171,22 +180,22 @@ module _ (area m end : ℕ) (ws₀ : List ℕ) (count : ℕ) where
   pub round-start : (half : Half) → PoolIn m half (take end ws₀) → LaidIn m half (take end ws₀) → count + owners m (recs_of (take end ws₀) m) ≤ m
       → NotedRound area 0 m half.size end ws₀ count ws₀ (record { round = record { half = half; merges = 0 }; count = count })
   unfolding upto round_merges_f
-  round-start half P L f = record { same = refl; less = omega arith; sized = refl; pool = P; laid = L; few = f; told = refl }
+  round-start half P L f = record { same = refl; less = omega arith; sized = refl; pool = P; laid = L; few = f; told = λ _. refl }
 
   module _ (i size : ℕ) (ws : List ℕ) (g : Noted) (v : NotedRound area i m size end ws₀ count ws g) where
     pub round-joined : Joined (recs_of (take end ws₀) m) → Joined (recs_of (take end ws) m)
     round-joined j = joined_at area m i (take end ws₀) (take end ws) g.round.merges j v.same
 
-    pub round_next : (ws' : List ℕ) (r : Noted) → NotedOne area i m end ws g ws' r → NotedRound area (i + 1) m size end ws₀ count ws' r
-    round_next ws' r k = record {
+    pub round_next : length ws ≡ length ws₀ → (ws' : List ℕ) (r : Noted) → NotedOne area i m end ws g ws' r → NotedRound area (i + 1) m size end ws₀ count ws' r
+    round_next n ws' r k = record {
       same = k.same ∙ ap (merge_one_f area i) v.same ∙ sym (upto_next i (merge_one_f area) (merge_at m end ws₀ 0));
       less = omega (arith, k.more, v.less);
       sized = k.sized ∙ v.sized;
       pool = k.pool;
       laid = k.laid;
       few = k.few;
-      told = k.told ∙ ap (λ (x : Merge). tells_f area i x (mergings_at ws end g.count)) v.same
-          ∙ ap (tells_f area i (upto i (merge_one_f area) (merge_at m end ws₀ 0))) v.told
+      told = λ w. k.told (rw n w) ∙ ap (λ (x : Merge). tells_f area i x (mergings_at ws end g.count)) v.same
+          ∙ ap (tells_f area i (upto i (merge_one_f area) (merge_at m end ws₀ 0))) (v.told w)
           ∙ sym (round_tells_lem area i (merge_at m end ws₀ 0) (mergings_at ws₀ end count));
     }
 
@@ -229,7 +238,7 @@ pub record AllNoted (area m end : ℕ) (ws₀ ws : List ℕ) (half : Half) (coun
   pub few : count + owners m (recs_of (take end ws) m) ≤ m
   pub fuel : ℕ
   pub enough : owners m (recs_of (take end ws) m) ≤ fuel
-  pub told : mergings_f area (suc m) (recs_of (take end ws₀) m) [] ≡ mergings_f area (suc fuel) (recs_of (take end ws) m) (mergings_at ws end count)
+  pub told : Noting m end ws₀ → mergings_f area (suc m) (recs_of (take end ws₀) m) [] ≡ mergings_f area (suc fuel) (recs_of (take end ws) m) (mergings_at ws end count)
 
 pub all_start : (area m n end : ℕ) (ws : List ℕ) (half : Half) → half ≡ first_half m n → PoolIn m (first_half m n) (take end ws) → LaidIn m (first_half m n) (take end ws)
     → Joined (recs_of (take end ws) m) → AllNoted area m end ws ws half 0
@@ -242,7 +251,7 @@ all_start area m n end ws half e P L j = record {
   few = omega (arith, owners_most m (recs_of (take end ws) m));
   fuel = m;
   enough = owners_most m (recs_of (take end ws) m);
-  told = refl;
+  told = λ _. refl;
 }
 
 module _ (area m end : ℕ) (ws₀ ws : List ℕ) (half : Half) (count : ℕ) (v : AllNoted area m end ws₀ ws half count)
@@ -250,19 +259,19 @@ module _ (area m end : ℕ) (ws₀ ws : List ℕ) (half : Half) (count : ℕ) (v
   whole : upto (length (recs_of (take end ws) m)) (merge_one_f area) (merge_at m end ws 0) ≡ merge_at m end ws' g.round.merges
   whole = ap (λ (n : ℕ). upto n (merge_one_f area) (merge_at m end ws 0)) (recs_length (take end ws) m) ∙ sym k.same
 
-  tells_whole : round_merges_f area (length (recs_of (take end ws) m)) (merge_at m end ws 0) (mergings_at ws end count) ≡ mergings_at ws' end g.count
-  tells_whole = ap (λ (n : ℕ). round_merges_f area n (merge_at m end ws 0) (mergings_at ws end count)) (recs_length (take end ws) m) ∙ sym k.told
+  tells_whole : Noting m end ws → round_merges_f area (length (recs_of (take end ws) m)) (merge_at m end ws 0) (mergings_at ws end count) ≡ mergings_at ws' end g.count
+  tells_whole w = ap (λ (n : ℕ). round_merges_f area n (merge_at m end ws 0) (mergings_at ws end count)) (recs_length (take end ws) m) ∙ sym (k.told w)
 
   more : (fuel : ℕ) → (g.round.merges ≡ 0 → ⊥) → owners m (recs_of (take end ws) m) ≤ fuel
-      → mergings_f area (suc m) (recs_of (take end ws₀) m) [] ≡ mergings_f area (suc fuel) (recs_of (take end ws) m) (mergings_at ws end count)
-      → (n : ℕ) × (owners m (recs_of (take end ws') m) ≤ n) × (mergings_f area (suc m) (recs_of (take end ws₀) m) [] ≡ mergings_f area (suc n) (recs_of (take end ws') m) (mergings_at ws' end g.count))
+      → (Noting m end ws₀ → mergings_f area (suc m) (recs_of (take end ws₀) m) [] ≡ mergings_f area (suc fuel) (recs_of (take end ws) m) (mergings_at ws end count))
+      → (n : ℕ) × (owners m (recs_of (take end ws') m) ≤ n) × (Noting m end ws₀ → mergings_f area (suc m) (recs_of (take end ws₀) m) [] ≡ mergings_f area (suc n) (recs_of (take end ws') m) (mergings_at ws' end g.count))
   more zero z h q = absurd (omega (arith, rounds_falls area m (take end ws₀) (take end ws) (take end ws') g.round.merges k.same v.rounds z))
   more (suc n) z h q = (
     n,
     omega (arith, rounds_falls area m (take end ws₀) (take end ws) (take end ws') g.round.merges k.same v.rounds z),
-    q ∙ tells_more area (suc n) (recs_of (take end ws) m) (mergings_at ws end count) (λ y. z (sym (ap (λ (x : Merge). x.merges) whole) ∙ y))
+    λ w. q w ∙ tells_more area (suc n) (recs_of (take end ws) m) (mergings_at ws end count) (λ y. z (sym (ap (λ (x : Merge). x.merges) whole) ∙ y))
         ∙ ap (λ (x : Merge). mergings_f area (suc n) x.recs (round_merges_f area (length (recs_of (take end ws) m)) (merge_at m end ws 0) (mergings_at ws end count))) whole
-        ∙ ap (mergings_f area (suc n) (recs_of (take end ws') m)) tells_whole,
+        ∙ ap (mergings_f area (suc n) (recs_of (take end ws') m)) (tells_whole (rw v.size w)),
   )
 
   pub all_next : (g.round.merges ≡ 0 → ⊥) → AllNoted area m end ws₀ ws' g.round.half g.count
@@ -289,8 +298,8 @@ module _ (area m end : ℕ) (ws₀ ws : List ℕ) (half : Half) (count : ℕ) (v
         same = rounds_done area m (take end ws₀) (take end ws) (take end ws') g.round.merges k.same v.rounds z;
         rest = pool_rest m g.round.half.size g.round.half.now g.round.half.other (take end ws') k.pool;
         few = omega (arith, k.few);
-        told = sym (tells_whole) ∙ still_tells area (length (recs_of (take end ws) m)) (merge_at m end ws 0) (mergings_at ws end count) w
-            ∙ sym (v.told ∙ tells_last area v.fuel (recs_of (take end ws) m) (mergings_at ws end count) w);
+        told = λ n. sym (tells_whole (rw v.size n)) ∙ still_tells area (length (recs_of (take end ws) m)) (merge_at m end ws 0) (mergings_at ws end count) w
+            ∙ sym (v.told n ∙ tells_last area v.fuel (recs_of (take end ws) m) (mergings_at ws end count) w);
       }
 
 -- ---------------------------------------------------------------- the rule's records
@@ -365,7 +374,7 @@ module _ (least area m n end r : ℕ) (ws ids : List ℕ) (room : end + 2 * m �
       id_is = e ∙ sym (get_or-take end ws₁ r 0 (omega (arith, told_mid))) ∙ sym (id_at_lem (take end ws₁) m r h) ∙ ap (λ (rs : List Rec). (at rs r).id) F.same;
       gone = F.gone;
       few = A.few;
-      told = noted-same end merges ws₂ ws₃ (λ x l _. past_at end x ws₂ ws₃ l past) ∙ A.told
+      told = noted-same end merges ws₂ ws₃ (λ x l _. past_at end x ws₂ ws₃ l past) ∙ A.told (rw size room)
           ∙ ap (λ (rs : List Rec). mergings_f area (suc m) rs []) F.same
           ∙ sym (mergings_alike area (suc m) _ _ (alike_start _ (filter-fresh least (recs_of (take end ws) m) (ready_fresh m n (take end ws) ids R))) []);
     }

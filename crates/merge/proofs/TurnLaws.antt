@@ -7,14 +7,12 @@ use mathlib.Core.Logic.{⊎_elim, ◌⊎◌, inl, inr}
 use mathlib.Core.Bool.{Bool, true, false, not, true≢false, false≢true}
 use mathlib.Core.List.{List}
 use lib.ListN.{length, get_or}
-use lib.Dec.{eqb}
-use borrow.Author.Tests.{eq-eqb, ne_eqb, eqb-false, lt-ltb, le-ltb, not-true}
-use Rattle.rules.specs.Base.{◌and◌, ◌or◌, when◌then◌else◌, any, upto}
+use borrow.Author.Tests.{eq-eqb, ne_eqb, eqb-false, not-true}
+use Rattle.rules.specs.Base.{◌and◌, ◌or◌, when◌then◌else◌, upto}
 use Rattle.rules.specs.Records.{Rec, at, has}
 use Rattle.rules.specs.Merge.{Pick, place, Merge, merge_one}
-use Rattle.laws.proofs.Basics.{neither, if-ind, upto_next, and_both}
+use Rattle.laws.proofs.Basics.{neither, if-ind}
 use Rattle.table.specs.View.{list_at, rec_at, view, recs_of}
-use Rattle.table.proofs.SearchLaws.{place-within}
 use Rattle.table.proofs.ViewLaws.{view-at, list_length, recs_length, recs_at}
 use Rattle.pool.specs.Alike.{Rep, Reps, Joined}
 use Rattle.pool.specs.Fixed.{picked_f, may_merge, try_merge, merged_pair, merge_one_f, merged_f}
@@ -25,68 +23,10 @@ use Rattle.pool.proofs.PartLaws.{place_all, place_some}
 use Rattle.pool.proofs.MergeLaws.{one_f, pick_f, first_pick, pick_rep, round_alike, round_falls, owners, owners_most}
 use Rattle.merge.specs.Rounds.{first_half, AtRest}
 
--- ---- whether it may be merged
-
-may_by : (a b c d : Bool) → (a ≡ true) ⊎ ((b ≡ true) ⊎ ((c ≡ true) ⊎ (d ≡ true))) → false ≡ not (a or b or c or d)
-unfolding ◌or◌
-may_by true b c d e = refl
-may_by false true c d e = refl
-may_by false false true d e = refl
-may_by false false false true e = refl
-may_by false false false false e =
-    ⊎_elim (λ (p : false ≡ true). absurd (false≢true p)) (λ (p : (false ≡ true) ⊎ ((false ≡ true) ⊎ (false ≡ true))).
-    ⊎_elim (λ (q : false ≡ true). absurd (false≢true q)) (λ (q : (false ≡ true) ⊎ (false ≡ true)).
-    ⊎_elim (λ (r : false ≡ true). absurd (false≢true r)) (λ (r : false ≡ true). absurd (false≢true r)) q) p) e
-
-may_else : (a b c d : Bool) → a ≡ false → b ≡ false → c ≡ false → d ≡ false → true ≡ not (a or b or c or d)
-unfolding ◌or◌
-may_else a b c d p q r s = rw (p, q, r, s)
-
-and_left : (a b : Bool) → a ≡ false → a and b ≡ false
-unfolding ◌and◌
-and_left a b p = rw p
-
-and_right : (a b : Bool) → a ≡ true → b ≡ false → a and b ≡ false
-unfolding ◌and◌
-and_right a b p q = rw (p, q)
-
-module _ (ws : List ℕ) (m area i : ℕ) where
-  pub may_dead : get_or ws i 0 ≡ 0 → false ≡ may_merge area (rec_at ws m (7 * m) (11 * m) i)
-  unfolding may_merge rec_at
-  may_dead e = may_by _ _ _ _ (inl (eq-eqb _ 0 e))
-
-  module _ (n : get_or ws i 0 ≡ 0 → ⊥) where
-    pub may_over : (get_or ws (3 * m + i) 0 ≡ 0 → ⊥) → false ≡ may_merge area (rec_at ws m (7 * m) (11 * m) i)
-    unfolding may_merge rec_at
-    may_over e = may_by _ _ _ _ (inr (inl (rw (ne_eqb (get_or ws (3 * m + i) 0) 0 e) refl)))
-
-    module _ (o : get_or ws (3 * m + i) 0 ≡ 0) where
-      pub may_empty : get_or ws (m + i) 0 ≡ 0 → false ≡ may_merge area (rec_at ws m (7 * m) (11 * m) i)
-      unfolding may_merge rec_at
-      may_empty e = may_by _ _ _ _ (inr (inr (inl (eq-eqb _ 0 e))))
-
-      module _ (c : get_or ws (m + i) 0 ≡ 0 → ⊥) where
-        pub may_small : get_or ws (m + i) 0 ≤ area → true ≡ may_merge area (rec_at ws m (7 * m) (11 * m) i)
-        unfolding may_merge rec_at
-        may_small h = may_else _ _ _ _ (ne_eqb _ 0 n) (rw (eq-eqb (get_or ws (3 * m + i) 0) 0 o) refl) (ne_eqb _ 0 c) (and_left _ _ (le-ltb area (get_or ws (m + i) 0) h))
-
-        module _ (h : area < get_or ws (m + i) 0) (l : List ℕ) (b : Bool) (q : l ≡ list_at ws m (7 * m) i) (e : b ≡ any (eqb 0) l) where
-          lone : b ≡ any (eqb 0) (list_at ws m (7 * m) i)
-          lone = rw (← q) e
-
-          pub may_border : b ≡ true → false ≡ may_merge area (rec_at ws m (7 * m) (11 * m) i)
-          unfolding may_merge rec_at
-          may_border z = may_by _ _ _ _ (inr (inr (inr (and_both _ _ (lt-ltb area (get_or ws (m + i) 0) h) (sym lone ∙ z)))))
-
-          pub may_inner : b ≡ false → true ≡ may_merge area (rec_at ws m (7 * m) (11 * m) i)
-          unfolding may_merge rec_at
-          may_inner z =
-              may_else _ _ _ _ (ne_eqb _ 0 n) (rw (eq-eqb (get_or ws (3 * m + i) 0) 0 o) refl) (ne_eqb _ 0 c) (and_right _ _ (lt-ltb area (get_or ws (m + i) 0) h) (sym lone ∙ z))
-
 -- ---- whether each lists the other
 
-pub place_is : (ws l : List ℕ) (m i r k : ℕ) → l ≡ list_at ws m (7 * m) i → k ≡ place l r → k ≡ place (list_at ws m (7 * m) i) r
-place_is ws l m i r k q e = e ∙ ap (λ (x : List ℕ). place x r) q
+pub place_none : (ws l : List ℕ) (m i r k : ℕ) → l ≡ list_at ws m (7 * m) i → k ≡ place l r → k ≡ length l → has (list_at ws m (7 * m) i) r ≡ false
+place_none ws l m i r k q e n = rw (← q) (place_all l r (sym e ∙ n))
 
 not_both : (a b : Bool) (g x : Merge) → (a ≡ false) ⊎ (b ≡ false) → g ≡ (when not (a and b) then g else x)
 unfolding ◌and◌ when◌then◌else◌
@@ -114,46 +54,44 @@ module _ (m p h o i n : ℕ) (ws : List ℕ) (P : Pool m p h o ws) (hi : i < m) 
   unfolding len_at
   len_of x g = list_length ws m (7 * m) x P.held.lists g
 
-  lists_other : (x y k q : ℕ) → x < m → y < m → k ≡ place (list_at ws m (7 * m) x) (get_or ws y 0) → q ≡ len_at ws m x → (k ≡ q → ⊥) → has (at (recs_of ws m) x).list (at (recs_of ws m) y).id ≡ true
-  lists_other x y k q gx gy e l d = rw (list_of x gx, id_of_lem y gy) (place_some (list_at ws m (7 * m) x) (get_or ws y 0) (λ z. d (e ∙ z ∙ len_of x gx ∙ sym l)))
+  lists_other : (x y k : ℕ) → x < m → y < m → k ≡ place (list_at ws m (7 * m) x) (get_or ws y 0) → k < length (list_at ws m (7 * m) x) → has (at (recs_of ws m) x).list (at (recs_of ws m) y).id ≡ true
+  lists_other x y k gx gy e l = rw (list_of x gx, id_of_lem y gy) (place_some (list_at ws m (7 * m) x) (get_or ws y 0) (λ z. omega arith))
 
-  lists_not : (x y k q : ℕ) → x < m → y < m → k ≡ place (list_at ws m (7 * m) x) (get_or ws y 0) → q ≡ len_at ws m x → k ≡ q → has (at (recs_of ws m) x).list (at (recs_of ws m) y).id ≡ false
-  lists_not x y k q gx gy e l d = rw (list_of x gx, id_of_lem y gy) (place_all (list_at ws m (7 * m) x) (get_or ws y 0) (sym e ∙ d ∙ l ∙ sym (len_of x gx)))
+  lists_not : (x y : ℕ) → x < m → y < m → has (list_at ws m (7 * m) x) (get_or ws y 0) ≡ false → has (at (recs_of ws m) x).list (at (recs_of ws m) y).id ≡ false
+  lists_not x y gx gy e = rw (list_of x gx, id_of_lem y gy) e
 
-  module _ (k q : ℕ) (e : k ≡ place (list_at ws m (7 * m) n) (get_or ws i 0)) (l : q ≡ len_at ws m n) where
-    pub try_none : k ≡ q → record { recs = recs_of ws m; merges = c } ≡ try_merge i n (record { recs = recs_of ws m; merges = c })
+  pub try_none : has (list_at ws m (7 * m) n) (get_or ws i 0) ≡ false → record { recs = recs_of ws m; merges = c } ≡ try_merge i n (record { recs = recs_of ws m; merges = c })
+  unfolding try_merge
+  try_none d = not_both _ _ _ _ (inl (lists_not n i hn hi d))
+
+  pub try_none_2 : has (list_at ws m (7 * m) i) (get_or ws n 0) ≡ false → record { recs = recs_of ws m; merges = c } ≡ try_merge i n (record { recs = recs_of ws m; merges = c })
+  unfolding try_merge
+  try_none_2 d = not_both _ _ _ _ (inr (lists_not i n hi hn d))
+
+  module _ (k : ℕ) (e : (k ≡ place (list_at ws m (7 * m) n) (get_or ws i 0)) × (k < length (list_at ws m (7 * m) n)))
+      (j : ℕ) (e' : (j ≡ place (list_at ws m (7 * m) i) (get_or ws n 0)) × (j < length (list_at ws m (7 * m) i))) where
+    pub try_listed : (i ≡ n → ⊥) → (get_or ws i 0 ≡ 0 → ⊥) → (get_or ws n 0 ≡ 0 → ⊥) → (get_or ws i 0 ≡ n → ⊥) → Listed m n k i j ws
+    try_listed ne a b x = record {
+      pair = record {
+        first = hn;
+        second = hi;
+        apart = ne;
+        lists = omega (arith, len_of n hn, e.1);
+        lists' = omega (arith, len_of i hi, e'.1);
+      };
+      live = a;
+      live' = b;
+      other = x;
+      first = e.0;
+      first' = e'.0;
+    }
+
+    pub try_some : (ws' : List ℕ) → recs_of ws' m ≡ merged_pair (recs_of ws m) i (get_or ws i 0) n
+        → record { recs = recs_of ws' m; merges = c + 1 } ≡ try_merge i n (record { recs = recs_of ws m; merges = c })
     unfolding try_merge
-    try_none d = not_both _ _ _ _ (inl (lists_not n i k q hn hi e l d))
-
-    module _ (d : k ≡ q → ⊥) (j q' : ℕ) (e' : j ≡ place (list_at ws m (7 * m) i) (get_or ws n 0)) (l' : q' ≡ len_at ws m i) where
-      pub try_none_2 : j ≡ q' → record { recs = recs_of ws m; merges = c } ≡ try_merge i n (record { recs = recs_of ws m; merges = c })
-      unfolding try_merge
-      try_none_2 d' = not_both _ _ _ _ (inr (lists_not i n j q' hi hn e' l' d'))
-
-      module _ (d' : j ≡ q' → ⊥) where
-        -- the place is within the list
-        pub try_listed : (i ≡ n → ⊥) → (get_or ws i 0 ≡ 0 → ⊥) → (get_or ws n 0 ≡ 0 → ⊥) → (get_or ws i 0 ≡ n → ⊥) → Listed m n k i j ws
-        try_listed ne a b x = record {
-          pair = record {
-            first = hn;
-            second = hi;
-            apart = ne;
-            lists = omega (arith, len_of n hn, place-within (list_at ws m (7 * m) n) (get_or ws i 0));
-            lists' = omega (arith, len_of i hi, place-within (list_at ws m (7 * m) i) (get_or ws n 0));
-          };
-          live = a;
-          live' = b;
-          other = x;
-          first = e;
-          first' = e';
-        }
-
-        pub try_some : (ws' : List ℕ) → recs_of ws' m ≡ merged_pair (recs_of ws m) i (get_or ws i 0) n
-            → record { recs = recs_of ws' m; merges = c + 1 } ≡ try_merge i n (record { recs = recs_of ws m; merges = c })
-        unfolding try_merge
-        try_some ws' r =
-            merge_eq _ _ _ _ (r ∙ ap (λ (y : ℕ). merged_pair (recs_of ws m) i y n) (sym (id_of_lem i hi))) (omega arith)
-            ∙ is_both _ _ (record { recs = recs_of ws m; merges = c }) _ (lists_other n i k q hn hi e l d) (lists_other i n j q' hi hn e' l' d')
+    try_some ws' r =
+        merge_eq _ _ _ _ (r ∙ ap (λ (y : ℕ). merged_pair (recs_of ws m) i y n) (sym (id_of_lem i hi))) (omega arith)
+        ∙ is_both _ _ (record { recs = recs_of ws m; merges = c }) _ (lists_other n i k hn hi e.0 e.1) (lists_other i n j hi hn e'.0 e'.1)
 
 -- ---- a record's turn
 
@@ -250,30 +188,12 @@ module _ (m p h o i area : ℕ) (ws : List ℕ) (P : Pool m p h o ws) (hi : i < 
 
 -- ---- a round
 
-pub round_go : (area m i : ℕ) (ws₀ ws ws' : List ℕ) (c c' : ℕ)
-    → record { recs = recs_of ws m; merges = c } ≡ upto i (merge_one_f area) (record { recs = recs_of ws₀ m; merges = 0 })
-    → record { recs = recs_of ws' m; merges = c' } ≡ merge_one_f area i (record { recs = recs_of ws m; merges = c })
-    → record { recs = recs_of ws' m; merges = c' } ≡ upto (i + 1) (merge_one_f area) (record { recs = recs_of ws₀ m; merges = 0 })
-round_go area m i ws₀ ws ws' c c' e q = q ∙ ap (merge_one_f area i) e ∙ sym (upto_next i (merge_one_f area) (record { recs = recs_of ws₀ m; merges = 0 }))
-
-pub round-start : (area m : ℕ) (ws : List ℕ) → record { recs = recs_of ws m; merges = 0 } ≡ upto 0 (merge_one_f area) (record { recs = recs_of ws m; merges = 0 })
-unfolding upto
-round-start area m ws = refl
-
-pub round-end : (area m i : ℕ) (ws₀ ws : List ℕ) (c : ℕ) → i ≤ m → m ≤ i → record { recs = recs_of ws m; merges = c } ≡ upto i (merge_one_f area) (record { recs = recs_of ws₀ m; merges = 0 })
-    → record { recs = recs_of ws m; merges = c } ≡ upto m (merge_one_f area) (record { recs = recs_of ws₀ m; merges = 0 })
-round-end area m i ws₀ ws c h g e = let q : i ≡ m = omega arith in rw q at e
-
 -- at every turn the two are alike
 pub joined_at : (area m i : ℕ) (ws₀ ws : List ℕ) (c : ℕ) → Joined (recs_of ws₀ m) → record { recs = recs_of ws m; merges = c } ≡ upto i (merge_one_f area) (record { recs = recs_of ws₀ m; merges = 0 })
     → Joined (recs_of ws m)
 joined_at area m i ws₀ ws c j e =
     let b = round_alike area i (record { recs = j.rs; merges = 0 }) (record { recs = recs_of ws₀ m; merges = 0 }) (record { recs = j.alike; merges = refl }) in
     record { rs = (upto i (merge_one area) (record { recs = j.rs; merges = 0 })).recs; alike = rw (ap (λ (g : Merge). g.recs) e) b.recs }
-
-pub round_reps : (area m i : ℕ) (ws₀ ws : List ℕ) (c : ℕ) → record { recs = recs_of ws m; merges = c } ≡ upto i (merge_one_f area) (record { recs = recs_of ws₀ m; merges = 0 }) → Joined (recs_of ws₀ m)
-    → Reps (recs_of ws m)
-round_reps area m i ws₀ ws c e j = (joined_at area m i ws₀ ws c j e).alike.reps
 
 -- ---- the rounds
 
@@ -357,6 +277,3 @@ module _ (m n : ℕ) (half : Half) (e : half ≡ first_half m n) (ws : List ℕ)
 -- after the last
 pub pool_rest : (m p h o : ℕ) (ws : List ℕ) → Pool m p h o ws → AtRest m ws
 pool_rest m p h o ws P = record { held = P.held; blank = P.blank }
-
-pub rounds-joined : (area m : ℕ) (ws₀ ws : List ℕ) → Rounds area m ws₀ ws → Joined (recs_of ws m)
-rounds-joined area m ws₀ ws T = T.joined

@@ -53,7 +53,11 @@ pub record MergedIn (area i m end : ℕ) (ws : List ℕ) (g : Round) (ws' : List
   pub laid : LaidIn m r.half (take end ws')
   pub past : drop end ws' ≡ drop end ws
 
--- the same with its merge noted
+-- past the records there is room to note all merges
+abbrev pub Noting : ℕ → ℕ → List ℕ → Type 0
+Noting m end ws = end + 2 * m ≤ length ws
+
+-- the same with its merge noted, where there is room
 pub record NotedOne (area i m end : ℕ) (ws : List ℕ) (g : Noted) (ws' : List ℕ) (r : Noted) : Type 0 where
   pub same : merge_at m end ws' r.round.merges ≡ merge_one_f area i (merge_at m end ws g.round.merges)
   pub pool : PoolIn m r.round.half (take end ws')
@@ -61,7 +65,7 @@ pub record NotedOne (area i m end : ℕ) (ws : List ℕ) (g : Noted) (ws' : List
   pub sized : r.round.half.size ≡ g.round.half.size
   pub laid : LaidIn m r.round.half (take end ws')
   pub few : r.count + owners m (recs_of (take end ws') m) ≤ m
-  pub told : mergings_at ws' end r.count ≡ tells_f area i (merge_at m end ws g.round.merges) (mergings_at ws end g.count)
+  pub told : Noting m end ws → mergings_at ws' end r.count ≡ tells_f area i (merge_at m end ws g.round.merges) (mergings_at ws end g.count)
 
 -- what the first i records of a round leave
 pub record NotedRound (area i m size end : ℕ) (ws : List ℕ) (count : ℕ) (ws' : List ℕ) (r : Noted) : Type 0 where
@@ -71,14 +75,14 @@ pub record NotedRound (area i m size end : ℕ) (ws : List ℕ) (count : ℕ) (w
   pub pool : PoolIn m r.round.half (take end ws')
   pub laid : LaidIn m r.round.half (take end ws')
   pub few : r.count + owners m (recs_of (take end ws') m) ≤ m
-  pub told : mergings_at ws' end r.count ≡ round_merges_f area i (merge_at m end ws 0) (mergings_at ws end count)
+  pub told : Noting m end ws → mergings_at ws' end r.count ≡ round_merges_f area i (merge_at m end ws 0) (mergings_at ws end count)
 
 -- what all rounds leave
 pub record NotedAll (area m end : ℕ) (ws ws' : List ℕ) (count : ℕ) : Type 0 where
   pub same : recs_of (take end ws') m ≡ merged_f area (suc m) (recs_of (take end ws) m)
   pub rest : AtRest m (take end ws')
   pub few : count ≤ m
-  pub told : mergings_at ws' end count ≡ mergings_f area (suc m) (recs_of (take end ws) m) []
+  pub told : Noting m end ws → mergings_at ws' end count ≡ mergings_f area (suc m) (recs_of (take end ws) m) []
 
 -- what the filter leaves of the records before `end`, with the count k of the group with which record r is gone
 pub record FilteredIn (least r m end : ℕ) (ws ws' : List ℕ) (k : ℕ) : Type 0 where

@@ -1,16 +1,17 @@
 // The merge: a record, a round, all rounds.
-ghost use Rattle.std.specs.Prelude.{◌≡◌, suc, ◌+◌, ◌≤◌, ◌<◌, get_or, eqb};
-ghost use Rattle.rules.specs.Base.{any, upto};
+ghost use Rattle.std.specs.Prelude.{◌≡◌, ◌+◌, ◌≤◌, ◌<◌, false, length, get_or, eqb, MatchOption};
+ghost use Rattle.rules.specs.Records.{has};
+ghost use Rattle.rules.specs.Base.{any};
 ghost use Rattle.rules.specs.Merge.{place};
 ghost use Rattle.table.specs.Map.{wide_end, floors_from};
 ghost use Rattle.table.specs.View.{recs_of, list_in, record_at, RecordsIn};
-ghost use Rattle.pool.specs.Alike.{Reps, Joined};
-ghost use Rattle.pool.specs.Fixed.{may_merge, try_merge, merge_one_f, merged_f};
+ghost use Rattle.pool.specs.Alike.{Reps};
+ghost use Rattle.pool.specs.Fixed.{may_merge, try_merge, merge_one_f};
 ghost use Rattle.pool.specs.Forms.{PoolIn, LaidIn};
-ghost use Rattle.merge.specs.Rounds.{round_at, first_half, AtRest};
+ghost use Rattle.merge.specs.Rounds.{round_at, first_half};
 
 use crate::pick::pick;
-use pool::{Half, Pair, len_of, merge_regions};
+use pool::{Half, Pair, merge_regions};
 use table::map::{HALF, LISTS, OVERLAPS, POOL, RECORD_ROOM};
 use table::{holds, list_of, place};
 
@@ -33,30 +34,21 @@ fn may_merge(ws: &[u16], m: usize, area: u16, i: usize) -> bool
     requires { RecordsIn m ws.now × (i < m) }
     ensures { result ≡ may_merge area (record_at ws.now m i) }
 {
-    if ws[i] == 0 {
-        return false;
-    }
-    if ws[OVERLAPS * m + i] != 0 {
-        return false;
-    }
-    if ws[m + i] == 0 {
-        return false;
-    }
-    if ws[m + i] <= area {
-        return true;
-    }
-    if is_region_connected_to_border(list_of(ws, m, LISTS * m, i)) {
-        return false;
-    }
-    true
+    ws[i] != 0
+        && ws[OVERLAPS * m + i] == 0
+        && ws[m + i] != 0
+        && (ws[m + i] <= area || !is_region_connected_to_border(list_of(ws, m, LISTS * m, i)))
 }
 
-// Where record i first lists r, or how long its list is.
-fn place_of(ws: &[u16], m: usize, i: usize, r: u16) -> usize
+// Where record i first lists r.
+fn place_of(ws: &[u16], m: usize, i: usize, r: u16) -> Option<usize>
     requires { RecordsIn m ws.now × (i < m) }
-    ensures { result ≡ place (list_in ws.now m i) r }
+    ensures { let list = list_in ws.now m i in
+        MatchOption result (has list r ≡ false) (λ k. (k ≡ place list r) × (k < length list)) }
 {
-    place(list_of(ws, m, LISTS * m, i), r)
+    let l = list_of(ws, m, LISTS * m, i);
+    let k = place(l, r);
+    if k == l.len() { None } else { Some(k) }
 }
 
 // The neighbour n absorbs record i, if each lists the other.
@@ -68,16 +60,12 @@ fn try_merge(ws: &mut [u16], m: usize, i: usize, n: usize, round: Round) -> Roun
     ensures pool_in_2 { PoolIn m result.half ws.new × LaidIn m result.half ws.new × (result.merges ≤ round.merges + 1)
         × (result.half.size ≡ round.half.size) }
 {
-    let own = ws[i];
-    let other = ws[n];
-    let entry = place_of(ws, m, n, own);
-    if entry == len_of(ws, m, n) {
+    let Some(entry) = place_of(ws, m, n, ws[i]) else {
         return round;
-    }
-    let back = place_of(ws, m, i, other);
-    if back == len_of(ws, m, i) {
+    };
+    let Some(back) = place_of(ws, m, i, ws[n]) else {
         return round;
-    }
+    };
     let pair = Pair {
         absorber: n,
         entry,
@@ -98,30 +86,14 @@ pub(crate) fn merge_one(ws: &mut [u16], m: usize, area: u16, i: usize, round: Ro
     ensures pool_in_2 { PoolIn m result.half ws.new × LaidIn m result.half ws.new × (result.merges ≤ round.merges + 1)
         × (result.half.size ≡ round.half.size) }
 {
-    if may_merge(ws, m, area, i) {} else {
+    if !may_merge(ws, m, area, i) {
         return round;
     }
-    let best = pick(ws, m, i);
-    let id = best.id;
+    let id = pick(ws, m, i).id;
     if id == ws[i] {
         return round;
     }
     try_merge(ws, m, i, id as usize, round)
-}
-
-// A round: all records, in order.
-fn merge_round(ws: &mut [u16], m: usize, area: u16, half: Half) -> Round
-    requires { PoolIn m half ws.old × LaidIn m half ws.old × Joined (recs_of ws.old m) }
-    ensures merges_after { round_at m ws.new result.merges ≡ upto m (merge_one_f area) (round_at m ws.old 0) }
-    ensures pool_in { PoolIn m result.half ws.new × LaidIn m result.half ws.new × (result.half.size ≡ half.size) }
-{
-    let mut round = Round { half, merges: 0 };
-    let mut i = 0;
-    while i < m {
-        round = merge_one(ws, m, area, i, round);
-        i += 1;
-    }
-    round
 }
 
 // Before the first merge: the lists are in the first half, and all of it counts as used, since nothing is known of how they lie there.
@@ -137,21 +109,5 @@ pub(crate) fn first_half(m: usize, n: usize) -> Half
         size,
         top: first + size,
         links: first + RECORD_ROOM * n,
-    }
-}
-
-// Rounds until one merges nothing.
-pub(crate) fn merge_all(ws: &mut [u16], m: usize, n: usize, area: u16)
-    requires { PoolIn m (first_half m n) ws.old × LaidIn m (first_half m n) ws.old × Joined (recs_of ws.old m) }
-    ensures m_after { recs_of ws.new m ≡ merged_f area (suc m) (recs_of ws.old m) }
-    ensures at_rest { AtRest m ws.new }
-{
-    let mut half = first_half(m, n);
-    loop {
-        let round = merge_round(ws, m, area, half);
-        if round.merges == 0 {
-            return;
-        }
-        half = round.half;
     }
 }

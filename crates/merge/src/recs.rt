@@ -7,20 +7,19 @@ ghost use Rattle.pool.specs.Bearers.{Bearers, Borne};
 ghost use Rattle.pool.specs.Fixed.{floor_is, floor_in, suits_f};
 
 use pool::{many, next_of};
+use table::list_of;
 use table::map::{AREAS, FLOORS, LISTS};
-use table::{at, list_of};
 
 // Does the list hold a record whose id is b?
 fn any_floor(ws: &[u16], l: &[u16], b: u16) -> bool
     requires { Below (length ws.now) l.now }
     ensures { result ≡ any (floor_is ws.now b) l.now }
 {
-    let mut i = 0;
-    while i < l.len() {
-        if ws[at(l, i)] == b {
+    // Not `any`: that each of these indices is in bounds would be a goal about the closure.
+    for &f in l {
+        if ws[f as usize] == b {
             return true;
         }
-        i += 1;
     }
     false
 }
@@ -30,6 +29,7 @@ fn floor_in(ws: &[u16], m: usize, a: u16, b: u16) -> bool
     requires { RecordsIn m ws.now × Bearers m ws.now × Borne m a ws.now }
     ensures { result ≡ floor_in ws.now (view ws.now m (lists_at m) (floor_parts_at m)) a b }
 {
+    // A walk: each record names the next that bears the id, and the last names 0.
     let mut y = a as usize;
     while y != 0 {
         if any_floor(ws, list_of(ws, m, FLOORS * m, y), b) {
@@ -48,14 +48,7 @@ pub(crate) fn can_merge_with(ws: &[u16], m: usize, i: usize, j: usize) -> bool
         let other = record_at ws.now m j in
         result ≡ suits_f records own other }
 {
-    if ws[AREAS * m + i] != ws[AREAS * m + j] {
-        return false;
-    }
-    if 1 < many(list_of(ws, m, LISTS * m, i), ws[j]) {
-        return false;
-    }
-    if floor_in(ws, m, ws[i], ws[j]) {
-        return false;
-    }
-    true
+    ws[AREAS * m + i] == ws[AREAS * m + j]
+        && many(list_of(ws, m, LISTS * m, i), ws[j]) <= 1
+        && !floor_in(ws, m, ws[i], ws[j])
 }

@@ -1,18 +1,14 @@
 // The stages from records to the result.
-ghost use Rattle.std.specs.Prelude.{◌≡◌, suc, ◌+◌, ◌*◌, ◌≤◌, ◌<◌, length, take, drop};
+ghost use Rattle.std.specs.Prelude.{◌≡◌, suc, ◌+◌, ◌*◌, ◌≤◌, ◌<◌, length, take};
 ghost use Rattle.rules.specs.Filter.{filtered};
 ghost use Rattle.rules.specs.Merge.{merged};
 ghost use Rattle.rules.specs.Numbering.{numbered};
 ghost use Rattle.rules.specs.Numbering as rules;
-ghost use Rattle.table.specs.Map.{spare_at, pool_at};
 ghost use Rattle.table.specs.View.{recs_of};
-ghost use Rattle.filter.specs.Group.{Calm};
-ghost use Rattle.numbering.specs.Number.{Column, Blank, Spans};
 ghost use Rattle.merge.specs.Ready.{Ready};
-ghost use Rattle.merge.specs.Told.{FilteredIn, ToldRegions};
+ghost use Rattle.merge.specs.Told.{ToldRegions};
 
-use crate::merge::merge_all;
-use crate::told::merge_all_noted;
+use crate::told::merge_all;
 use filter::{filter, filter_told};
 use numbering::{Regions, number};
 
@@ -30,27 +26,10 @@ pub fn merge_and_filter_regions(
         ≡ numbered (merged merge_region_size (suc m) (filtered min_region_area (recs_of ws.old m))) ids.old }
 {
     filter(ws, m, min_region_area);
-    merge_all(ws, m, n, merge_region_size);
+    // There is no room past the records, so no merge is noted.
+    let end = ws.len();
+    merge_all(ws, end, m, n, merge_region_size);
     number(ids, ws, m)
-}
-
-// The records before `end` are filtered. Gives the count of the group with which record r is removed.
-fn filter_in(ws: &mut [u16], end: usize, m: usize, least: u16, r: usize) -> usize
-    requires { (end ≤ length ws.old) × Calm m (take end ws.old) × (r < m) }
-    ensures { FilteredIn least r m end ws.old ws.new result }
-{
-    filter_told(&mut ws[..end], m, least, r)
-}
-
-// The records before `end` are numbered.
-fn number_in(ids: &mut [u16], ws: &mut [u16], end: usize, m: usize) -> Regions
-    requires { (end ≤ length ws.old) × Column m (spare_at m) (take end ws.old) × Blank m (spare_at m) (take end ws.old)
-        × Spans m ids.old × (pool_at m ≤ end) }
-    ensures cut_value { record { ids = ids.new; most = result.max_region; over = result.overlaps; cut = result.cut }
-        ≡ numbered (recs_of (take end ws.old) m) ids.old }
-    ensures ws_unchanged { drop end ws.new ≡ drop end ws.old }
-{
-    number(ids, &mut ws[..end], m)
 }
 
 // What became of one record: its id after the filter, the count of the group with which it was removed; how many merges there were; and the regions.
@@ -79,10 +58,10 @@ pub fn merge_and_filter_told(
         ToldRegions min_region_area merge_region_size m end r ws.old ids.old ws.new found
         result.id result.group result.merges) }
 {
-    let group = filter_in(ws, end, m, min_region_area, r);
+    let group = filter_told(&mut ws[..end], m, min_region_area, r);
     let id = ws[r];
-    let merges = merge_all_noted(ws, end, m, n, merge_region_size);
-    let regions = number_in(ids, ws, end, m);
+    let merges = merge_all(ws, end, m, n, merge_region_size);
+    let regions = number(ids, &mut ws[..end], m);
     Told {
         id,
         group,

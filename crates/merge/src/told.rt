@@ -1,60 +1,54 @@
 // Merges noted in their order: "the trail of merges from the flood's id to the last". The records lie before `end` in the workspace, what is noted
-// from there on, two numbers a merge: the id that was absorbed, and the one that absorbed it.
+// from there on, two numbers a merge: the id that was absorbed, and the one that absorbed it. Where there is no room past the records nothing is noted.
 ghost use Rattle.std.specs.Prelude.{◌≡◌, ◌+◌, ◌*◌, ◌≤◌, ◌<◌, length, take, set};
 ghost use Rattle.table.specs.View.{recs_of};
-ghost use Rattle.pool.specs.Alike.{Reps, Joined};
+ghost use Rattle.pool.specs.Alike.{Joined};
 ghost use Rattle.pool.specs.Forms.{PoolIn, LaidIn};
 ghost use Rattle.pool.proofs.MergeLaws.{owners};
 ghost use Rattle.merge.specs.Rounds.{first_half};
-ghost use Rattle.merge.specs.Told.{MergedIn, NotedOne, NotedRound, NotedAll};
+ghost use Rattle.merge.specs.Told.{NotedOne, NotedRound, NotedAll};
 
 use crate::merge::{Round, first_half, merge_one};
 use pool::Half;
 
-// A round under way, and how many merges are noted.
+// A round under way, and how many merges there were.
 #[derive(Clone, Copy)]
 pub struct Noted {
     pub round: Round,
     pub count: usize,
 }
 
-// Record i of a round, over the records before `end`.
-fn merge_in(ws: &mut [u16], end: usize, m: usize, area: u16, i: usize, round: Round) -> Round
-    requires end_in_bounds { (end ≤ length ws.old) × PoolIn m round.half (take end ws.old) × LaidIn m round.half (take end ws.old) }
-    requires reps { Reps (recs_of (take end ws.old) m) × (i < m) × (round.merges < 65536) }
-    ensures { MergedIn area i m end ws.old round ws.new result }
+// A merge is noted after the first `count`, if there is room.
+fn note_merge(ws: &mut [u16], end: usize, count: usize, old: u16, new: u16)
+    requires { (end ≤ length ws.old) × (count < 65536) }
+    ensures noted { end + 2 * count + 1 < length ws.old → ws.new ≡ set (set ws.old (end + 2 * count) old) (end + 2 * count + 1) new }
+    ensures full { length ws.old ≤ end + 2 * count + 1 → ws.new ≡ ws.old }
 {
-    merge_one(&mut ws[..end], m, area, i, round)
-}
-
-// A merge is noted at place b.
-fn note_merge(ws: &mut [u16], b: usize, old: u16, new: u16)
-    requires { b + 1 < length ws.old }
-    ensures { ws.new ≡ set (set ws.old b old) (b + 1) new }
-{
-    ws[b] = old;
-    ws[b + 1] = new;
+    if ws.len() - end <= 2 * count + 1 {
+        return;
+    }
+    ws[end + 2 * count] = old;
+    ws[end + 2 * count + 1] = new;
 }
 
 // Record i of a round; if it merges, that is noted.
 fn merge_one_noted(ws: &mut [u16], end: usize, m: usize, area: u16, i: usize, noted: Noted) -> Noted
-    requires m_in_bounds { (end + 2 * m ≤ length ws.old) × PoolIn m noted.round.half (take end ws.old)
+    requires m_in_bounds { (end ≤ length ws.old) × PoolIn m noted.round.half (take end ws.old)
         × LaidIn m noted.round.half (take end ws.old) }
     requires joined { Joined (recs_of (take end ws.old) m) × (i < m) × (noted.round.merges < 65536)
         × (noted.count + owners m (recs_of (take end ws.old) m) ≤ m) }
     ensures { NotedOne area i m end ws.old noted ws.new result }
 {
     let old = ws[i];
-    let before = noted.round;
-    let round = merge_in(ws, end, m, area, i, before);
-    if round.merges == before.merges {
+    let round = merge_one(&mut ws[..end], m, area, i, noted.round);
+    if round.merges == noted.round.merges {
         return Noted {
             round,
             count: noted.count,
         };
     }
     let new = ws[i];
-    note_merge(ws, end + 2 * noted.count, old, new);
+    note_merge(ws, end, noted.count, old, new);
     Noted {
         round,
         count: noted.count + 1,
@@ -62,15 +56,8 @@ fn merge_one_noted(ws: &mut [u16], end: usize, m: usize, area: u16, i: usize, no
 }
 
 // A round: all records, in order.
-fn merge_round_noted(
-    ws: &mut [u16],
-    end: usize,
-    m: usize,
-    area: u16,
-    half: Half,
-    count: usize,
-) -> Noted
-    requires m_in_bounds { (end + 2 * m ≤ length ws.old) × PoolIn m half (take end ws.old) × LaidIn m half (take end ws.old) }
+fn merge_round(ws: &mut [u16], end: usize, m: usize, area: u16, half: Half, count: usize) -> Noted
+    requires m_in_bounds { (end ≤ length ws.old) × PoolIn m half (take end ws.old) × LaidIn m half (take end ws.old) }
     requires joined { Joined (recs_of (take end ws.old) m) × (count + owners m (recs_of (take end ws.old) m) ≤ m) }
     ensures { NotedRound area m m half.size end ws.old count ws.new result }
 {
@@ -78,24 +65,22 @@ fn merge_round_noted(
         round: Round { half, merges: 0 },
         count,
     };
-    let mut i = 0;
-    while i < m {
+    for i in 0..m {
         noted = merge_one_noted(ws, end, m, area, i, noted);
-        i += 1;
     }
     noted
 }
 
-// Rounds until one merges nothing. Gives how many merges are noted.
-pub(crate) fn merge_all_noted(ws: &mut [u16], end: usize, m: usize, n: usize, area: u16) -> usize
-    requires { (end + 2 * m ≤ length ws.old) × PoolIn m (first_half m n) (take end ws.old)
+// Rounds until one merges nothing. Gives how many merges there were.
+pub(crate) fn merge_all(ws: &mut [u16], end: usize, m: usize, n: usize, area: u16) -> usize
+    requires { (end ≤ length ws.old) × PoolIn m (first_half m n) (take end ws.old)
         × LaidIn m (first_half m n) (take end ws.old) × Joined (recs_of (take end ws.old) m) }
     ensures { NotedAll area m end ws.old ws.new result }
 {
     let mut half = first_half(m, n);
     let mut count = 0;
     loop {
-        let noted = merge_round_noted(ws, end, m, area, half, count);
+        let noted = merge_round(ws, end, m, area, half, count);
         let round = noted.round;
         if round.merges == 0 {
             return noted.count;

@@ -8,7 +8,6 @@ ghost use Rattle.std.specs.Prelude.{◌≡◌, ◌+◌, ◌*◌, ◌<◌, ◌≤
 ghost use Rattle.net.specs.Table.{last_place};
 
 use field::place::SpanIx;
-use field::read::at16;
 
 // Where the sections begin that flood and expansion share in the workspace: the changes of an expansion, three numbers each; the flood's stack, which
 // is where an expansion has its flags; the table of neighbours. Source distances begin at 0.
@@ -24,5 +23,5 @@ pub fn neighbour(ws: &[u16], table: usize, span: SpanIx, d: usize) -> SpanIx
     requires { (table ≤ last_place) × (span.0 < 65536) × (d < 4) × (table + (4 * span.0 + d) < length ws.now) }
     ensures { result.0 ≡ get_or ws.now (table + (4 * span.0 + d)) 0 }
 {
-    SpanIx(at16(ws, table + (4 * span.0 + d)))
+    SpanIx(ws[table + (4 * span.0 + d)] as usize)
 }

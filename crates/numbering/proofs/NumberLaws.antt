@@ -16,7 +16,7 @@ use Rattle.rules.specs.Records.{has, once}
 use Rattle.rules.specs.Merge.{place}
 use Rattle.rules.specs.Numbering.{number_of}
 use Rattle.space.specs.Space.{Frame}
-use Rattle.space.proofs.Laws.{get_or_before, frame_set, cases}
+use Rattle.space.proofs.Laws.{get_or_before, cases}
 use Rattle.table.proofs.SearchLaws.{has_cons, has-head, place_other, place-first}
 use Rattle.pool.proofs.HasLaws.{or-first, has_end}
 use Rattle.pool.specs.Lists.{map_to}
@@ -106,9 +106,6 @@ module _ (m b : ℕ) (ws : List ℕ) (i r k : ℕ) (c : Column m b ws) (h : i < 
         many = ap (λ (j : ℕ). j + 1) n.many ∙ sym (length-append l (r ∷ []));
       }))
       (cases (has l r))
-
-  pub number_frame : (v : ℕ) → Frame b (b + m) ws (set ws (b + r) v)
-  number_frame v = frame_set b (b + m) (b + r) v ws (omega arith) (omega (arith, c.ids i h))
 
 -- ---- all records
 
@@ -219,12 +216,6 @@ nonzero_is (x ∷ l) = elim (ℕ_discrete x 0) [
   | yes h ↦ rw (eq-eqb 0 x (sym h), eq-eqb x 0 h) (omega (arith, nonzero_is l))
   | no h ↦ rw (ne_eqb 0 x (λ e. h (sym e)), ne_eqb x 0 h) (omega (arith, nonzero_is l))
 ]
-
-pub id_in : (m b : ℕ) (ws : List ℕ) (r : ℕ) → Column m b ws → (r < 32768 → r < m) → r < 32768 → r < length ws
-id_in m b ws r c f h = omega (arith, c.room, f h)
-
-pub new_in : (m b : ℕ) (ws : List ℕ) (r i : ℕ) → Column m b ws → (r < 32768 → r < m) → r < 32768 → i ≡ get_or ws r 0 → b + i < length ws
-new_in m b ws r i c f h e = column_in m b ws r i c (f h) e
 
 pub span_below : (m s : ℕ) (f : ℕ → ℕ) (ids₀ ids : List ℕ) → Spans m ids₀ → ids ≡ map_to f s ids₀ → get_or ids s 0 < 32768 → get_or ids s 0 < m
 span_below m s f ids₀ ids b e h =

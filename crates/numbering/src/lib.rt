@@ -11,7 +11,6 @@ ghost use Rattle.numbering.specs.Number.{step_live, live_ids, renumber, nonzero,
 
 use pool::many;
 use region::RegionId;
-use table::at;
 use table::map::{CUTS, OVERLAPS, SPARE};
 
 // Record i's id gets the next number, unless it is 0 or has one. Gives the last number given.
@@ -21,28 +20,23 @@ fn number_one(ws: &mut [u16], m: usize, numbers: usize, i: usize, k: u16) -> u16
         → Numbers m numbers ws.new (step_live l (get_or ws.old i 0)) result }
     ensures frame { Frame numbers (numbers + m) ws.old ws.new × (result ≤ k + 1) }
 {
-    let r = at(ws, i);
-    if r == 0 {
-        return k;
-    }
-    if ws[numbers + r] != 0 {
+    let r = usize::from(ws[i]);
+    if r == 0 || ws[numbers + r] != 0 {
         return k;
     }
     ws[numbers + r] = k + 1;
     k + 1
 }
 
-// All records, in order.
+// All records, in order. Ids and numbers are columns of the one workspace, so an index reads both.
 fn number_all(ws: &mut [u16], m: usize, numbers: usize) -> u16
     requires { Column m numbers ws.old × Blank m numbers ws.old }
     ensures numbers { Numbers m numbers ws.new (live_ids (take m ws.old) []) result }
     ensures frame { Frame numbers (numbers + m) ws.old ws.new }
 {
     let mut k = 0;
-    let mut i = 0;
-    while i < m {
+    for i in 0..m {
         k = number_one(ws, m, numbers, i, k);
-        i += 1;
     }
     k
 }
@@ -55,7 +49,7 @@ fn new_id(ws: &[u16], m: usize, numbers: usize, r: u16) -> u16
     if RegionId::BORDER_REGION.0 <= r {
         return r;
     }
-    let i = at(ws, r as usize);
+    let i = usize::from(ws[usize::from(r)]);
     ws[numbers + i]
 }
 
@@ -64,10 +58,8 @@ fn new_ids(ids: &mut [u16], ws: &[u16], m: usize, numbers: usize)
     requires { Column m numbers ws.now × AllNumbers m numbers ws.now × Spans m ids.old }
     ensures { ids.new ≡ map (renumber (take m ws.now)) ids.old }
 {
-    let mut s = 0;
-    while s < ids.len() {
-        ids[s] = new_id(ws, m, numbers, ids[s]);
-        s += 1;
+    for id in ids.iter_mut() {
+        *id = new_id(ws, m, numbers, *id);
     }
 }
 

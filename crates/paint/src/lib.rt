@@ -12,43 +12,9 @@ fn paint_span(area: &[u8], ids: &mut [u16], i: usize, region: u16)
     requires { (i < length area.now) × (length ids.old ≡ length area.now) }
     ensures { ids.new ≡ put_if (walk_in area.now (span_is i)) region ids.old }
 {
-    if area[i] == 0 {
-        return;
+    if area[i] != 0 {
+        ids[i] = region;
     }
-    ids[i] = region;
-}
-
-fn wide32(x: u32) -> usize
-    ensures { (result ≡ x) × (result ≤ 4294967295) }
-{
-    x as usize
-}
-
-fn wide16(x: u16) -> usize
-    ensures { (result ≡ x) × (result ≤ 65535) }
-{
-    x as usize
-}
-
-fn wide8(x: u8) -> usize
-    ensures { (result ≡ x) × (result ≤ 255) }
-{
-    x as usize
-}
-
-// A cell's index: its first span, if it has any.
-fn first_span(index: &[u32], c: usize) -> usize
-    requires { c < length index.now }
-    ensures { (result ≡ get_or index.now c 0) × (result ≤ 4294967295) }
-{
-    wide32(index[c])
-}
-
-fn span_count(count: &[u8], c: usize) -> usize
-    requires { c < length count.now }
-    ensures { (result ≡ get_or count.now c 0) × (result ≤ 255) }
-{
-    wide8(count[c])
 }
 
 // The walkable spans of cell c.
@@ -56,12 +22,10 @@ fn paint_cell(index: &[u32], count: &[u8], area: &[u8], ids: &mut [u16], c: usiz
     requires { (c < length count.now) × (length ids.old ≡ length area.now) × Plot index.now count.now (length area.now) }
     ensures { ids.new ≡ put_if (walk_in area.now (in_cell count.now c)) region ids.old }
 {
-    let first = first_span(index, c);
-    let last = first + span_count(count, c);
-    let mut i = first;
-    while i < last {
+    let first = index[c] as usize;
+    let last = first + count[c] as usize;
+    for i in first..last {
         paint_span(area, ids, i, region);
-        i += 1;
     }
 }
 
@@ -82,10 +46,8 @@ fn paint_row(
     ensures { let here = in_rect w count.now min_x max_x z (z + 1) in
         ids.new ≡ put_if (walk_in area.now here) region ids.old }
 {
-    let mut x = min_x;
-    while x < max_x {
+    for x in min_x..max_x {
         paint_cell(index, count, area, ids, z * w + x, region);
-        x += 1;
     }
 }
 
@@ -107,20 +69,9 @@ fn paint_rect_region(
     ensures { let here = in_rect w count.now min_x max_x min_z max_z in
         ids.new ≡ put_if (walk_in area.now here) region ids.old }
 {
-    let mut z = min_z;
-    while z < max_z {
+    for z in min_z..max_z {
         paint_row(w, index, count, area, ids, min_x, max_x, z, region);
-        z += 1;
     }
-}
-
-fn smaller(a: usize, b: usize) -> usize
-    ensures { result ≡ min a b }
-{
-    if a < b {
-        return a;
-    }
-    b
 }
 
 // What the four strips are painted with: the flag of a border region plus the strip's number.
@@ -157,9 +108,9 @@ pub fn paint_border(
     if border_size == 0 {
         return NEXT_UNPAINTED;
     }
-    let b = wide16(border_size);
-    let border_width = smaller(b, w);
-    let border_height = smaller(b, h);
+    let b = border_size as usize;
+    let border_width = b.min(w);
+    let border_height = b.min(h);
     let right = w - border_width;
     let high = h - border_height;
     paint_rect_region(w, index, count, area, ids, 0, border_width, 0, h, LEFT);

@@ -14,8 +14,7 @@ use Rattle.rules.specs.Refusals.{too_wide, too_many, wrong_length, wrong_cells, 
 use Rattle.rules.specs.Plain.{most_rooms, plain_rooms, rooms_refusal, RoomsOutcome, rooms_outcome}
 use Rattle.laws.proofs.Basics.{if-ind, get_d_any}
 use Rattle.field.specs.Lent.{lent}
-use Rattle.plain.specs.declared.RoomsAnswer.{RoomsAnswer}
-use Rattle.plain.specs.declared.RoomsAnswer.TheVariants.{Refused}
+use Rattle.std.specs.Prelude.{Result, Err}
 use Rattle.plain.specs.PlainRooms.{PlainRooms}
 use Rattle.plain.specs.Answer.{rooms_refused_by, outcome, GivesPlainRooms}
 use Rattle.checker.specs.declared.Refusal.{Refusal}
@@ -65,7 +64,7 @@ module _ (F : Field) (border : ℕ) (ws ids : List ℕ) where
       (λ _ h. omega (arith, h)))
 
   -- and so for a call: r, ws' and ids' are what it returns and leaves
-  module _ (r : RoomsAnswer) (ws' ids' : List ℕ) (e : outcome r ws' ids' ≡ rooms_outcome F border ws ids) where
+  module _ (r : Result ℕ Refusal) (ws' ids' : List ℕ) (e : outcome r ws' ids' ≡ rooms_outcome F border ws ids) where
     pub call_gives-plain_rooms : Bytes F → GivesPlainRooms F border r ids'
     call_gives-plain_rooms bytes = record {
       rooms = λ z.
@@ -77,5 +76,5 @@ module _ (F : Field) (border : ℕ) (ws ids : List ℕ) where
     call_few few z = outcome_few few (ap (λ (o : RoomsOutcome). o.refused) (sym e) ∙ z)
 
 -- a refusal gives no rooms
-pub refused_no_rooms : (F : Field) (border : ℕ) (r : Refusal) (l : List ℕ) → GivesPlainRooms F border (Refused r) l
+pub refused_no_rooms : (F : Field) (border : ℕ) (r : Refusal) (l : List ℕ) → GivesPlainRooms F border (Err r) l
 refused_no_rooms F border r l = record { rooms = λ z. absurd (omega (arith, number_pos r, z)) }

@@ -15,8 +15,7 @@ use Rattle.rules.specs.Plain.{rooms_refusal}
 use Rattle.laws.proofs.Basics.{if-ind}
 use Rattle.checker.specs.Answer.{number_of, verdict_number}
 use Rattle.checker.specs.declared.Refusal.{Refusal}
-use Rattle.checker.specs.declared.Verdict.{Verdict}
-use Rattle.checker.specs.declared.Verdict.TheVariants as verdict
+use Rattle.std.specs.Prelude.{Result, Ok, Err}
 use Rattle.checker.proofs.Numbers.{number_pos}
 use Rattle.field.proofs.Passed.{reached_of, sound_of, own_lengths}
 use Rattle.plain.specs.Stages.{Admitted}
@@ -34,17 +33,17 @@ pub told-once : (F : Field) (a : ℕ) → refusal F (a ∷ a ∷ []) ≡ refusal
 unfolding refusal
 told-once F a = rw (once F a)
 
-pub check_few : (F : Field) (a : ℕ) (v : Verdict) → verdict_number v ≡ refusal F (a ∷ a ∷ []) → v ≡ verdict.Sound → spans F ≤ most_spans
+pub check_few : (F : Field) (a : ℕ) (v : Result Unit Refusal) → verdict_number v ≡ refusal F (a ∷ a ∷ []) → v ≡ Ok tt → spans F ≤ most_spans
 check_few F a v e z = (reached_of F (a ∷ a ∷ []) (sym e ∙ ap verdict_number z)).celled.few
 
-module _ (F : Field) (a work : ℕ) (v : Verdict) (e : verdict_number v ≡ refusal F (a ∷ a ∷ [])) where
-  pub check_refused : (r : Refusal) → v ≡ verdict.Refused r → number_of r ≡ rooms_refusal F (a ∷ []) work
+module _ (F : Field) (a work : ℕ) (v : Result Unit Refusal) (e : verdict_number v ≡ refusal F (a ∷ a ∷ [])) where
+  pub check_refused : (r : Refusal) → v ≡ Err r → number_of r ≡ rooms_refusal F (a ∷ []) work
   unfolding rooms_refusal when◌then◌else◌
   check_refused r z =
       let n : number_of r ≡ refusal F (a ∷ []) = ap verdict_number (sym z) ∙ e ∙ told-once F a in
       rw (ne_eqb (refusal F (a ∷ [])) 0 (λ k. omega (arith, number_pos r))) n
 
-  module _ (z : v ≡ verdict.Sound) where
+  module _ (z : v ≡ Ok tt) where
     none : eqb (refusal F (a ∷ [])) 0 ≡ true
     none = eq-eqb (refusal F (a ∷ [])) 0 (sym (told-once F a) ∙ sym e ∙ ap verdict_number z)
 
@@ -74,7 +73,7 @@ module _ (F : Field) (a work : ℕ) (e : rooms_refusal F (a ∷ []) work ≡ 0) 
     | no h ↦ omega (arith, h)
   ]
 
-pub rooms_admitted : (F : Field) (ws ids : List ℕ) (v : Verdict) → verdict_number v ≡ rooms_refusal F (length ids ∷ []) (length ws) → v ≡ verdict.Sound → Admitted F ws ids
+pub rooms_admitted : (F : Field) (ws ids : List ℕ) (v : Result Unit Refusal) → verdict_number v ≡ rooms_refusal F (length ids ∷ []) (length ws) → v ≡ Ok tt → Admitted F ws ids
 rooms_admitted F ws ids v e z =
     let n : rooms_refusal F (length ids ∷ []) (length ws) ≡ 0 = sym e ∙ ap verdict_number z in
     let p = rooms_accepted F (length ids) (length ws) n in

@@ -14,7 +14,8 @@ use Rattle.rules.specs.Refusals.{refusal}
 use Rattle.rules.specs.Plain.{rooms_refusal, RoomsOutcome, rooms_outcome}
 use Rattle.laws.proofs.Basics.{if-ind, nonzero_in}
 use Rattle.extents.proofs.Finished.{Finished, Measured, finished_measured, sound_none}
-use Rattle.plain.specs.declared.RoomsAnswer.{RoomsAnswer}
+use Rattle.std.specs.Prelude.{Result}
+use Rattle.checker.specs.declared.Refusal.{Refusal}
 use Rattle.plain.specs.PlainRooms.{PlainRooms}
 use Rattle.plain.specs.Answer.{rooms_refused_by, rooms_most_in, outcome, GivesPlainRooms}
 use Rattle.plain.proofs.Checks.{rooms_accepted}
@@ -50,7 +51,7 @@ module _ (F : Field) (border : ℕ) where
     plain_measured bytes e = finished_measured F _ _ (plain-finished _ _ (outcome_rooms F border ws ids bytes e) (plain_sound e))
 
     -- and so for a call, by the two sentences of its promise: r and ids' are what it returns and leaves
-    pub call_measured : (r : RoomsAnswer) (ws' ids' : List ℕ) → outcome r ws' ids' ≡ rooms_outcome F border ws ids → GivesPlainRooms F border r ids' → rooms_refused_by r ≡ 0
+    pub call_measured : (r : Result ℕ Refusal) (ws' ids' : List ℕ) → outcome r ws' ids' ≡ rooms_outcome F border ws ids → GivesPlainRooms F border r ids' → rooms_refused_by r ≡ 0
         → Measured F ids' (rooms_most_in r)
     call_measured r ws' ids' e g z =
         finished_measured F ids' (rooms_most_in r) (plain-finished ids' (rooms_most_in r) (g.rooms z) (plain_sound (sym (ap (λ (o : RoomsOutcome). o.refused) e) ∙ z)))

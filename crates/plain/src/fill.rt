@@ -6,7 +6,6 @@ ghost use Rattle.net.specs.Table.{net_at};
 ghost use Rattle.plain.specs.Stack.{Held, Filling, Waits, fill_at, rooms_at};
 
 use field::place::{NO_SPAN, SpanIx};
-use field::read::at16;
 use net::neighbour;
 
 // What all spans of a room have.
@@ -84,9 +83,10 @@ fn fill_room(area: &[u8], ids: &mut [u16], ws: &mut [u16], table: usize, from: S
     let room = Room { area: area[s], id };
     ids[s] = id;
     ws[0] = s as u16;
+    // A stack: it runs until no span waits.
     let mut top: usize = 1;
     while 0 < top {
-        let c = at16(ws, top - 1);
+        let c = ws[top - 1] as usize;
         top = join_all(area, ids, ws, table, SpanIx(c), room, top - 1);
     }
 }
@@ -123,10 +123,8 @@ pub(crate) fn number_rooms(area: &[u8], ids: &mut [u16], ws: &mut [u16], table: 
     ensures ws_unchanged { drop (length area.now) ws.new ≡ drop (length area.now) ws.old }
 {
     let mut most: u16 = 0;
-    let mut s: usize = 0;
-    while s < area.len() {
+    for s in 0..area.len() {
         most = begin_room(area, ids, ws, table, s, most);
-        s += 1;
     }
     most
 }

@@ -11,46 +11,28 @@ ghost use Rattle.field.specs.Lent.{lent};
 ghost use Rattle.checker.specs.Answer.{verdict_number};
 ghost use Rattle.plain.specs.Stages.{Admitted, Finds};
 ghost use Rattle.plain.specs.Answer.{outcome, GivesPlainRooms};
+ghost use Rattle.field.specs.Seen.{seen};
 
 use crate::fill::number_rooms;
-use checker::{Refusal, Verdict, check};
+use checker::{Refusal, check};
+use field::lent::Heightfield;
 use net::fill::fill_neighbours;
 use paint::paint_border;
 use space::{clear, copy, copy_part};
-
-// What the entry gives: the refusal, or max_region.
-#[derive(Clone, Copy)]
-pub enum RoomsAnswer {
-    Refused(Refusal),
-    Done(u16),
-}
 
 // Ids of rooms are below the flag.
 const MOST_ROOMS: u16 = 32767;
 
 // The first of refusals 1 to 7 that applies; work and own are the lengths of the workspace and of the list of ids.
-fn check_rooms(
-    w: usize,
-    h: usize,
-    index: &[u32],
-    count: &[u8],
-    area: &[u8],
-    con: &[u8],
-    work: usize,
-    own: usize,
-) -> Verdict
-    ensures { let F = lent w h index.now count.now area.now con.now in
+fn check_rooms(field: &Heightfield, work: usize, own: usize) -> Result<(), Refusal>
+    ensures { let F = seen field.now in
         verdict_number result ≡ rooms_refusal F (own ∷ []) work }
 {
-    match check(w, h, index, count, area, con, own, own) {
-        Verdict::Refused(r) => Verdict::Refused(r),
-        Verdict::Sound => {
-            if work < 128 * area.len() + 4096 {
-                return Verdict::Refused(Refusal::TooShort);
-            }
-            Verdict::Sound
-        }
+    check(field, own, own)?;
+    if work < 128 * field.area.len() + 4096 {
+        return Err(Refusal::TooShort);
     }
+    Ok(())
 }
 
 // The ids that stand in the workspace from kept on are put back.
@@ -64,28 +46,26 @@ fn put_back(ws: &[u16], kept: usize, ids: &mut [u16])
 
 // The rooms of a field that is not refused; gives how many there are. In the workspace the spans that wait come first, then the caller's ids,
 // which are put back where there are too many rooms, then the table of neighbours.
-fn find_rooms(
-    w: usize,
-    h: usize,
-    index: &[u32],
-    count: &[u8],
-    area: &[u8],
-    con: &[u8],
-    border_size: u16,
-    ws: &mut [u16],
-    ids: &mut [u16],
-) -> u16
-    requires { Admitted (lent w h index.now count.now area.now con.now) ws.old ids.old }
-    ensures { let F = lent w h index.now count.now area.now con.now in
+fn find_rooms(field: &Heightfield, border_size: u16, ws: &mut [u16], ids: &mut [u16]) -> u16
+    requires { Admitted (seen field.now) ws.old ids.old }
+    ensures { let F = seen field.now in
         Finds F border_size ids.old result ids.new }
 {
-    let n = area.len();
+    let n = field.area.len();
     let table = 2 * n;
     copy_part(ids, ws, n);
     clear(ids);
-    paint_border(w, h, index, count, area, ids, border_size);
-    fill_neighbours(w, h, index, count, area, con, ws, table);
-    let most = number_rooms(area, ids, ws, table);
+    paint_border(
+        field.w,
+        field.h,
+        field.index,
+        field.count,
+        field.area,
+        ids,
+        border_size,
+    );
+    fill_neighbours(field, ws, table);
+    let most = number_rooms(field.area, ids, ws, table);
     if MOST_ROOMS < most {
         put_back(ws, n, ids);
     }
@@ -94,51 +74,21 @@ fn find_rooms(
 
 // Ids of the rooms of any lists: a field that is refused leaves ids and workspace as they were.
 pub fn build_rooms(
-    w: u16,
-    h: u16,
-    index: &[u32],
-    count: &[u8],
-    area: &[u8],
-    con: &[u8],
+    field: &Heightfield,
     border_size: u16,
     workspace: &mut [u16],
     ids: &mut [u16],
-) -> RoomsAnswer
-    ensures ids_after { let F = lent w h index.now count.now area.now con.now in
+) -> Result<u16, Refusal>
+    ensures ids_after { let F = seen field.now in
         outcome result workspace.new ids.new ≡ rooms_outcome F border_size workspace.old ids.old }
-    ensures rooms { let F = lent w h index.now count.now area.now con.now in
+    ensures rooms { let F = seen field.now in
         GivesPlainRooms F border_size result ids.new }
 {
-    let width = w as usize;
-    let height = h as usize;
-    match check_rooms(
-        width,
-        height,
-        index,
-        count,
-        area,
-        con,
-        workspace.len(),
-        ids.len(),
-    ) {
-        Verdict::Refused(r) => RoomsAnswer::Refused(r),
-        Verdict::Sound => {
-            let most = find_rooms(
-                width,
-                height,
-                index,
-                count,
-                area,
-                con,
-                border_size,
-                workspace,
-                ids,
-            );
-            clear(workspace);
-            if MOST_ROOMS < most {
-                return RoomsAnswer::Refused(Refusal::NoIds);
-            }
-            RoomsAnswer::Done(most)
-        }
+    check_rooms(field, workspace.len(), ids.len())?;
+    let most = find_rooms(field, border_size, workspace, ids);
+    clear(workspace);
+    if MOST_ROOMS < most {
+        return Err(Refusal::NoIds);
     }
+    Ok(most)
 }

@@ -76,12 +76,6 @@ module _ (m n k i j to z : ℕ) (ws : List ℕ) (T : Target m n i to z ws) (Q : 
 
   -- ---- the two table entries
 
-  pub absorb_fits : (r : ℕ) → (to ≤ r) × (r ≤ to + len_at ws m n + len_at ws m i) → r < 4294967296
-  absorb_fits r b = omega (arith, b.1, T.room, T.fits)
-
-  pub absorb_table : (ws₁ : List ℕ) → length ws₁ ≡ length ws → 7 * m + 4 * m ≤ length ws₁
-  absorb_table ws₁ l = rw l T.lists.room
-
   module _ (ws₁ ws₂ ws₃ : List ℕ) (old new r : ℕ) (l : part to r ws₁ ≡ joined_list (list_at ws m (7 * m) n) (list_at ws m (7 * m) i) k j old new)
       (b : (to ≤ r) × (r ≤ to + len_at ws m n + len_at ws m i)) (f₁ : Frame to z ws ws₁) (P₁ : Placed m (7 * m) n to r ws₁ ws₂) (P₂ : Placed m (7 * m) i r r ws₂ ws₃) where
     low : (y : ℕ) → y < 11 * m → get_or ws₁ y 0 ≡ get_or ws y 0

@@ -429,9 +429,6 @@ hand_start m n i ws O = record {
   frame = frame_none 0 m ws;
 }
 
-pub hand_room : (m n i y v : ℕ) (ws₀ ws : List ℕ) → Owners m n i ws₀ → length ws ≡ length ws₀ → 6 * m + m ≤ length (set ws y v)
-hand_room m n i y v ws₀ ws O l = rw (length-set ws y v, l) O.room
-
 module _ (m n i y next : ℕ) (ws₀ ws : List ℕ) (O : Owners m n i ws₀) (H : Handing m i n ws₀ ws y) (l : length ws ≡ length ws₀) (e : next ≡ next_of (set ws y n) m y) where
   y_in : y < m
   y_in = (H.walked.here H.some).0

@@ -14,7 +14,7 @@ use Rattle.space.proofs.Laws.{get_or_before, get_d_after, frame_then}
 use Rattle.laws.specs.Sums.{sum_to}
 use Rattle.table.specs.View.{part, start_of, end_of, list_at, Parts, Placed}
 use Rattle.table.proofs.ViewLaws.{wide-same, list_same, part-after}
-use Rattle.pool.specs.Part.{CopyRoom, renamed_list}
+use Rattle.pool.specs.Part.{renamed_list}
 use Rattle.pool.specs.Pool.{without, len_at, rest_to, new_list, Source, Moved, Next, Sources, There, Carried}
 
 pub new_dead : (old new id : ℕ) (l : List ℕ) → id ≡ 0 → l ≡ new_list old new id l
@@ -28,9 +28,6 @@ new_live old new id l k n e = rw (ne_eqb id 0 n) e
 -- ---- one record
 
 module _ (ws : List ℕ) (m x to z a e : ℕ) (S : Source m x to z ws) (p : a ≡ start_of ws m (7 * m) x) (q : e ≡ end_of ws m (7 * m) x) where
-  pub source_clear : CopyRoom a e to z ws
-  source_clear = rw (p, q) S.clear
-
   len_is : len_at ws m x ≡ e - a
   unfolding len_at
   len_is = rw (p, q)
@@ -63,18 +60,6 @@ module _ (ws : List ℕ) (m x to z a e : ℕ) (S : Source m x to z ws) (p : a �
           ∙ ⊎_elim (λ (h : j < to). get_or_before j both h) (λ (h : to + len_at ws m x ≤ j). get_d_after j both (omega (arith, len_is))) o.1;
     }
 
--- ---- any but i and n
-
-module _ (m x i n old new to z : ℕ) (ws : List ℕ) where
-  pub next_i : x ≡ i → Next m x i n old new to to ws ws
-  next_i e = record { skipped = λ _. (refl, refl); moved = λ p _. absurd (p e) }
-
-  pub next_n : x ≡ n → Next m x i n old new to to ws ws
-  next_n e = record { skipped = λ _. (refl, refl); moved = λ _ p. absurd (p e) }
-
-  pub next_moved : (x ≡ i → ⊥) → (x ≡ n → ⊥) → (r : ℕ) (ws' : List ℕ) → Moved m x old new to r ws ws' → Next m x i n old new to r ws ws'
-  next_moved p q r ws' M = record { skipped = λ w. ⊎_elim (λ (e : x ≡ i). absurd (p e)) (λ (e : x ≡ n). absurd (q e)) w; moved = λ _ _. M }
-
 -- ---- all of them
 
 pub without-same : (f : ℕ → ℕ) (i : ℕ) → without f i i ≡ 0
@@ -95,17 +80,6 @@ rest_skip ws m i n c = omega arith
 
 past_it : (c x : ℕ) → c ≤ x → (x ≡ c → ⊥) → suc c ≤ x
 past_it c x h n = omega arith
-
-pub carried_none : (m i n old new lo z : ℕ) (ws : List ℕ) → Sources m i n lo z ws → Carried m i n m old new lo lo z ws ws
-carried_none m i n old new lo z ws S = record {
-  order = omega arith;
-  room = S.room;
-  there = λ x h g _ _. absurd (omega arith);
-  starts = λ x _ _. refl;
-  stops = λ x _ _. refl;
-  apart = λ x y a b g _ _ _ _. absurd (omega arith);
-  kept = λ j _. refl;
-}
 
 module _ (m i n c old new lo hi z : ℕ) (ws₀ ws : List ℕ) (S : Sources m i n lo z ws₀) (l : length ws ≡ length ws₀) (h : c < m) (C : Carried m i n (suc c) old new lo hi z ws₀ ws) where
   -- the next one waits as it was
@@ -251,6 +225,3 @@ module _ (m i n x old new lo hi z : ℕ) (ws₀ ws : List ℕ) (C : Carried m i 
 
   pub carry_go : (r : ℕ) (ws' : List ℕ) → Next m (x - 1) i n old new hi r ws ws' → length ws' ≡ length ws → Carried m i n (x - 1) old new lo r z ws₀ ws'
   carry_go r ws' N l' = next_go m i n (x - 1) old new lo hi z ws₀ ws S l (omega arith) before r ws' l' N
-
-pub carry_done : (m i n x old new lo hi z : ℕ) (ws₀ ws : List ℕ) → Carried m i n x old new lo hi z ws₀ ws → x ≤ 0 → Carried m i n 0 old new lo hi z ws₀ ws
-carry_done m i n x old new lo hi z ws₀ ws C h = let e : x ≡ 0 = omega arith in rw e at C

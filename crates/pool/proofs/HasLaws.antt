@@ -1,16 +1,13 @@
 -- Where an id stands in a list, and whether it does, entry by entry; and two laws on equal results that no one stage owns.
-use Prim.Native.Nat.{ℕ, suc, ◌<◌}
-use native.Mathlib.Omega.{arith}
+use Prim.Native.Nat.{ℕ}
 use mathlib.Core.Path.{◌≡◌, refl, sym, ap, ◌∙◌}
-use mathlib.Core.Bool.{Bool, true, false}
+use mathlib.Core.Bool.{Bool, true}
 use mathlib.Core.List.{List, [], ◌∷◌, ◌++◌, map}
-use lib.ListN.{length, get_or}
 use lib.Dec.{eqb}
 use Rattle.rules.specs.Base.{◌or◌, any}
 use Rattle.rules.specs.Records.{has}
 use Rattle.rules.specs.Numbering.{Regions}
 use Rattle.laws.proofs.Basics.{or_no, or_swap}
-use Rattle.table.proofs.SearchLaws.{has_cons}
 
 pub or-first : (b : Bool) → true or b ≡ true
 unfolding ◌or◌
@@ -22,11 +19,6 @@ has_end [] r v = or_no (eqb v r)
 has_end (x ∷ l) r v = ap (λ (b : Bool). eqb v x or b) (has_end l r v) ∙ sym (or_swap (eqb v x) (has l v) (eqb v r))
 
 -- no entry is v
-pub has-not : (l : List ℕ) (v : ℕ) → ((x : ℕ) → x < length l → get_or l x 0 ≡ v → ⊥) → has l v ≡ false
-unfolding any
-has-not [] v h = refl
-has-not (y ∷ l) v h = has_cons y l v (h 0 (omega arith)) ∙ has-not l v (λ x g. h (suc x) (omega arith))
-
 pub map_same : (f g : ℕ → ℕ) (l : List ℕ) → ((x : ℕ) → f x ≡ g x) → map f l ≡ map g l
 map_same f g [] h = refl
 map_same f g (x ∷ l) h = rw (h x, map_same f g l h)

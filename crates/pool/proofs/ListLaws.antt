@@ -2,19 +2,24 @@
 use Prim.Native.Nat.{ℕ, zero, suc, ◌+◌, ◌-◌, ◌≤◌, ◌<◌}
 use native.Mathlib.Omega.{arith}
 use native.Mathlib.Numerals.{add-one}
+use native.Mathlib.Decide.{ℕ_discrete}
 use mathlib.Core.Path.{◌≡◌, refl, sym, ap, ◌∙◌}
 use mathlib.Core.Bool.{Bool, true, false}
 use mathlib.Core.List.{List, [], ◌∷◌, ◌++◌, map, append_assoc, append-nil}
 use lib.ListN.{drop_of_length-le, length, get_or, set, take, drop}
 use lib.Seq.{get_or-take, take-take, drop-cons, take-suc-set, drop-set-lt, length-take-le}
 use lib.Dec.{eqb}
-use borrow.Author.Tests.{le-ltb}
+use borrow.Author.Tests.{le-ltb, eq-eqb, ne_eqb}
 use Rattle.rules.specs.Base.{◌and◌, when◌then◌else◌, many}
 use Rattle.rules.specs.Contour.{trim}
 use Rattle.rules.specs.Merge.{tidy}
 use Rattle.laws.specs.Squeeze.{squeeze}
 use Rattle.laws.proofs.Tidy.{tidy_is, trim_same, trim-other}
-use Rattle.pool.specs.Lists.{map_to, again}
+use Rattle.pool.specs.Lists.{map_to, again, swap_one}
+use Rattle.std.specs.List.{count_by}
+use Rattle.std.proofs.lemmas.List.{get_or_default}
+use Rattle.std.proofs.lemmas.List.Recursion.{is_count_by}
+use Rattle.std.proofs.lemmas.List.Edits.{map_over_more}
 
 -- ---- adjacent duplicates
 
@@ -45,10 +50,6 @@ module _ (l : List ℕ) (i : ℕ) where
         let hi : w < suc i = omega arith in
         rw (add-one w, add-one i, take-suc-set l w (get_or l i 0) hw, drop-set-lt (suc i) l w (get_or l i 0) hi, drop-cons l i 0 h, ← e, t) (append_assoc (take w l) _ _)
 
-pub squeeze_go : (l l' l₀ : List ℕ) (w r i : ℕ) → take w l ++ squeeze (drop i l) ≡ squeeze l₀
-    → take r l' ++ squeeze (drop (i + 1) l') ≡ take w l ++ squeeze (drop i l) → take r l' ++ squeeze (drop (i + 1) l') ≡ squeeze l₀
-squeeze_go l l' l₀ w r i e f = f ∙ e
-
 pub squeeze_done : (l l₀ : List ℕ) (w i : ℕ) → take w l ++ squeeze (drop i l) ≡ squeeze l₀ → length l ≤ i → take w l ≡ squeeze l₀
 unfolding squeeze
 squeeze_done l l₀ w i e h = rw (drop_of_length-le l h, append-nil) at e
@@ -72,6 +73,20 @@ pub tidy-joins : (l l' : List ℕ) (k r : ℕ) → take k l' ≡ squeeze l → t
 tidy-joins l l' k r e f = f ∙ ap trim e ∙ sym (tidy_is l)
 
 -- ---- a list under f, entry by entry
+
+pub swapped_more : (f : ℕ → ℕ) (xs ys : List ℕ) (i v : ℕ) → i < length xs → length ys ≡ length xs → ys ≡ map f (take i xs) ++ drop i xs → v ≡ f (get_or ys i 0)
+    → set ys i v ≡ map f (take (i + 1) xs) ++ drop (i + 1) xs
+swapped_more f xs ys i v h n e g = ap (λ (z : ℕ). set ys i z) g ∙ map_over_more f xs ys i (get_or ys i 0) h e (get_or_default ys i 0 (get_or ys i 0) (omega arith))
+
+pub swap-hit : (old new r v : ℕ) → r ≡ old → v ≡ new → v ≡ swap_one old new r
+unfolding swap_one when◌then◌else◌
+swap-hit old new r v h e = rw (eq-eqb r old h) e
+
+pub swap-miss : (old new r v : ℕ) → (r ≡ old → ⊥) → v ≡ r → v ≡ swap_one old new r
+unfolding swap_one when◌then◌else◌
+swap-miss old new r v h e = rw (ne_eqb r old h) e
+
+-- the first i entries under f, for loops by index: numbering and watershed have them
 
 pub map_to-at : (f : ℕ → ℕ) (i j : ℕ) (l : List ℕ) → i ≤ j → get_or (map_to f i l) j 0 ≡ get_or l j 0
 unfolding map_to
@@ -111,18 +126,9 @@ map_to-end f l₀ l i e n h = e ∙ map_to_all f i l₀ (omega arith)
 
 -- ---- how often
 
-many_by : (b : Bool) (k n x y : ℕ) → n ≡ (when b then suc k else k) → x ≡ (when b then suc y else y) → n + y ≡ k + x
-unfolding when◌then◌else◌
-many_by true k n x y e f = omega arith
-many_by false k n x y e f = omega arith
-
-pub many_go : (l : List ℕ) (r i k n : ℕ) → k + many (eqb r) (drop i l) ≡ many (eqb r) l → i < length l → n ≡ (when eqb r (get_or l i 0) then suc k else k)
-    → n + many (eqb r) (drop (i + 1) l) ≡ many (eqb r) l
-unfolding many
-many_go l r i k n e h q =
-    let z : many (eqb r) (drop i l) ≡ (when eqb r (get_or l i 0) then suc (many (eqb r) (drop (i + 1) l)) else many (eqb r) (drop (i + 1) l)) = rw (drop-cons l i 0 h, add-one i) refl in
-    many_by (eqb r (get_or l i 0)) k n (many (eqb r) (drop i l)) (many (eqb r) (drop (i + 1) l)) q z ∙ e
-
-pub many-end : (l : List ℕ) (r i k : ℕ) → k + many (eqb r) (drop i l) ≡ many (eqb r) l → length l ≤ i → k ≡ many (eqb r) l
-unfolding many
-many-end l r i k e h = let z : many (eqb r) (drop i l) ≡ 0 = rw (drop_of_length-le l h) refl in omega arith
+pub many-count : (r : ℕ) (l : List ℕ) → many (eqb r) l ≡ count_by (λ x. eqb x r) l
+unfolding many when◌then◌else◌
+many-count r = is_count_by (many (eqb r)) (λ x. eqb x r) refl (λ x xs. elim (ℕ_discrete r x) [
+  | yes d ↦ rw (eq-eqb r x d, eq-eqb x r (sym d)) (omega arith)
+  | no d ↦ rw (ne_eqb r x d, ne_eqb x r (λ p. d (sym p))) refl
+])

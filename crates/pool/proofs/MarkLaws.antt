@@ -3,14 +3,14 @@
 use Prim.Native.Nat.{ℕ, ◌+◌, ◌*◌, ◌≤◌, ◌<◌}
 use native.Mathlib.Omega.{arith}
 use mathlib.Core.Path.{◌≡◌, refl, sym, ap, ◌∙◌}
-use mathlib.Core.Logic.{⊎_elim, ◌⊎◌, inl, inr}
+use mathlib.Core.Logic.{⊎_elim, inl, inr}
 use mathlib.Core.Bool.{Bool, true, false, not}
 use mathlib.Core.List.{List}
 use lib.ListN.{length, get_or, set, length-set}
 use lib.Seq.{get_or-set_same, get_or-set_other}
 use lib.Dec.{eqb}
 use borrow.Author.Tests.{eqb-true}
-use Rattle.rules.specs.Base.{◌or◌, when◌then◌else◌}
+use Rattle.rules.specs.Base.{when◌then◌else◌}
 use Rattle.laws.proofs.Basics.{or_no, or_yes}
 use Rattle.laws.proofs.Sums.{sum_same}
 use Rattle.table.specs.View.{start_of, end_of, list_at, Parts}
@@ -143,6 +143,3 @@ module _ (ws : List ℕ) (m n i : ℕ) where
   pub mark_carried : (get_or ws (15 * m + i) 0 ≡ 0 → ⊥) → set (set ws (15 * m + n) 1) (15 * m + i) 0 ≡ remarked m n i ws
   unfolding remarked when◌then◌else◌
   mark_carried e = rw (borrow.Author.Tests.ne_eqb (get_or ws (15 * m + i) 0) 0 e)
-
-  pub mark_in : 16 * m ≤ length ws → i < m → 15 * m + i < length (set ws (15 * m + n) 1)
-  mark_in h g = rw (length-set ws (15 * m + n) 1) (omega arith)

@@ -9,7 +9,7 @@ use lib.ListN.{length, get_or, replicate, length-replicate, get_or-replicate}
 use lib.Seq.{get_or-take}
 use borrow.Rule.Slice.PartMut.{put_mid, mid_of}
 use Rattle.space.specs.Space.{Frame}
-use Rattle.space.proofs.Laws.{get_or_before, get_d_after, get_or-sec, length-sec, frame_none, frame_then, frame_wider, frame_put}
+use Rattle.space.proofs.Laws.{get_or_before, get_d_after, get_or-sec, length-sec, frame_then, frame_wider, frame_put}
 use Rattle.table.specs.View.{start_of, end_of}
 use Rattle.table.proofs.ViewLaws.{wide-same}
 use Rattle.pool.specs.Pool.{Owned, OwnedPart, Halves, Standing}
@@ -66,20 +66,8 @@ module _ (h o a e x : ℕ) (ws ys : List ℕ) (b : h ≤ a) (c : a ≤ e) (d : o
 
 -- as the code has it
 module _ (m p x h o a e : ℕ) (ws : List ℕ) (S : Standing m p h o ws) (g : x < m) (qa : a ≡ start_of ws m (7 * m) x) (qe : e ≡ end_of ws m (7 * m) x) where
-  pub own_from : h ≤ a
-  own_from = omega (arith, S.from x g)
-
-  pub own_order : a ≤ e
-  own_order = omega (arith, S.rows.lists.order x g)
-
   pub own_in : o + (e - h) ≤ length ws
   own_in = omega (arith, S.upto x g, S.halves.into')
-
-  pub own_fits : x < 65536
-  own_fits = omega (arith, S.few)
-
-  pub own_marked : (ws' : List ℕ) → OwnedPart h o a e x ws ws' → OwnedPart h o (start_of ws m (7 * m) x) (end_of ws m (7 * m) x) x ws ws'
-  own_marked ws' M = rw (← qa, ← qe) M
 
 -- ---- all of them
 
@@ -87,9 +75,6 @@ module _ (m p x h o a e : ℕ) (ws : List ℕ) (S : Standing m p h o ws) (g : x 
 pub record Owning (m p h o c : ℕ) (ws ws' : List ℕ) : Type 0 where
   pub own : (x q : ℕ) → x < c → start_of ws m (7 * m) x ≤ q → q < end_of ws m (7 * m) x → get_or ws' (o + (q - h)) 0 ≡ x
   pub kept : Frame o (o + p) ws ws'
-
-pub owning_none : (m p h o : ℕ) (ws : List ℕ) → Owning m p h o 0 ws ws
-owning_none m p h o ws = record { own = λ x q k. absurd (omega arith); kept = frame_none o (o + p) ws }
 
 -- what is written past the tables leaves the tables as they were
 module _ (m a e : ℕ) (ws ws' : List ℕ) (f : Frame a e ws ws') (past : 11 * m ≤ a) where
@@ -142,6 +127,3 @@ module _ (m p h o c : ℕ) (ws₀ ws : List ℕ) (S : Standing m p h o ws₀) (O
 
   pub owning_all : m ≤ c → Owned m h o (h + p) ws
   owning_all k = record { own = λ x q g a b _. O.own x q (omega arith) (rw (start-at x g) at a) (rw (end-at x g) at b) }
-
-  pub owning_kept : Frame o (o + p) ws₀ ws
-  owning_kept = O.kept

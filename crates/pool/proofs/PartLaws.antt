@@ -3,7 +3,7 @@ use Prim.Native.Nat.{ℕ, suc, ◌+◌, ◌-◌, ◌≤◌, ◌<◌}
 use native.Mathlib.Omega.{arith}
 use native.Mathlib.Decide.{ℕ_discrete}
 use mathlib.Core.Path.{◌≡◌, refl, sym, ap, ◌∙◌}
-use mathlib.Core.Logic.{⊎_elim, inl, inr}
+use mathlib.Core.Logic.{⊎_elim}
 use mathlib.Core.Bool.{true, false}
 use mathlib.Core.List.{List, [], ◌∷◌, ◌++◌, map}
 use lib.ListN.{length, get_or, set, take, drop, length-take}
@@ -26,10 +26,7 @@ use Rattle.table.proofs.SearchLaws.{has_cons, has-head, place_other, place-first
 pub copied_none : (a to : ℕ) (ws : List ℕ) → Copied a to 0 ws ws
 copied_none a to ws = record { each = λ j h. absurd (omega arith) }
 
-module _ (a e to z : ℕ) (ws₀ ws : List ℕ) (k n : ℕ) (c : CopyRoom a e to z ws₀) (s : length ws ≡ length ws₀) (q : n ≡ e - a) (h : k < n) where
-  pub copy_read : a + k < length ws
-  copy_read = omega (arith, c.order, c.from)
-
+module _ (a e to z : ℕ) (ws₀ ws : List ℕ) (k : ℕ) (c : CopyRoom a e to z ws₀) (s : length ws ≡ length ws₀) (h : k < e - a) where
   pub copy_write : to + k < length ws
   copy_write = omega (arith, c.order, c.room, c.into)
 
@@ -50,10 +47,10 @@ module _ (a e to z : ℕ) (ws₀ ws : List ℕ) (k n : ℕ) (c : CopyRoom a e to
     ];
   }
 
-pub copy_done : (a e to z : ℕ) (ws₀ ws : List ℕ) (k n : ℕ) → CopyRoom a e to z ws₀ → length ws ≡ length ws₀ → n ≡ e - a → k ≤ n → n ≤ k → Copied a to k ws₀ ws
+pub copy_done : (a e to z : ℕ) (ws₀ ws : List ℕ) (k : ℕ) → CopyRoom a e to z ws₀ → length ws ≡ length ws₀ → e - a ≤ k → Copied a to k ws₀ ws
     → part to (to + (e - a)) ws ≡ part a e ws₀
 unfolding part
-copy_done a e to z ws₀ ws k n c s q h₁ h₂ g =
+copy_done a e to z ws₀ ws k c s h g =
     let w : (to + (e - a)) - to ≡ e - a = omega arith in
     let l₁ : length (take (e - a) (drop to ws)) ≡ e - a = length-sec to (e - a) ws (omega (arith, c.room, c.into)) in
     let l₂ : length (take (e - a) (drop a ws₀)) ≡ e - a = length-sec a (e - a) ws₀ (omega (arith, c.order, c.from)) in
@@ -83,25 +80,7 @@ around_is a e k ws h =
     rw (p, q) refl
 
 module _ (a e k to z c d : ℕ) (ws : List ℕ) (C : CopyRoom a e to z ws) (h : a + k < e) (ec : c ≡ a + k + 1) (ed : d ≡ to + (e - c)) where
-  pub around-first : CopyRoom c e to z ws
-  around-first = record {
-    order = omega arith;
-    from = C.from;
-    room = omega (arith, C.room);
-    into = C.into;
-    apart = ⊎_elim (λ (l : e ≤ to). inl l) (λ (l : z ≤ a). inr (omega arith)) C.apart;
-  }
-
   module _ (ws₁ : List ℕ) (s₁ : length ws₁ ≡ length ws) where
-    pub around-second : CopyRoom a (a + k) d z ws₁
-    around-second = record {
-      order = omega arith;
-      from = omega (arith, C.from);
-      room = omega (arith, C.room);
-      into = rw s₁ C.into;
-      apart = ⊎_elim (λ (l : e ≤ to). inl (omega arith)) (λ (l : z ≤ a). inr l) C.apart;
-    }
-
     module _ (ws₂ : List ℕ) (f₁ : Frame to (to + (e - c)) ws ws₁) (p₁ : part to (to + (e - c)) ws₁ ≡ part c e ws)
         (f₂ : Frame d (d + ((a + k) - a)) ws₁ ws₂) (p₂ : part d (d + ((a + k) - a)) ws₂ ≡ part a (a + k) ws₁) where
       pub around_done : part to (d + k) ws₂ ≡ around (part a e ws) k
@@ -190,12 +169,6 @@ part_le a e m l h g = omega (arith, length-take (e - a) l)
 
 -- the same, as the code has it
 module _ (a e k to z : ℕ) (ws : List ℕ) (C : CopyRoom a e to z ws) (h : a + k < e) where
-  pub around_1 : CopyRoom (a + k + 1) e to z ws
-  around_1 = around-first a e k to z (a + k + 1) (to + (e - (a + k + 1))) ws C h refl refl
-
-  pub around_2 : (ws₁ : List ℕ) → length ws₁ ≡ length ws → CopyRoom a (a + k) (to + (e - (a + k + 1))) z ws₁
-  around_2 ws₁ s₁ = around-second a e k to z (a + k + 1) (to + (e - (a + k + 1))) ws C h refl refl ws₁ s₁
-
   module _ (ws₁ ws₂ : List ℕ) (s₁ : length ws₁ ≡ length ws) (f₁ : Frame to (to + (e - (a + k + 1))) ws ws₁) (p₁ : part to (to + (e - (a + k + 1))) ws₁ ≡ part (a + k + 1) e ws)
       (f₂ : Frame (to + (e - (a + k + 1))) (to + (e - (a + k + 1)) + ((a + k) - a)) ws₁ ws₂)
       (p₂ : part (to + (e - (a + k + 1))) (to + (e - (a + k + 1)) + ((a + k) - a)) ws₂ ≡ part a (a + k) ws₁) where
@@ -217,15 +190,6 @@ part-put-at a k m ws ys h g = let w : (a + m) - a ≡ m = omega arith in rw w (p
 
 module _ (a e k b f j to z : ℕ) (ws : List ℕ) (C : CopyRoom a e to z ws) (C' : CopyRoom b f to z ws) (h : a + k < e) (h' : b + j < f) (room : to + (e - a) + (f - b) ≤ z)
     (x : ℕ) (ws₁ : List ℕ) (ex : x + 1 ≡ to + (e - a)) (s₁ : length ws₁ ≡ length ws) where
-  pub join_clear : CopyRoom b f x z ws₁
-  join_clear = record {
-    order = C'.order;
-    from = rw s₁ C'.from;
-    room = omega arith;
-    into = rw s₁ C'.into;
-    apart = ⊎_elim (λ (l : f ≤ to). inl (omega arith)) (λ (l : z ≤ b). inr l) C'.apart;
-  }
-
   module _ (y : ℕ) (ws₂ : List ℕ) (ey : y + 1 ≡ x + (f - b)) (s₂ : length ws₂ ≡ length ws₁) (f₁ : Frame to x ws ws₁) (p₁ : part to x ws₁ ≡ around (part a e ws) k)
       (f₂ : Frame x y ws₁ ws₂) (p₂ : part x y ws₂ ≡ around (part b f ws₁) j) where
     pub join_order : to ≤ y
@@ -254,6 +218,3 @@ module _ (a e k b f j to z : ℕ) (ws : List ℕ) (C : CopyRoom a e to z ws) (C'
       join_frame =
           let ny : length ys ≡ y - to = ly ∙ length-sec to (y - to) ws₂ (omega (arith, join_within)) in
           frame_then (frame_wider to z f₁ (omega arith) (omega arith)) (frame_then (frame_wider to z f₂ (omega arith) (omega arith)) (frame_wider to z (frame_put to y ws₂ ys join_order join_within ny) (omega arith) (omega arith)))
-
-pub join_le : (to x y n g h : ℕ) (l : List ℕ) → x + 1 ≡ to + g → y + 1 ≡ x + h → 1 ≤ g → 1 ≤ h → n ≤ length (take (y - to) l) → to + n + 2 ≤ to + g + h
-join_le to x y n g h l p q i j m = omega (arith, length-take (y - to) l)

@@ -398,9 +398,6 @@ module _ (m p h o n k i j : ℕ) (ws ws₁ : List ℕ) (P : Pool m p h o ws) (L 
       let d : get_or ws₁ (m + i) 0 ≡ get_or ws (m + i) 0 = R.kept (m + i) (inl (omega (arith, L.pair.second)), inl (omega (arith, L.pair.second, H.past))) (inl (omega (arith, L.pair.second, H.past'))) (omega (arith, L.pair.second, P.halves.past, Y.past)) in
       omega (arith, P.spans, sum_split (count_at ws m) i n m L.pair.second L.pair.first L.pair.apart)
 
-  pub columns_in : length ws₁ ≡ length ws → 2 * m ≤ length ws₁
-  columns_in l = omega (arith, P.held.lists.room)
-
   -- after the lists and the counts, the pair can hand over
   module _ (b c links old new : ℕ) (Y : LinksPast m p h o links ws) (W : Sides h o b c) (R : Relisted m p n k i j old new b c links ws ws₁) (l : length ws₁ ≡ length ws) (ws₂ : List ℕ)
       (e : ws₂ ≡ set (set ws₁ (m + n) (get_or ws₁ (m + n) 0 + get_or ws₁ (m + i) 0)) (m + i) 0) (l₂ : length ws₂ ≡ length ws₁) where
@@ -457,31 +454,9 @@ module _ (m p h o b c n k i j links : ℕ) (ws ws₁ ws₂ ws₃ : List ℕ) (P 
   region_laid top D =
       marked_laid m n i ws₃ ws₄ marked p b c pool₃ top links (merged_laid m p h o b c n k i j links ws ws₁ ws₃ P Y W L R after l₁ (l₃ ∙ l₂) top D)
 
--- before it: each of the pair bears its own number, and the one's becomes the other's
-module _ (m p h o n k i j : ℕ) (ws : List ℕ) (P : Pool m p h o ws) (L : Listed m n k i j ws) where
-  pub pair_owners : Owners m n i ws
-  pair_owners = record {
-    bearers = P.bearers;
-    room = omega (arith, P.held.lists.room);
-    few = P.held.few;
-    first = L.pair.first;
-    second = L.pair.second;
-    apart = L.pair.apart;
-    own = own_first m p h o n k i j ws P L;
-    own' = own_second m p h o n k i j ws P L;
-    some = λ z. L.live' (own_first m p h o n k i j ws P L ∙ z);
-    some' = λ z. L.live (own_second m p h o n k i j ws P L ∙ z);
-  }
-
-  pub pair_old : get_or ws i 0 ≡ i
-  pair_old = own_second m p h o n k i j ws P L
-
 -- the marks lie in the workspace
 pub marks_in_lem : (m p h o : ℕ) (ws ws' : List ℕ) → Pool m p h o ws → length ws' ≡ length ws → 16 * m ≤ length ws'
 marks_in_lem m p h o ws ws' P l = omega (arith, P.halves.into, P.halves.past)
-
-pub recount_in : (ws : List ℕ) (m n i v : ℕ) → 2 * m ≤ length ws → i < m → m + i < length (set ws (m + n) v)
-recount_in ws m n i v h g = rw (length-set ws (m + n) v) (omega arith)
 
 -- ---- the half's size, which a merge leaves
 

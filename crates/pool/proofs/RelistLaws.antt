@@ -9,7 +9,7 @@ use mathlib.Core.List.{List, []}
 use lib.ListN.{length, get_or}
 use Rattle.laws.specs.Sums.{sum_to}
 use Rattle.laws.proofs.Sums.{sum_same}
-use Rattle.table.specs.View.{part, start_of, end_of, list_at, Parts}
+use Rattle.table.specs.View.{part, start_of, end_of, list_at}
 use Rattle.table.proofs.ViewLaws.{list_same, wide-same, part_none}
 use Rattle.space.specs.Space.{Frame}
 use Rattle.space.proofs.Laws.{sec-same, get_or_before, get_d_after}
@@ -27,15 +27,9 @@ use Rattle.pool.proofs.RenameLaws.{swept_less, swept_apart}
 use Rattle.pool.proofs.OwnLaws.{past_start, past_end, halves-same, halves-turn}
 use Rattle.pool.proofs.SumLaws.{sum_split, sum-two, without-two}
 
-pub len_sub : (ws : List ℕ) (m r a e : ℕ) → Parts m (7 * m) ws → r < m → a ≡ start_of ws m (7 * m) r → e ≡ end_of ws m (7 * m) r → a ≤ e
-len_sub ws m r a e P h p q = omega (arith, P.order r h)
-
 pub len_is : (ws : List ℕ) (m r a e : ℕ) → a ≡ start_of ws m (7 * m) r → e ≡ end_of ws m (7 * m) r → e - a ≡ len_at ws m r
 unfolding len_at
 len_is ws m r a e p q = rw (p, q)
-
-pub both_fit : (ws : List ℕ) (m n i r s w : ℕ) → r ≡ len_at ws m n → s ≡ len_at ws m i → r + s ≤ w → len_at ws m n + len_at ws m i ≤ w
-both_fit ws m n i r s w p q h = omega arith
 
 -- the joined list stays at to .. e, and all others are renamed, from lo to hi
 record Settled (m i n old new to e lo hi : ℕ) (ws ws' : List ℕ) : Type 0 where

@@ -7,7 +7,7 @@ use mathlib.Core.Path.{◌≡◌, refl, sym, ap, ◌∙◌}
 use mathlib.Core.Logic.{⊎_elim, ◌⊎◌, inl, inr}
 use mathlib.Core.Bool.{true, false}
 use mathlib.Core.List.{List, map}
-use lib.ListN.{length, get_or}
+use lib.ListN.{get_or}
 use Rattle.rules.specs.Records.{has}
 use Rattle.space.specs.Space.{Frame}
 use Rattle.space.proofs.Laws.{cases, get_or_before, get_d_after}
@@ -24,12 +24,6 @@ use Rattle.pool.proofs.MergeLaws.{tidy-has}
 -- ---- one record
 
 module _ (ws : List ℕ) (m x a e : ℕ) (S : Parts m (7 * m) ws) (h : x < m) (g : 11 * m ≤ start_of ws m (7 * m) x) (live : get_or ws x 0 ≡ 0 → ⊥) (p : a ≡ start_of ws m (7 * m) x) (q : e ≡ end_of ws m (7 * m) x) where
-  pub rename_order : a ≤ e
-  rename_order = omega (arith, S.order x h)
-
-  pub rename_within : e ≤ length ws
-  rename_within = omega (arith, S.within x h)
-
   module _ (ws₁ : List ℕ) (old new f : ℕ) (r : part a f ws₁ ≡ renamed_list old new (part a e ws)) (b : (a ≤ f) × (f ≤ e)) (F : Frame a e ws ws₁) where
     low : (j : ℕ) → j < 11 * m → get_or ws₁ j 0 ≡ get_or ws j 0
     low j k = get_or_before j F (omega arith)
@@ -102,9 +96,6 @@ module _ (m x i n old new : ℕ) (ws : List ℕ) where
 
   pub passed_n : x ≡ n → Passed m x i n old new ws ws
   passed_n e = record { skipped = λ _. refl; renamed = λ _ p. absurd (p e) }
-
-  pub passed_renamed : (x ≡ i → ⊥) → (x ≡ n → ⊥) → (ws' : List ℕ) → Renamed m x old new ws ws' → Passed m x i n old new ws ws'
-  passed_renamed p q ws' R = record { skipped = λ w. ⊎_elim (λ (e : x ≡ i). absurd (p e)) (λ (e : x ≡ n). absurd (q e)) w; renamed = λ _ _. R }
 
 pub row_far : (m x : ℕ) (ws : List ℕ) → Rows m ws → x < m → 11 * m ≤ start_of ws m (7 * m) x
 row_far m x ws R h = R.far x h

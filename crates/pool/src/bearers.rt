@@ -3,7 +3,6 @@ ghost use Rattle.std.specs.Prelude.{◌≡◌, ◌+◌, ◌≤◌, ◌<◌, leng
 ghost use Rattle.table.specs.Map.{nexts_at};
 ghost use Rattle.pool.specs.Bearers.{next_of, Handed, Joining, Owners};
 
-use table::at;
 use table::map::NEXTS;
 
 // The record that y names.
@@ -11,7 +10,7 @@ pub fn next_of(ws: &[u16], m: usize, y: usize) -> usize
     requires { (nexts_at m + m ≤ length ws.now) × (y < m) }
     ensures { (result ≡ next_of ws.now m y) × (result < 65536) }
 {
-    at(ws, NEXTS * m + y)
+    usize::from(ws[NEXTS * m + y])
 }
 
 // All that bear i bear the new id. Gives the last of them.
@@ -19,6 +18,7 @@ fn rename_ids(ws: &mut [u16], m: usize, i: usize, new: u16) -> usize
     requires { Owners m new i ws.old }
     ensures { Handed m i new result ws.old ws.new }
 {
+    // A chain: each record names the next.
     let mut y = i;
     loop {
         ws[y] = new;

@@ -23,11 +23,8 @@ pub(crate) fn copy(ws: &mut [u16], a: usize, e: usize, to: usize, limit: usize)
     ensures ws_after { part to (to + (e - a)) ws.new ≡ part a e ws.old }
     ensures frame { Frame to (to + (e - a)) ws.old ws.new }
 {
-    let n = e - a;
-    let mut k = 0;
-    while k < n {
+    for k in 0..e - a {
         ws[to + k] = ws[a + k];
-        k += 1;
     }
 }
 
@@ -51,6 +48,7 @@ pub(crate) fn replace_neighbour(ws: &mut [u16], a: usize, e: usize, names: Renam
     ensures lower_bound { (a ≤ result) × (result ≤ e) }
     ensures frame { Frame a e ws.old ws.new }
 {
+    // Not `contains`: `place` takes sixteen entries at a time.
     let k = place(&ws[a..e], names.old);
     if k == e - a {
         return e;

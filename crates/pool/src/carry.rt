@@ -18,9 +18,10 @@ fn rename_live(ws: &mut [u16], x: usize, a: usize, e: usize, names: Renaming) ->
     ensures frame { Frame a e ws.old ws.new }
 {
     if ws[x] == 0 {
-        return e;
+        e
+    } else {
+        replace_neighbour(ws, a, e, names)
     }
-    replace_neighbour(ws, a, e, names)
 }
 
 // Record x's list, carried to `to`, below `limit`. Gives where it ends.
@@ -49,13 +50,11 @@ fn carry_next(
     requires { (x ≡ pair.absorbed → ⊥) → (x ≡ pair.absorber → ⊥) → Source m x to limit ws.old }
     ensures { Next m x pair.absorbed pair.absorber names.old names.new to result ws.old ws.new }
 {
-    if x == pair.absorbed {
-        return to;
+    if x == pair.absorbed || x == pair.absorber {
+        to
+    } else {
+        carry_one(ws, m, x, names, to, limit)
     }
-    if x == pair.absorber {
-        return to;
-    }
-    carry_one(ws, m, x, names, to, limit)
 }
 
 // All records but the pair, the last first. Gives where the lists end.
@@ -71,9 +70,7 @@ pub(crate) fn carry_all(
     ensures { OthersCarried m pair names to result limit ws.old ws.new }
 {
     let mut e = to;
-    let mut x = m;
-    while 0 < x {
-        x -= 1;
+    for x in (0..m).rev() {
         e = carry_next(ws, m, x, pair, names, e, limit);
     }
     e

@@ -6,21 +6,20 @@ ghost use Rattle.pool.specs.Forms.{LinkRoomIn};
 
 use crate::Half;
 use space::clear_part;
-use table::{at, set_wide, wide};
+use table::{set_wide, wide};
 
 // Place q of the half becomes the last of its id, linked to the one that was. A flagged id is no record's, so it has no places.
 fn link_one(ws: &mut [u16], m: usize, half: Half, q: usize)
     requires { LinkRoomIn m half ws.old × (q < half.top - half.now) }
     ensures { LinkedOne m half.size half.now half.links q ws.old ws.new }
 {
-    let r = at(ws, half.now + q);
-    if m <= r {
-        return;
+    let r = usize::from(ws[half.now + q]);
+    if r < m {
+        let last = half.links + 2 * half.size + r;
+        let before = wide(ws, m, last);
+        set_wide(ws, half.size, half.links + q, before);
+        set_wide(ws, m, last, q + 1);
     }
-    let last = half.links + 2 * half.size + r;
-    let before = wide(ws, m, last);
-    set_wide(ws, half.size, half.links + q, before);
-    set_wide(ws, m, last, q + 1);
 }
 
 // All places of the half up to its top.
@@ -31,10 +30,7 @@ pub(crate) fn link_all(ws: &mut [u16], m: usize, half: Half)
 {
     let lasts = half.links + 2 * half.size;
     clear_part(ws, lasts, lasts + 2 * m);
-    let places = half.top - half.now;
-    let mut q = 0;
-    while q < places {
+    for q in 0..half.top - half.now {
         link_one(ws, m, half, q);
-        q += 1;
     }
 }

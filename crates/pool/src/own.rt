@@ -6,7 +6,6 @@ ghost use Rattle.pool.specs.Pool.{Owned, OwnedPart};
 ghost use Rattle.pool.specs.Forms.{StandingIn};
 
 use crate::Half;
-use space::fill;
 use table::map::LISTS;
 use table::{end_of, start_of};
 
@@ -17,7 +16,7 @@ pub(crate) fn own_part(ws: &mut [u16], half: Half, a: usize, e: usize, x: usize)
 {
     let from = half.other + (a - half.now);
     let until = half.other + (e - half.now);
-    fill(&mut ws[from..until], x as u16);
+    ws[from..until].fill(x as u16);
 }
 
 // The list of record x.
@@ -38,9 +37,7 @@ pub(crate) fn own_all(ws: &mut [u16], m: usize, half: Half)
     ensures owned { Owned m half.now half.other (half.now + half.size) ws.new }
     ensures frame { Frame half.other (half.other + half.size) ws.old ws.new }
 {
-    let mut x = 0;
-    while x < m {
+    for x in 0..m {
         own_one(ws, m, x, half);
-        x += 1;
     }
 }

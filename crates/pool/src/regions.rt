@@ -18,7 +18,7 @@ fn recount(ws: &mut [u16], m: usize, n: usize, i: usize)
     ensures { let sum = get_or ws.old (m + n) 0 + get_or ws.old (m + i) 0 in
         ws.new ≡ set (set ws.old (m + n) sum) (m + i) 0 }
 {
-    ws[m + n] = ws[m + n] + ws[m + i];
+    ws[m + n] += ws[m + i];
     ws[m + i] = 0;
 }
 
@@ -27,11 +27,10 @@ fn carry_mark(ws: &mut [u16], m: usize, n: usize, i: usize)
     requires { (pool_at m ≤ length ws.old) × (n < m) × (i < m) }
     ensures { ws.new ≡ remarked m n i ws.old }
 {
-    if ws[CUTS * m + i] == 0 {
-        return;
+    if ws[CUTS * m + i] != 0 {
+        ws[CUTS * m + n] = 1;
+        ws[CUTS * m + i] = 0;
     }
-    ws[CUTS * m + n] = 1;
-    ws[CUTS * m + i] = 0;
 }
 
 // The neighbour absorbs the record, which keeps count 0, no list and no mark; its id is renamed everywhere.

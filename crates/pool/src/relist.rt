@@ -34,9 +34,8 @@ fn relist_there(ws: &mut [u16], m: usize, pair: Pair, names: Renaming, half: Hal
     let there = Half {
         now: half.other,
         other: half.now,
-        size: half.size,
         top,
-        links: half.links,
+        ..half
     };
     own_all(ws, m, there);
     link_all(ws, m, there);
@@ -52,13 +51,7 @@ fn relist_here(ws: &mut [u16], m: usize, pair: Pair, names: Renaming, half: Half
 {
     let e = absorb(ws, m, pair, names, half.top, half.now + half.size);
     rename_all(ws, m, pair, half, names);
-    Half {
-        now: half.now,
-        other: half.other,
-        size: half.size,
-        top: e,
-        links: half.links,
-    }
+    Half { top: e, ..half }
 }
 
 // The one if there is room past the lists, or else the other.
@@ -69,7 +62,8 @@ pub(crate) fn relist(ws: &mut [u16], m: usize, pair: Pair, names: Renaming, half
 {
     let both = len_of(ws, m, pair.absorber) + len_of(ws, m, pair.absorbed);
     if both <= half.now + half.size - half.top {
-        return relist_here(ws, m, pair, names, half);
+        relist_here(ws, m, pair, names, half)
+    } else {
+        relist_there(ws, m, pair, names, half)
     }
-    relist_there(ws, m, pair, names, half)
 }

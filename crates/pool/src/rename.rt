@@ -10,7 +10,7 @@ use crate::bearers::next_of;
 use crate::build::replace_neighbour;
 use crate::{Half, Pair, Renaming};
 use table::map::LISTS;
-use table::{at, end_of, set_part, start_of, wide};
+use table::{end_of, set_part, start_of, wide};
 
 // In the list of record x, which is live, every old becomes new. The table is written only if the list ends elsewhere now.
 fn rename_list(ws: &mut [u16], m: usize, x: usize, names: Renaming)
@@ -20,27 +20,22 @@ fn rename_list(ws: &mut [u16], m: usize, x: usize, names: Renaming)
     let start = start_of(ws, m, LISTS * m, x);
     let end = end_of(ws, m, LISTS * m, x);
     let left = replace_neighbour(ws, start, end, names);
-    if left == end {
-        return;
+    if left != end {
+        set_part(ws, m, LISTS * m, x, start, left);
     }
-    set_part(ws, m, LISTS * m, x, start, left);
 }
+
+// The id of a record that is dead.
+const DEAD: u16 = 0;
 
 // The same, of any record but the pair; a dead record's list stays.
 fn rename_one(ws: &mut [u16], m: usize, x: usize, pair: Pair, names: Renaming)
     requires { Parts m (lists_at m) ws.old × (x < m) × (floor_parts_at m ≤ list_start ws.old m x) }
     ensures { Passed m x pair.absorbed pair.absorber names.old names.new ws.old ws.new }
 {
-    if ws[x] == 0 {
-        return;
+    if ws[x] != DEAD && x != pair.absorbed && x != pair.absorber {
+        rename_list(ws, m, x, names);
     }
-    if x == pair.absorbed {
-        return;
-    }
-    if x == pair.absorber {
-        return;
-    }
-    rename_list(ws, m, x, names);
 }
 
 // The list of the record that bears what the record at s bears. Beside a place that is in no list anything can stand.
@@ -48,11 +43,11 @@ fn rename_beside(ws: &mut [u16], m: usize, s: usize, pair: Pair, names: Renaming
     requires { Rows m ws.old × ((r : ℕ) → r < m → get_or ws.old r 0 < m) × (s < length ws.old) }
     ensures { MetBeside m s pair.absorbed pair.absorber names.old names.new ws.old ws.new }
 {
-    let y = at(ws, s);
-    if m <= y {
-        return;
+    let y = usize::from(ws[s]);
+    if y < m {
+        let x = usize::from(ws[y]);
+        rename_one(ws, m, x, pair, names);
     }
-    rename_one(ws, m, at(ws, y), pair, names);
 }
 
 // The lists of the records beside the places that named y, the last first.
@@ -60,6 +55,7 @@ fn rename_named(ws: &mut [u16], m: usize, y: usize, pair: Pair, half: Half, name
     requires { ReachedIn m pair half ws.old × (y < m) × (names.old ≡ names.new → ⊥) }
     ensures { NamedRenamed m y pair half names ws.old ws.new }
 {
+    // A chain: each place links to an earlier one, and 0 ends it.
     let mut q = wide(ws, m, half.links + 2 * half.size + y);
     while q != 0 {
         q -= 1;
@@ -73,6 +69,7 @@ pub(crate) fn rename_all(ws: &mut [u16], m: usize, pair: Pair, half: Half, names
     requires { SearchedIn m pair half names ws.old × (names.old ≡ names.new → ⊥) }
     ensures { OthersRenamed m pair names ws.old ws.new }
 {
+    // A chain: each record names the next, and 0 ends it.
     let mut y = names.old as usize;
     while y != 0 {
         rename_named(ws, m, y, pair, half, names);

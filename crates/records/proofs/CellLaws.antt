@@ -8,7 +8,7 @@ use mathlib.Core.Path.{◌≡◌, refl, sym, ap, ◌∙◌}
 use mathlib.Core.Bool.{Bool, true, false, not, false≢true}
 use mathlib.Core.List.{List, [], ◌∷◌, map}
 use lib.ListN.{length, get_or, set, take, drop, length-set, length-take}
-use lib.Seq.{ext_get_or, get_or-take, get_or-drop, take-suc-set}
+use lib.Seq.{get_or-take, get_or-drop, take-suc-set}
 use lib.Dec.{eqb, leb-suc-suc}
 use borrow.Author.Tests.{eqb-true, eq-eqb, ne_eqb, lt-ltb, le-ltb, leb-true, leb-false}
 use Rattle.rules.specs.Base.{◌and◌, ◌or◌, when◌then◌else◌, keep, tab, any}
@@ -32,24 +32,6 @@ module _ (r : ℕ) (b : Bool) (e : b ≡ flagged r) where
 
 -- ---------------------------------------------------------------- the ids of two cells
 
--- the lists are the same before i
-pub record Agree (l k : List ℕ) (i : ℕ) : Type 0 where
-  pub within : i ≤ length l
-  pub same : (x : ℕ) → x < i → get_or k x 0 ≡ get_or l x 0
-
-pub agree_start : (l k : List ℕ) → Agree l k 0
-agree_start l k = record { within = omega arith; same = λ x h. absurd (omega arith) }
-
-module _ (l k : List ℕ) (i : ℕ) (v : Agree l k i) where
-  pub agree_next : i < length l → get_or k i 0 ≡ get_or l i 0 → Agree l k (i + 1)
-  agree_next h e = record { within = omega arith; same = λ x g. elim (ℕ_discrete x i) [ yes z ↦ rw z e | no z ↦ v.same x (omega arith) ] }
-
-  pub agree_end : length k ≡ length l → length l ≤ i → k ≡ l
-  agree_end e h = ext_get_or 0 k l e (λ x g. v.same x (omega arith))
-
-pub differ : (l k : List ℕ) (i : ℕ) → (get_or k i 0 ≡ get_or l i 0 → ⊥) → k ≡ l → ⊥
-differ l k i h e = h (ap (λ (x : List ℕ). get_or x i 0) e)
-
 -- the n spans from a on, and those from b on, have one list of ids
 pub alike_ids : (ids : List ℕ) (last cell : Spans) (n : ℕ) → last.size ≡ cell.size → n ≡ cell.size
     → take (last.from + n - last.from) (drop last.from ids) ≡ take (cell.from + n - cell.from) (drop cell.from ids) → Alike ids last cell
@@ -63,18 +45,21 @@ alike_ids ids last cell n q e h = record {
 
 -- ---------------------------------------------------------------- the own id
 
-module _ (ids : List ℕ) (t s own : ℕ) (b : Bool) where
-  pub met_self : t ≡ s → b ≡ b or twin ids t s own
+module _ (ids : List ℕ) (t s own : ℕ) where
+  pub twin_self : t ≡ s → not (eqb t s) ≡ twin ids t s own
   unfolding twin ◌and◌
-  met_self e = rw (eq-eqb t s e) (sym (or_no b))
+  twin_self e = rw (eq-eqb t s e) refl
 
-  pub met_now : (t ≡ s → ⊥) → own ≡ get_or ids t 0 → true ≡ b or twin ids t s own
+  pub twin_other : (t ≡ s → ⊥) → eqb own (get_or ids t 0) ≡ twin ids t s own
   unfolding twin ◌and◌
-  met_now e q = rw (ne_eqb t s e) (sym (or_right b _ (eq-eqb own (get_or ids t 0) q)))
+  twin_other e = rw (ne_eqb t s e) refl
 
-  pub met_not : (t ≡ s → ⊥) → (own ≡ get_or ids t 0 → ⊥) → b ≡ b or twin ids t s own
-  unfolding twin ◌and◌
-  met_not e q = rw (ne_eqb t s e) (sym (ap (λ c. b or c) (ne_eqb own (get_or ids t 0) q) ∙ or_no b))
+module _ (v w b : Bool) (e : v ≡ w) where
+  pub met_now : v ≡ true → v ≡ b or w
+  met_now t = t ∙ sym (or_right b w (sym e ∙ t))
+
+  pub met_not : v ≡ false → b ≡ b or w
+  met_not f = sym (ap (λ x. b or x) (sym e ∙ f) ∙ or_no b)
 
 pub twins-start : (ids : List ℕ) (s own size t : ℕ) → false or twins ids s own (size - 0) (t + 0) ≡ twins ids s own size t
 unfolding ◌or◌
@@ -139,7 +124,7 @@ found_here l n r i h g z =
     record { low = omega arith; here = λ _. z; there = lt-ltb i n g ∙ sym (any_at r (take n l) i long (z ∙ sym (get_or-take n l i 0 g))) }
 
 -- the first place is one where r stands, or past all entries
-place_found : (n : ℕ) (l : List ℕ) (r : ℕ) → n ≤ length l → Found l n r (place (take n l) r)
+pub place_found : (n : ℕ) (l : List ℕ) (r : ℕ) → n ≤ length l → Found l n r (place (take n l) r)
 unfolding place any
 place_found zero l r h = record { low = omega arith; here = λ g. absurd (omega arith); there = le-ltb 0 0 (omega arith) }
 place_found (suc n) [] r h = absurd (omega arith)
@@ -149,10 +134,6 @@ place_found (suc n) (x ∷ l) r h =
       | no q ↦ (let f = place_found n l r (omega arith) in
           rw (place_other x (take n l) r q) (record { low = omega (arith, f.low); here = λ g. f.here (omega arith); there = leb-suc-suc (suc (place (take n l) r)) n ∙ f.there ∙ sym (has_cons x (take n l) r q) }))
     ]
-
--- the same of the first n as they are lent
-pub found_place : (l : List ℕ) (n r p : ℕ) → n ≤ length l → p ≡ place (take (n - 0) (drop 0 l)) r → Found l n r p
-found_place l n r p h e = let z : n - 0 ≡ n = omega arith in rw (e, z) (place_found n l r h)
 
 -- ---------------------------------------------------------------- one joins
 

@@ -18,11 +18,10 @@ use Rattle.space.specs.Space.{sec, Frame}
 use Rattle.space.proofs.Laws.{sec-after, get_or_before, get_d_after}
 use Rattle.net.specs.Table.{net_at}
 use Rattle.net.proofs.Tables.{spans-at}
-use Rattle.contour.specs.Ways.{Ways, edge_number, edge_of}
+use Rattle.contour.specs.Ways.{Ways, edge_of}
 use Rattle.contour.specs.Pool.{pooled, Start}
 use Rattle.contour.specs.declared.walk.Pool.{Pool}
-use Rattle.contour.specs.declared.edge.Edge.{Edge}
-use Rattle.contour.specs.declared.edge.Edge.TheVariants.{At, Nowhere}
+use Rattle.std.proofs.Common.{Some, None}
 use Rattle.contour.proofs.EdgeLaws.{edge_at, edge_none}
 use Rattle.contour.proofs.PoolLaws.{start_laid, laid_whole, pooled-length, pooled_frame, pooled_list, pooled-blank, pooled-at}
 use Rattle.contour.proofs.WalkLaws.{ways_answered}
@@ -42,39 +41,39 @@ module _ (pool : Pool) (cs ids : List ℕ) (s top : ℕ) (ws : List ℕ) (T : St
   abbrev N : Net
   N = net_at pool.table ids ws
 
-  module _ (r : Edge) (e : edge_number r ≡ first_solid N ids s) where
-    module _ (f : r ≡ edge_of (edge_number r)) (d : ℕ) (q : r ≡ At d) where
-      found : (first_solid N ids s ≡ d) × (d < 4)
-      found = edge_at r (first_solid N ids s) e d f q
+  module _ (d : ℕ) (f : Some d ≡ edge_of (first_solid N ids s)) where
+    found : (first_solid N ids s ≡ d) × (d < 4)
+    found = edge_at (first_solid N ids s) d f
 
-      pub trace_dir : d < 4
-      trace_dir = found.1
+    pub trace_dir : d < 4
+    trace_dir = found.1
 
-      traced-at : traced N ids s ≡ contour N ids s d
-      unfolding traced when◌then◌else◌
-      traced-at = rw (found.0, lt-ltb d 4 found.1)
-
-      pub trace_at : (ws' : List ℕ) (t : ℕ) → ws' ≡ pooled ws pool.at (4 * length ids) top (contour N ids s d) → t ≡ top + length (contour N ids s d)
-          → Traced (traced N ids s) ids pool.at top ws ws' t
-      trace_at ws' t a b = record { end = rw traced-at b; pool = rw traced-at a }
-
-      pub trace_cut_at : (c : Bool) → c ≡ cut_short N ids s d → c ≡ traced_cut N ids s
-      unfolding traced_cut ◌and◌
-      trace_cut_at c q = rw (found.0, lt-ltb d 4 found.1) q
-
-    pub trace_none : r ≡ Nowhere → Traced (traced N ids s) ids pool.at top ws ws top
+    traced-at : traced N ids s ≡ contour N ids s d
     unfolding traced when◌then◌else◌
-    trace_none q =
-        let g = edge_none r (first_solid N ids s) e q in
+    traced-at = rw (found.0, lt-ltb d 4 found.1)
+
+    pub trace_at : (ws' : List ℕ) (t : ℕ) → ws' ≡ pooled ws pool.at (4 * length ids) top (contour N ids s d) → t ≡ top + length (contour N ids s d)
+        → Traced (traced N ids s) ids pool.at top ws ws' t
+    trace_at ws' t a b = record { end = rw traced-at b; pool = rw traced-at a }
+
+    pub trace_cut_at : (c : Bool) → c ≡ cut_short N ids s d → c ≡ traced_cut N ids s
+    unfolding traced_cut ◌and◌
+    trace_cut_at c q = rw (found.0, lt-ltb d 4 found.1) q
+
+  module _ (f : None ≡ edge_of (first_solid N ids s)) where
+    pub trace_none : Traced (traced N ids s) ids pool.at top ws ws top
+    unfolding traced when◌then◌else◌
+    trace_none =
+        let g = edge_none (first_solid N ids s) f in
         let z : sec (pool.at + top) (top - top) ws ≡ [] = (let k : top - top ≡ 0 = omega arith in rw k refl) in
         record {
           end = rw g (omega arith);
           pool = rw g (laid_whole ws ws pool.at (4 * length ids) top top (start_laid pool cs ids ws s top T) ∙ ap (pooled ws pool.at (4 * length ids) top) z);
         }
 
-    pub trace_cut_none : r ≡ Nowhere → false ≡ traced_cut N ids s
+    pub trace_cut_none : false ≡ traced_cut N ids s
     unfolding traced_cut ◌and◌
-    trace_cut_none q = rw (edge_none r (first_solid N ids s) e q)
+    trace_cut_none = rw (edge_none (first_solid N ids s) f)
 
 -- a traced list has at most four ids for each span of the region
 pub traced_room : (table : ℕ) (cs ids ws : List ℕ) (s : ℕ) → Ways table cs ids ws → s < length ids → (get_or ids s 0 ≡ 0 → ⊥)

@@ -5,14 +5,14 @@ ghost use Rattle.field.specs.Lent.{lent};
 ghost use Rattle.table.specs.Map.{records_end};
 ghost use Rattle.records.specs.Stock.{Given, Blank, Built};
 ghost use Rattle.records.specs.Build.{spans_at, Standing, Added, Entering, Entered, Knowing, KnowingFrom};
+ghost use Rattle.field.specs.Seen.{seen};
 
 use crate::cell::{Spans, look_back};
 use crate::fresh::renew;
 use crate::grow::{Plan, add_cell, add_contour};
+use field::lent::Heightfield;
 use field::place::{Layer, SpanIx};
-use field::read::{at8, at32};
 use region::RegionId;
-use table::at;
 
 // A span of a region is added to its record. Gives the pool's new end.
 fn count_span(
@@ -22,7 +22,7 @@ fn count_span(
     ws: &mut [u16],
     plan: Plan,
     cell: Spans,
-    prior: usize,
+    prior: Option<usize>,
     span: SpanIx,
     top: usize,
 ) -> usize
@@ -30,7 +30,7 @@ fn count_span(
     requires knowing_from { KnowingFrom ids.now plan.records cell prior ws.old }
     ensures { Added plan area.now ids.now cell span.0 ws.old result ws.new }
 {
-    let r = at(ids, span.0);
+    let r = ids[span.0] as usize;
     add_cell(ids, ws, plan.records, top, span, r, cell, prior);
     add_contour(area, con, ids, ws, plan, span, r, top)
 }
@@ -43,7 +43,7 @@ fn add_span(
     ws: &mut [u16],
     plan: Plan,
     cell: Spans,
-    prior: usize,
+    prior: Option<usize>,
     span: SpanIx,
     top: usize,
 ) -> usize
@@ -51,12 +51,8 @@ fn add_span(
     requires knowing_from { KnowingFrom ids.now plan.records cell prior ws.old }
     ensures { Added plan area.now ids.now cell span.0 ws.old result ws.new }
 {
-    let s = span.0;
-    let r = ids[s];
-    if r == RegionId::NONE.0 {
-        return top;
-    }
-    if RegionId(r).is_border() {
+    let r = ids[span.0];
+    if r == RegionId::NONE.0 || RegionId(r).is_border() {
         return top;
     }
     count_span(area, con, ids, ws, plan, cell, prior, span, top)
@@ -70,7 +66,7 @@ fn add_spans(
     ws: &mut [u16],
     plan: Plan,
     cell: Spans,
-    prior: usize,
+    prior: Option<usize>,
     top: usize,
 ) -> usize
     requires entering { Entering plan area.now con.now ids.now cell top ws.old }
@@ -100,8 +96,8 @@ fn spans_of(index: &[u32], count: &[u8], c: usize) -> Spans
     ensures { result ≡ spans_at index.now count.now c }
 {
     Spans {
-        from: at32(index, c),
-        size: at8(count, c),
+        from: index[c] as usize,
+        size: count[c] as usize,
     }
 }
 
@@ -114,55 +110,45 @@ pub struct SoFar {
 
 // The spans of cell c are added. An empty cell is passed over at once.
 fn add_cell_at(
-    index: &[u32],
-    count: &[u8],
-    area: &[u8],
-    con: &[u8],
+    field: &Heightfield,
     ids: &[u16],
     ws: &mut [u16],
     plan: Plan,
     c: usize,
     t: SoFar,
 ) -> SoFar
-    requires c_in_bounds { (c < length index.now) × (c < length count.now) }
-    requires fact { let cell = spans_at index.now count.now c in
-        Entering plan area.now con.now ids.now cell t.top ws.old × Knowing ids.now plan.records t.last ws.old }
-    ensures { let cell = spans_at index.now count.now c in
-        let ids₀ = ids.now in
-        Entered plan area.now ids₀ cell cell.size t.top ws.old result.top ws.new
-        × Knowing ids₀ plan.records result.last ws.new }
+    requires c_in_bounds { let F = seen field.now in
+        (c < length F.index) × (c < length F.count) }
+    requires fact { let F = seen field.now in
+        let cell = spans_at F.index F.count c in
+        Entering plan F.area F.con ids.now cell t.top ws.old × Knowing ids.now plan.records t.last ws.old }
+    ensures { let F = seen field.now in
+        let cell = spans_at F.index F.count c in
+        Entered plan F.area ids.now cell cell.size t.top ws.old result.top ws.new
+        × Knowing ids.now plan.records result.last ws.new }
 {
-    let cell = spans_of(index, count, c);
+    let cell = spans_of(field.index, field.count, c);
     if cell.size == 0 {
         return t;
     }
-    let last = t.last;
-    let back = look_back(ids, last, cell);
-    let next = back.last;
+    let back = look_back(ids, t.last, cell);
     SoFar {
-        top: add_spans(area, con, ids, ws, plan, cell, back.prior, t.top),
-        last: next,
+        top: add_spans(
+            field.area, field.con, ids, ws, plan, cell, back.prior, t.top,
+        ),
+        last: back.last,
     }
 }
 
 // The records 0 to next of the regions of ids, in a workspace of zeros up to their end, with the table of neighbours past it.
-pub fn build_records(
-    w: usize,
-    h: usize,
-    index: &[u32],
-    count: &[u8],
-    area: &[u8],
-    con: &[u8],
-    ids: &[u16],
-    ws: &mut [u16],
-    table: usize,
-    next: usize,
-)
-    requires given { Given (lent w h index.now count.now area.now con.now) ids.now table ws.old }
+pub fn build_records(field: &Heightfield, ids: &[u16], ws: &mut [u16], table: usize, next: usize)
+    requires given { Given (seen field.now) ids.now table ws.old }
     requires blank { Blank ids.now (next + 1) ws.old × (records_end (next + 1) (length ids.now) ≤ table) }
-    ensures { let F = lent w h index.now count.now area.now con.now in
+    ensures { let F = seen field.now in
         Built F ids.now next ws.old ws.new }
 {
+    // A copy of its own, so that the compiler keeps it in registers.
+    let field = &{ *field };
     let plan = Plan {
         records: next + 1,
         table,
@@ -172,7 +158,7 @@ pub fn build_records(
         top: 0,
         last: Spans { from: 0, size: 0 },
     };
-    for c in 0..w * h {
-        t = add_cell_at(index, count, area, con, ids, ws, plan, c, t);
+    for c in 0..field.w * field.h {
+        t = add_cell_at(field, ids, ws, plan, c, t);
     }
 }

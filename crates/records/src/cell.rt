@@ -1,13 +1,12 @@
 // The other spans of a cell.
-ghost use Rattle.std.specs.Prelude.{◌≡◌, true, false, ◌+◌, ◌≤◌, ◌<◌, length, get_or, take, ltb};
+ghost use Rattle.std.specs.Prelude.{◌≡◌, ℕ, true, false, ◌+◌, ◌≤◌, ◌<◌, length, get_or, take, ltb, Some};
 ghost use Rattle.rules.specs.Base.{◌or◌, when◌then◌else◌};
-ghost use Rattle.rules.specs.Field.{none};
 ghost use Rattle.rules.specs.Records.{once, once_all};
 ghost use Rattle.rules.specs.Refusals.{most_spans};
 ghost use Rattle.records.specs.Cell.{twin, twins, others_from, join_one, Lies, Alike, Found, JoinedOne};
-ghost use Rattle.records.specs.Cell.{JoinedAll, Within, Roomy, Near, Unchanged, Prior, as_many_from, Some, LooksTo};
+ghost use Rattle.records.specs.Cell.{JoinedAll, Within, Roomy, Near, Unchanged, Prior, as_many_from, LooksTo};
 
-use field::place::{Layer, NO_SPAN, SpanIx};
+use field::place::{Layer, SpanIx};
 use region::RegionId;
 use table::place;
 
@@ -28,21 +27,6 @@ impl Spans {
     }
 }
 
-// Are the lists the same, number by number? They are equally long.
-fn same(l: &[u16], k: &[u16]) -> bool
-    requires { length k.now ≡ length l.now }
-    ensures { (result ≡ true → k.now ≡ l.now) × (result ≡ false → k.now ≡ l.now → ⊥) }
-{
-    let mut i = 0;
-    while i < l.len() {
-        if k[i] != l[i] {
-            return false;
-        }
-        i += 1;
-    }
-    true
-}
-
 // Have the spans of two cells with as many the same ids, layer by layer? A no decides only how fast.
 fn alike(ids: &[u16], last: Spans, cell: Spans) -> bool
     requires { (length ids.now ≤ most_spans) × Lies ids.now last × Lies ids.now cell × (0 < cell.size) × (last.size ≡ cell.size) }
@@ -51,15 +35,15 @@ fn alike(ids: &[u16], last: Spans, cell: Spans) -> bool
     let n = cell.size;
     let a = last.from;
     let b = cell.from;
-    same(&ids[b..b + n], &ids[a..a + n])
+    &ids[b..b + n] == &ids[a..a + n]
 }
 
-// The last cell with several spans, and where the one begins from which the records of this one's have something; NO_SPAN where that is none. A cell that
+// The last cell with several spans, and where the one begins from which the records of this one's have something, if there is one. A cell that
 // begins where this one does has as many spans as this one: it is this one, and they have all.
 #[derive(Clone, Copy)]
 pub struct Looked {
     pub last: Spans,
-    pub prior: usize,
+    pub prior: Option<usize>,
 }
 
 // The records of the last cell's spans have what these take from theirs; so have others with the same ids, layer by layer; and a span alone in its cell
@@ -71,24 +55,24 @@ pub(crate) fn look_back(ids: &[u16], last: Spans, cell: Spans) -> Looked
     if cell.size < 2 {
         return Looked {
             last,
-            prior: cell.from,
+            prior: Some(cell.from),
         };
     }
     if last.size != cell.size {
         return Looked {
             last: cell,
-            prior: NO_SPAN,
+            prior: None,
         };
     }
     if alike(ids, last, cell) {
         return Looked {
             last: cell,
-            prior: cell.from,
+            prior: Some(cell.from),
         };
     }
     Looked {
         last: cell,
-        prior: last.from,
+        prior: Some(last.from),
     }
 }
 
@@ -97,35 +81,28 @@ fn met(ids: &[u16], other: SpanIx, span: SpanIx, own: u16, before: bool) -> bool
     requires { other.0 < length ids.now }
     ensures { result ≡ (before or twin ids.now other.0 span.0 own) }
 {
-    let t = other.0;
-    if t == span.0 {
-        return before;
-    }
-    if own == ids[t] {
-        return true;
-    }
-    before
+    (other.0 != span.0 && own == ids[other.0]) || before
 }
 
-// Of a floor list: its length, and the place after that of the id that joined last, where the next one is looked for first.
+// Of a floor list: its length, and the place after that of the id that joined last, where the next one is looked for first. By value, as the room is lent
+// apart (fixed memory).
 #[derive(Clone, Copy)]
 pub struct Listed {
     pub len: usize,
     pub next: usize,
 }
 
-// A place of r among the first n, or n where it is none of them. The guess decides only how fast, never whether r is found: the spans
-// of a region mostly have the same regions above and below them, in the same order, so r is often right after the id found before.
+// A place of r among the first n, or n where it is none of them, as `place` gives it (an Option is no plainer: the caller's one test stays). The guess
+// decides only how fast, never whether r is found: the spans of a region mostly have the same regions above and below them, in the same order, so r is
+// often right after the id found before.
 fn find(part: &[u16], n: usize, r: u16, guess: usize) -> usize
     requires { n ≤ length part.now }
     ensures { Found part.now n r result }
 {
-    if guess < n {
-        if r == part[guess] {
-            return guess;
-        }
+    if guess < n && r == part[guess] {
+        return guess;
     }
-    place(&part[0..n], r)
+    place(&part[..n], r)
 }
 
 // r joins the list once.
@@ -154,31 +131,27 @@ fn join_one(ids: &[u16], part: &mut [u16], span: SpanIx, other: SpanIx, l: Liste
         JoinedOne joined l.len part.new result.len }
     ensures len_value { other.0 ≡ span.0 → result.len ≡ l.len }
 {
-    let t = other.0;
-    if t == span.0 {
+    if other.0 == span.0 {
         return l;
     }
-    let r = ids[t];
-    if r == RegionId::NONE.0 {
-        return l;
-    }
-    if RegionId(r).is_border() {
+    let r = ids[other.0];
+    if r == RegionId::NONE.0 || RegionId(r).is_border() {
         return l;
     }
     add_unique_floor_region(part, l, r)
 }
 
-// Has the prior cell, if there is one, the span's id in its layer? A no decides only how fast.
-fn is_near(ids: &[u16], span: SpanIx, cell: Spans, prior: usize) -> bool
-    requires { (length ids.now ≤ most_spans) × Within ids.now span.0 cell × (Some prior → Lies ids.now (as_many_from prior cell)) }
-    ensures { result ≡ true → Some prior × Near ids.now span.0 cell (as_many_from prior cell) }
+// The prior cell's place, if there is one and it has the span's id in the span's layer. None decides only how fast.
+fn near(ids: &[u16], span: SpanIx, cell: Spans, prior: Option<usize>) -> Option<usize>
+    requires few { (length ids.now ≤ most_spans) × Within ids.now span.0 cell }
+    requires lies { (p : ℕ) → prior ≡ Some p → Lies ids.now (as_many_from p cell) }
+    ensures { (p : ℕ) → result ≡ Some p → (prior ≡ Some p) × Near ids.now span.0 cell (as_many_from p cell) }
 {
-    if prior == NO_SPAN {
-        return false;
+    let p = prior?;
+    if ids[p + (span.0 - cell.from)] != ids[span.0] {
+        return None;
     }
-    let s = span.0;
-    let t = prior + (s - cell.from);
-    ids[t] == ids[s]
+    Some(p)
 }
 
 // As join_one; but of a span near the prior cell's, a layer that has the id that it had there is passed over: the list has that id already, or it is none
@@ -188,25 +161,22 @@ fn join_changed(
     part: &mut [u16],
     span: SpanIx,
     other: SpanIx,
-    before: usize,
-    near: bool,
+    near: Option<usize>,
+    j: usize,
     l: Listed,
 ) -> Listed
     requires other_in_bounds { other.0 < length ids.now }
     requires len_in_bounds { l.len ≤ length part.old }
     requires len_in_bounds_2 { (other.0 ≡ span.0 → ⊥) → l.len < length part.old }
-    requires unchanged { near ≡ true → Unchanged ids.now (take l.len part.old) span.0 other.0 before }
+    requires unchanged { (p : ℕ) → near ≡ Some p → Unchanged ids.now (take l.len part.old) span.0 other.0 (p + j) }
     ensures fact { let joined = join_one ids.now span.0 other.0 (take l.len part.old) in
         JoinedOne joined l.len part.new result.len }
     ensures len_value { other.0 ≡ span.0 → result.len ≡ l.len }
 {
-    if near {
-        let t = other.0;
-        if ids[t] == ids[before] {
-            return l;
-        }
+    match near {
+        Some(p) if ids[other.0] == ids[p + j] => l,
+        _ => join_one(ids, part, span, other, l),
     }
-    join_one(ids, part, span, other, l)
 }
 
 // What a span takes from its cell: the length of its record's floor list, and whether another span has its id.
@@ -223,12 +193,12 @@ pub(crate) fn join(
     part: &mut [u16],
     span: SpanIx,
     cell: Spans,
-    prior: usize,
+    prior: Option<usize>,
     len: usize,
 ) -> Taken
     requires roomy { Roomy ids.now part.old span.0 cell.from cell.size len }
-    requires lies { Some prior → Lies ids.now (as_many_from prior cell) }
-    requires prior { (Some prior → Prior ids.now (take len part.old) span.0 cell (as_many_from prior cell)) × (prior ≤ none) }
+    requires lies { (p : ℕ) → prior ≡ Some p → Lies ids.now (as_many_from p cell) }
+    requires prior { (p : ℕ) → prior ≡ Some p → Prior ids.now (take len part.old) span.0 cell (as_many_from p cell) }
     ensures fact { let others = others_from ids.now span.0 cell.size cell.from in
         JoinedAll (once_all (take len part.old) others) len part.new result.len }
     ensures twin_value { let own = get_or ids.now span.0 0 in
@@ -236,13 +206,13 @@ pub(crate) fn join(
 {
     let s = span.0;
     let own = ids[s];
-    let near = is_near(ids, span, cell, prior);
+    let near = near(ids, span, cell, prior);
     let mut l = Listed { len, next: 0 };
     let mut twin = false;
     for j in 0..cell.size {
         let other = cell.at(Layer(j as u8));
         twin = met(ids, other, span, own, twin);
-        l = join_changed(ids, part, span, other, prior + j, near, l);
+        l = join_changed(ids, part, span, other, near, j, l);
     }
     Taken { len: l.len, twin }
 }

@@ -9,17 +9,16 @@ ghost use Rattle.records.specs.Stock.{Blank};
 
 use crate::map::HALVES;
 use table::map::{FLOOR_ROOM, FLOORS, LISTS, POOL};
-use table::{at, set_part};
+use table::set_part;
 
 // One more span of id r, if that is below m.
 fn tally_one(ws: &mut [u16], m: usize, r: usize)
     requires { (areas_at m ≤ length ws.old) × (m ≤ border) × (r < m → get_or ws.old (m + r) 0 < 65535) }
     ensures { ws.new ≡ tally_one m r ws.old }
 {
-    if m <= r {
-        return;
+    if r < m {
+        ws[m + r] += 1;
     }
-    ws[m + r] += 1;
 }
 
 // How many spans have each id below m, in the column of counts.
@@ -27,10 +26,8 @@ fn tally(ids: &[u16], ws: &mut [u16], m: usize)
     requires { Blank ids.now m ws.old }
     ensures { Tallied ids.now m (length ids.now) ws.old ws.new }
 {
-    let mut k = 0;
-    while k < ids.len() {
-        tally_one(ws, m, at(ids, k));
-        k += 1;
+    for &r in ids {
+        tally_one(ws, m, r as usize);
     }
 }
 
@@ -40,7 +37,7 @@ fn renew_one(ids: &[u16], ws: &mut [u16], m: usize, i: usize, lower: usize) -> u
     requires m_le_border { (m ≤ border) × (length ids.now ≤ most_spans) × (records_end m (length ids.now) ≤ length ws.old) }
     ensures { Renewed ids.now m (i + 1) ws.old ws.new × (result ≡ many (eqb i) ids.now) }
 {
-    let spans = at(ws, m + i);
+    let spans = ws[m + i] as usize;
     let floors = POOL * m + HALVES * ids.len() + FLOOR_ROOM * lower;
     ws[i] = i as u16;
     ws[m + i] = 0;
@@ -56,9 +53,7 @@ pub(crate) fn renew(ids: &[u16], ws: &mut [u16], m: usize)
 {
     tally(ids, ws, m);
     let mut lower = 0;
-    let mut i = 0;
-    while i < m {
+    for i in 0..m {
         lower += renew_one(ids, ws, m, i, lower);
-        i += 1;
     }
 }

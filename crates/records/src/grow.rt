@@ -1,24 +1,22 @@
 // A span is added to its record, part by part.
-ghost use Rattle.std.specs.Prelude.{◌≡◌, true, ◌+◌, ◌*◌, ◌≤◌, ◌<◌, length, get_or};
-ghost use Rattle.rules.specs.Field.{none};
+ghost use Rattle.std.specs.Prelude.{◌≡◌, ℕ, true, ◌+◌, ◌*◌, ◌≤◌, ◌<◌, length, get_or, Some};
 ghost use Rattle.rules.specs.Growth.{plain};
 ghost use Rattle.net.specs.Table.{net_at};
 ghost use Rattle.contour.specs.Pool.{Start};
 ghost use Rattle.table.specs.Map.{spare_at, pool_at};
 ghost use Rattle.table.specs.View.{list_start, list_end, floors_in};
 ghost use Rattle.records.specs.Map.{pool_in};
-ghost use Rattle.records.specs.Cell.{twins, others_from, Within, Lies, Prior, as_many_from, Some};
+ghost use Rattle.records.specs.Cell.{twins, others_from, Within, Lies, Prior, as_many_from};
 ghost use Rattle.records.specs.Rows.{Keeping, Step, Slack, Traced, traced, traced_cut, marked, cut_marked, floored, with_contour, contoured, celled};
 ghost use Rattle.records.specs.Stock.{Reach};
 ghost use Rattle.records.specs.Build.{KnowingFrom};
 
 use crate::cell::{Spans, join};
-use contour::edge::{Edge, first_solid};
+use contour::edge::first_solid;
 use contour::walk::{Contour, Pool, walk_contour};
 use field::place::{SpanIx, connections};
-use field::read::at8;
 use table::map::{AREAS, CUTS, FLOOR_ROOM, FLOORS, LISTS, OVERLAPS, POOL};
-use table::{at, end_of, set_part, start_of};
+use table::{end_of, set_part, start_of};
 
 // Overlap is set where another span of a cell has the id r too.
 fn add_overlap(ws: &mut [u16], m: usize, r: usize, twin: bool)
@@ -40,11 +38,11 @@ fn add_floors(
     span: SpanIx,
     r: usize,
     cell: Spans,
-    prior: usize,
+    prior: Option<usize>,
 ) -> bool
     requires keeping { Keeping ids.now m top (span.0 + 1) ws.old × (r < m) × Slack m r ws.old × Within ids.now span.0 cell }
-    requires lies { Some prior → Lies ids.now (as_many_from prior cell) }
-    requires prior { (Some prior → Prior ids.now (floors_in ws.old m r) span.0 cell (as_many_from prior cell)) × (prior ≤ none) }
+    requires lies { (p : ℕ) → prior ≡ Some p → Lies ids.now (as_many_from p cell) }
+    requires prior { (p : ℕ) → prior ≡ Some p → Prior ids.now (floors_in ws.old m r) span.0 cell (as_many_from p cell) }
     ensures fact { let others = others_from ids.now span.0 cell.size cell.from in
         Step (floored others) ids.now m r top (span.0 + 1) ws.old ws.new }
     ensures result_value { let own = get_or ids.now span.0 0 in
@@ -52,14 +50,13 @@ fn add_floors(
 {
     let start = start_of(ws, m, FLOORS * m, r);
     let end = end_of(ws, m, FLOORS * m, r);
-    let limit = start + FLOOR_ROOM * at(ws, m + r);
+    let limit = start + FLOOR_ROOM * ws[m + r] as usize;
     let len = end - start;
     let taken = join(ids, &mut ws[start..limit], span, cell, prior, len);
-    let listed = taken.len;
-    if listed == len {
+    if taken.len == len {
         return taken.twin;
     }
-    set_part(ws, m, FLOORS * m, r, start, start + listed);
+    set_part(ws, m, FLOORS * m, r, start, start + taken.len);
     taken.twin
 }
 
@@ -72,8 +69,8 @@ fn trace(con: &[u8], ids: &[u16], ws: &mut [u16], pool: Pool, span: SpanIx, top:
 {
     let cons = connections(con, span);
     match first_solid(ids, ws, pool.table, cons, span) {
-        Edge::At(d) => walk_contour(con, ids, ws, pool, span, d, top),
-        Edge::Nowhere => Contour {
+        Some(d) => walk_contour(con, ids, ws, pool, span, d, top),
+        None => Contour {
             end: top,
             cut: false,
         },
@@ -121,11 +118,9 @@ fn add_list(
         table: plan.table,
     };
     let c = trace(con, ids, ws, pool, span, top);
-    let end = c.end;
-    let cut = c.cut;
-    set_part(ws, m, LISTS * m, r, POOL * m + top, POOL * m + end);
-    add_cut(ws, m, r, cut);
-    end
+    set_part(ws, m, LISTS * m, r, POOL * m + top, POOL * m + c.end);
+    add_cut(ws, m, r, c.cut);
+    c.end
 }
 
 // While record r has no list it takes the span's area, and its contour. Gives the pool's new end.
@@ -150,8 +145,7 @@ pub(crate) fn add_contour(
     if start_of(ws, m, LISTS * m, r) < end_of(ws, m, LISTS * m, r) {
         return top;
     }
-    let a = at8(area, span.0);
-    ws[AREAS * m + r] = a as u16;
+    ws[AREAS * m + r] = area[span.0] as u16;
     add_list(con, ids, ws, plan, span, r, top)
 }
 
@@ -165,7 +159,7 @@ pub(crate) fn add_cell(
     span: SpanIx,
     r: usize,
     cell: Spans,
-    prior: usize,
+    prior: Option<usize>,
 )
     requires keeping { Keeping ids.now m top span.0 ws.old × Within ids.now span.0 cell }
     requires r_value { (r ≡ get_or ids.now span.0 0) × (plain (get_or ids.now span.0 0) ≡ true) }
@@ -174,7 +168,7 @@ pub(crate) fn add_cell(
         Step f ids.now m r top (span.0 + 1) ws.old ws.new }
 {
     ws[m + r] += 1;
-    if prior == cell.from {
+    if prior == Some(cell.from) {
         return;
     }
     let twin = add_floors(ids, ws, m, top, span, r, cell, prior);

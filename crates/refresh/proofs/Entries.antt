@@ -3,6 +3,7 @@
 use Prim.Native.Nat.{ℕ, zero, suc, ◌+◌, ◌-◌, ◌≤◌, ◌<◌, min}
 use native.Mathlib.Omega.{arith}
 use native.Mathlib.Decide.{dec_lt, ℕ_discrete}
+use Rattle.std.specs.Prelude.{Ok, Err}
 use mathlib.Core.Path.{◌≡◌, refl, sym, ap, ◌∙◌}
 use mathlib.Core.Logic.{◌⊎◌, inl, inr}
 use mathlib.Core.Bool.{Bool, true, false}
@@ -23,10 +24,8 @@ use Rattle.laws.proofs.Basics.{neither, upto-ind}
 use Rattle.laws.proofs.Cells.{passed}
 use Rattle.field.specs.Lent.{lent, Sound}
 use Rattle.field.proofs.Passed.{sound_of, sound_reached}
-use Rattle.checker.specs.Answer.{number_of, verdict_number}
+use Rattle.checker.specs.Answer.{number_of}
 use Rattle.checker.specs.declared.Refusal.{Refusal}
-use Rattle.checker.specs.declared.Verdict.{Verdict}
-use Rattle.checker.specs.declared.Verdict.TheVariants as verdict
 use Rattle.checker.proofs.Numbers.{number_pos}
 use Rattle.distance.specs.Value.{Low}
 use Rattle.distance.proofs.Walks.{raw-end}
@@ -37,11 +36,9 @@ use Rattle.door.proofs.Agree.{blur_stores, up_size, up_keeps, blur_stored}
 use Rattle.door.proofs.Held.{blur_rows-held}
 use Rattle.refresh.specs.Part.{part_to}
 use Rattle.refresh.specs.Redo.{redone, pass1_rows, pass2_rows, Kept, Passed}
-use Rattle.refresh.specs.Answer.{rect, stages_given, refresh_given, odd_length, own_refusal, refusal_of, refresh_verdict_number}
-use Rattle.refresh.specs.declared.StagesAnswer.TheVariants as stages
-use Rattle.refresh.specs.declared.RefreshAnswer.TheVariants.{Refused, WrongRect, WrongStored, Done}
-use Rattle.refresh.specs.declared.RefreshVerdict.{RefreshVerdict}
-use Rattle.refresh.specs.declared.RefreshVerdict.TheVariants as fine
+use Rattle.refresh.specs.Answer.{rect, stages_given, refresh_number_of, refresh_given, odd_length, own_refusal, refusal_of}
+use Rattle.refresh.specs.declared.RefreshRefusal.{RefreshRefusal}
+use Rattle.refresh.specs.declared.RefreshRefusal.TheVariants as own
 use Rattle.refresh.proofs.Turns.{whole_copied}
 
 -- ---------------------------------------------------------------- three lengths as two
@@ -285,7 +282,7 @@ module _ (w h : ℕ) (is ks ar cs : List ℕ) (ok : Sound (lent w h is ks ar cs)
               v.kept.held s i (inr (omega arith))
         ]))
 
-    pub all_refreshed : refresh_given (Done (record { max_distance = m; pass1_first = first; pass1_last = last; pass2_first = top; pass2_last = last; blur_first = low; blur_last = high })) p r b
+    pub all_refreshed : refresh_given (Ok (record { max_distance = m; pass1_first = first; pass1_last = last; pass2_first = top; pass2_last = last; blur_first = low; blur_last = high })) p r b
         ≡ refreshed (lent w h is ks ar cs) (rect 0 z0 0 z1) p₀ r₀ b₀
     all_refreshed =
         sym
@@ -296,23 +293,6 @@ module _ (w h : ℕ) (is ks ar cs : List ℕ) (ok : Sound (lent w h is ks ar cs)
 
 -- ---------------------------------------------------------------- refusals 11 and 31
 
-module _ (w h x0 z0 x1 z1 : ℕ) where
-  pub rect_1 : x1 < x0 → true ≡ wrong_rect (lent w h [] [] [] []) (rect x0 z0 x1 z1)
-  unfolding wrong_rect ◌or◌
-  rect_1 e = rw (lt-ltb x1 x0 e)
-
-  pub rect_2 : x0 ≤ x1 → z1 < z0 → true ≡ wrong_rect (lent w h [] [] [] []) (rect x0 z0 x1 z1)
-  unfolding wrong_rect ◌or◌
-  rect_2 e f = rw (le-ltb x1 x0 e, lt-ltb z1 z0 f)
-
-  pub rect_3 : x0 ≤ x1 → z0 ≤ z1 → w ≤ x1 → true ≡ wrong_rect (lent w h [] [] [] []) (rect x0 z0 x1 z1)
-  unfolding wrong_rect ◌or◌
-  rect_3 e f g = rw (le-ltb x1 x0 e, le-ltb z1 z0 f, le-leb w x1 g)
-
-  pub rect_4 : x0 ≤ x1 → z0 ≤ z1 → x1 < w → leb h z1 ≡ wrong_rect (lent w h [] [] [] []) (rect x0 z0 x1 z1)
-  unfolding wrong_rect ◌or◌
-  rect_4 e f g = rw (le-ltb x1 x0 e, le-ltb z1 z0 f, lt-leb w x1 g)
-
 module _ (p r : List ℕ) where
   pub stored_1 : (c : Bool) → c ≡ any (ltb 510) p → c ≡ true → true ≡ wrong_stored p r
   unfolding wrong_stored ◌or◌
@@ -322,6 +302,21 @@ module _ (p r : List ℕ) where
   unfolding wrong_stored ◌or◌
   stored_2 c d e f g = rw (← e, f) g
 
+module _ (F : Field) (x0 z0 x1 z1 : ℕ) where
+  pub rect_empty : (x1 < x0) ⊎ ((x0 ≤ x1) × (z1 < z0)) → true ≡ wrong_rect F (rect x0 z0 x1 z1)
+  unfolding wrong_rect ◌or◌
+  rect_empty (inl e) = rw (lt-ltb x1 x0 e)
+  rect_empty (inr e) = rw (le-ltb x1 x0 e.0, lt-ltb z1 z0 e.1)
+
+  module _ (e : x0 ≤ x1) (f : z0 ≤ z1) where
+    pub rect_wide : F.w ≤ x1 → leb F.w x1 ≡ wrong_rect F (rect x0 z0 x1 z1)
+    unfolding wrong_rect ◌or◌
+    rect_wide g = rw (le-ltb x1 x0 e, le-ltb z1 z0 f, le-leb F.w x1 g)
+
+    pub rect_deep : x1 < F.w → leb F.h z1 ≡ wrong_rect F (rect x0 z0 x1 z1)
+    unfolding wrong_rect ◌or◌
+    rect_deep g = rw (le-ltb x1 x0 e, le-ltb z1 z0 f, lt-leb F.w x1 g)
+
 none_above : (k : ℕ) (l : List ℕ) → any (ltb k) l ≡ false → (i d : ℕ) → i < length l → get_or l i d ≤ k
 unfolding any
 none_above k [] e i d h = absurd (omega arith)
@@ -330,33 +325,24 @@ none_above k (x ∷ l) e (suc i) d h = none_above k l (neither _ _ e).1 i d (ome
 
 -- ---------------------------------------------------------------- the refresh's refusals
 
-module _ (r s : Bool) where
-  pub own_11 : r ≡ true → 11 ≡ own_refusal r s
-  unfolding own_refusal when◌then◌else◌
-  own_11 e = rw e
-
-  pub own_31 : r ≡ false → s ≡ true → 31 ≡ own_refusal r s
-  unfolding own_refusal when◌then◌else◌
-  own_31 e f = rw (e, f)
-
-  pub own_0 : r ≡ false → s ≡ false → 0 ≡ own_refusal r s
-  unfolding own_refusal when◌then◌else◌
-  own_0 e f = rw (e, f)
-
-module _ (w h : ℕ) (is ks ar cs p r : List ℕ) (own : ℕ) (v : Verdict) (e : verdict_number v ≡ refusal (lent w h is ks ar cs) (length p ∷ length r ∷ own ∷ [])) (x0 z0 x1 z1 : ℕ) where
-  pub check_refused : (c : Refusal) → v ≡ verdict.Refused c → number_of c ≡ refusal_of (lent w h is ks ar cs) (rect x0 z0 x1 z1) p r own
+module _ (F : Field) (q : Rect) (p r : List ℕ) (own : ℕ) where
+  pub check_refused : (c : Refusal) → number_of c ≡ refusal F (length p ∷ length r ∷ own ∷ []) → number_of c ≡ refusal_of F q p r own
   unfolding refusal_of when◌then◌else◌
-  check_refused c z =
-      let n : number_of c ≡ refusal (lent w h is ks ar cs) (length p ∷ length r ∷ own ∷ []) = ap verdict_number (sym z) ∙ e in
-      let f : eqb (refusal (lent w h is ks ar cs) (length p ∷ length r ∷ own ∷ [])) 0 ≡ false = ne_eqb (refusal (lent w h is ks ar cs) (length p ∷ length r ∷ own ∷ [])) 0 (λ k. omega (arith, number_pos c)) in
-      rw f n
+  check_refused c n = rw (ne_eqb (refusal F (length p ∷ length r ∷ own ∷ [])) 0 (λ k. omega (arith, number_pos c))) n
 
-  pub check_own : (t u : Bool) (n : ℕ) → v ≡ verdict.Sound → t ≡ wrong_rect (lent w h [] [] [] []) (rect x0 z0 x1 z1) → u ≡ wrong_stored p r → n ≡ own_refusal t u
-      → n ≡ refusal_of (lent w h is ks ar cs) (rect x0 z0 x1 z1) p r own
-  unfolding refusal_of when◌then◌else◌ wrong_rect
-  check_own t u n z f g k =
-      let none : refusal (lent w h is ks ar cs) (length p ∷ length r ∷ own ∷ []) ≡ 0 = sym e ∙ ap verdict_number z in
-      rw none (k ∙ ap (λ (b : Bool). own_refusal b u) f ∙ ap (own_refusal (wrong_rect (lent w h [] [] [] []) (rect x0 z0 x1 z1))) g)
+  module _ (none : 0 ≡ refusal F (length p ∷ length r ∷ own ∷ [])) (t : Bool) (f : t ≡ wrong_rect F q) where
+    pub check_11 : t ≡ true → 11 ≡ refusal_of F q p r own
+    unfolding refusal_of own_refusal when◌then◌else◌
+    check_11 z = rw (← none, ← f, z)
+
+    module _ (z : t ≡ false) (u : Bool) (g : u ≡ wrong_stored p r) where
+      pub check_31 : u ≡ true → 31 ≡ refusal_of F q p r own
+      unfolding refusal_of own_refusal when◌then◌else◌
+      check_31 y = rw (← none, ← f, z, ← g, y)
+
+      pub check_0 : u ≡ false → 0 ≡ refusal_of F q p r own
+      unfolding refusal_of own_refusal when◌then◌else◌
+      check_0 y = rw (← none, ← f, z, ← g, y)
 
 -- the number is the rule's
 refusal_is : (F : Field) (q : Rect) (p r b : List ℕ) → refusal_of F q p r (length b) ≡ refresh_refusal F q p r b
@@ -370,79 +356,60 @@ refused_with : (F : Field) (q : Rect) (p r b : List ℕ) (n : ℕ) → refresh_r
 unfolding refresh_outcome when◌then◌else◌
 refused_with F q p r b n e h = rw (e, ne_eqb n 0 h)
 
-module _ (w h : ℕ) (is ks ar cs p r b : List ℕ) (x0 z0 x1 z1 : ℕ) (v : RefreshVerdict)
-    (e : refresh_verdict_number v ≡ refusal_of (lent w h is ks ar cs) (rect x0 z0 x1 z1) p r (length b)) where
-  number : refresh_refusal (lent w h is ks ar cs) (rect x0 z0 x1 z1) p r b ≡ refresh_verdict_number v
-  number = sym (e ∙ refusal_is (lent w h is ks ar cs) (rect x0 z0 x1 z1) p r b)
+pub number_over : (k : RefreshRefusal) → 0 < refresh_number_of k
+number_over (own.Field r) = number_pos r
+number_over own.WrongRect = omega arith
+number_over own.WrongStored = omega arith
 
-  pub out_refused : (c : Refusal) → v ≡ fine.Refused c → refresh_given (Refused c) p r b ≡ refresh_outcome (lent w h is ks ar cs) (rect x0 z0 x1 z1) p r b
-  out_refused c z =
-      sym (refused_with (lent w h is ks ar cs) (rect x0 z0 x1 z1) p r b (number_of c) (number ∙ ap refresh_verdict_number z) (λ k. omega (arith, number_pos c)))
+pub out_refused : (F : Field) (q : Rect) (p r b : List ℕ) (k : RefreshRefusal) → refresh_number_of k ≡ refusal_of F q p r (length b) → refresh_given (Err k) p r b ≡ refresh_outcome F q p r b
+out_refused F q p r b k e = sym (refused_with F q p r b (refresh_number_of k) (sym (e ∙ refusal_is F q p r b)) (λ z. omega (arith, number_over k)))
 
-  pub out_rect : v ≡ fine.WrongRect → refresh_given WrongRect p r b ≡ refresh_outcome (lent w h is ks ar cs) (rect x0 z0 x1 z1) p r b
-  out_rect z = sym (refused_with (lent w h is ks ar cs) (rect x0 z0 x1 z1) p r b 11 (number ∙ ap refresh_verdict_number z) (λ k. omega arith))
+module _ (F : Field) (p r b : List ℕ) (x0 z0 x1 z1 : ℕ) (e : 0 ≡ refusal_of F (rect x0 z0 x1 z1) p r (length b)) where
+  none : refresh_refusal F (rect x0 z0 x1 z1) p r b ≡ 0
+  none = sym (e ∙ refusal_is F (rect x0 z0 x1 z1) p r b)
 
-  pub out_stored : v ≡ fine.WrongStored → refresh_given WrongStored p r b ≡ refresh_outcome (lent w h is ks ar cs) (rect x0 z0 x1 z1) p r b
-  out_stored z = sym (refused_with (lent w h is ks ar cs) (rect x0 z0 x1 z1) p r b 31 (number ∙ ap refresh_verdict_number z) (λ k. omega arith))
+  fine_all : Accepted F (rect x0 z0 x1 z1) p r b
+  fine_all = accepted F (rect x0 z0 x1 z1) p r b none
 
-  module _ (z : v ≡ fine.Fine) where
-    fine_all : Accepted (lent w h is ks ar cs) (rect x0 z0 x1 z1) p r b
-    fine_all = accepted (lent w h is ks ar cs) (rect x0 z0 x1 z1) p r b (number ∙ ap refresh_verdict_number z)
+  three : (length p ≡ spans F) × (length r ≡ spans F) × (length b ≡ spans F)
+  three = three_lengths F (length p) (length r) (length b) fine_all.field
 
-    three : (length p ≡ length ar) × (length r ≡ length ar) × (length b ≡ length ar)
-    three = three_lengths (lent w h is ks ar cs) (length p) (length r) (length b) fine_all.field
+  pub fine_sound : Sound F
+  fine_sound = sound_of F (length p ∷ length r ∷ length b ∷ []) fine_all.field
 
-    pub fine_sound : Sound (lent w h is ks ar cs)
-    fine_sound = sound_of (lent w h is ks ar cs) (length p ∷ length r ∷ length b ∷ []) fine_all.field
+  pub fine_rows : (z0 ≤ z1) × (z1 < F.h)
+  fine_rows = rows_in F (rect x0 z0 x1 z1) fine_all.rect
 
-    pub fine_order : z0 ≤ z1
-    fine_order = (rows_in (lent w h is ks ar cs) (rect x0 z0 x1 z1) fine_all.rect).0
+  pub fine_low1 : Low F p
+  unfolding wrong_stored
+  fine_low1 = record { size = three.0; low = λ s i. none_above 510 p (neither _ _ fine_all.stored).0 s 65535 (omega (arith, three.0)) }
 
-    pub fine_in : z1 < h
-    fine_in = (rows_in (lent w h is ks ar cs) (rect x0 z0 x1 z1) fine_all.rect).1
+  pub fine_low2 : Low F r
+  unfolding wrong_stored
+  fine_low2 = record { size = three.1; low = λ s i. none_above 510 r (neither _ _ fine_all.stored).1 s 65535 (omega (arith, three.1)) }
 
-    pub fine_low1 : Low (lent w h is ks ar cs) p
-    unfolding wrong_stored
-    fine_low1 = record { size = three.0; low = λ s i. none_above 510 p (neither _ _ fine_all.stored).0 s 65535 (omega (arith, three.0)) }
+  pub fine_blurred : length b ≡ spans F
+  fine_blurred = three.2
 
-    pub fine_low2 : Low (lent w h is ks ar cs) r
-    unfolding wrong_stored
-    fine_low2 = record { size = three.1; low = λ s i. none_above 510 r (neither _ _ fine_all.stored).1 s 65535 (omega (arith, three.1)) }
+  pub out_done : (o : RefreshOutcome) → o ≡ refreshed F (rect 0 z0 0 z1) p r b → o ≡ refresh_outcome F (rect x0 z0 x1 z1) p r b
+  unfolding refresh_outcome when◌then◌else◌ refreshed redone1 redone2
+  out_done o j = rw none j
 
-    pub fine_blurred : length b ≡ length ar
-    fine_blurred = three.2
+pub stages_refused : (F : Field) (p r b : List ℕ) (c : Refusal) → number_of c ≡ refusal F (length p ∷ length r ∷ length b ∷ []) → stages_given (Err c) p r b ≡ stages_outcome F p r b
+unfolding stages_outcome when◌then◌else◌
+stages_refused F p r b c n =
+    let f : eqb (refusal F (length p ∷ length r ∷ length b ∷ [])) 0 ≡ false = ne_eqb (refusal F (length p ∷ length r ∷ length b ∷ [])) 0 (λ k. omega (arith, number_pos c)) in
+    rw (f, n)
 
-    pub out_done : (o : RefreshOutcome) → o ≡ refreshed (lent w h is ks ar cs) (rect 0 z0 0 z1) p r b → o ≡ refresh_outcome (lent w h is ks ar cs) (rect x0 z0 x1 z1) p r b
-    unfolding refresh_outcome when◌then◌else◌ refreshed redone1 redone2
-    out_done o j = rw (number ∙ ap refresh_verdict_number z) j
+module _ (F : Field) (p r b : List ℕ) (none : 0 ≡ refusal F (length p ∷ length r ∷ length b ∷ [])) where
+  pub stages_sound : Sound F
+  stages_sound = sound_of F (length p ∷ length r ∷ length b ∷ []) (sym none)
 
-module _ (w h : ℕ) (is ks ar cs p r b : List ℕ) (v : Verdict) (e : verdict_number v ≡ refusal (lent w h is ks ar cs) (length p ∷ length r ∷ length b ∷ [])) where
-  pub stages_refused : (c : Refusal) → v ≡ verdict.Refused c → stages_given (stages.Refused c) p r b ≡ stages_outcome (lent w h is ks ar cs) p r b
+  pub stages_sizes : (length p ≡ spans F) × (length r ≡ spans F) × (length b ≡ spans F)
+  stages_sizes = three_lengths F (length p) (length r) (length b) (sym none)
+
+  pub stages_done : (p' r' b' : List ℕ) (m : ℕ) → p' ≡ pass1 F (start F) → r' ≡ pass2 F p' → b' ≡ blur F r' → m ≡ greatest r' → stages_given (Ok m) p' r' b' ≡ stages_outcome F p r b
   unfolding stages_outcome when◌then◌else◌
-  stages_refused c z =
-      let n : number_of c ≡ refusal (lent w h is ks ar cs) (length p ∷ length r ∷ length b ∷ []) = ap verdict_number (sym z) ∙ e in
-      let f : eqb (refusal (lent w h is ks ar cs) (length p ∷ length r ∷ length b ∷ [])) 0 ≡ false = ne_eqb (refusal (lent w h is ks ar cs) (length p ∷ length r ∷ length b ∷ [])) 0 (λ k. omega (arith, number_pos c)) in
-      rw (f, n)
-
-  module _ (z : v ≡ verdict.Sound) where
-    none : refusal (lent w h is ks ar cs) (length p ∷ length r ∷ length b ∷ []) ≡ 0
-    none = sym e ∙ ap verdict_number z
-
-    pub stages_sound : Sound (lent w h is ks ar cs)
-    stages_sound = sound_of (lent w h is ks ar cs) (length p ∷ length r ∷ length b ∷ []) none
-
-    pub stages_pass1 : length p ≡ length ar
-    stages_pass1 = (three_lengths (lent w h is ks ar cs) (length p) (length r) (length b) none).0
-
-    pub stages_raw : length r ≡ length ar
-    stages_raw = (three_lengths (lent w h is ks ar cs) (length p) (length r) (length b) none).1
-
-    pub stages_blurred : length b ≡ length ar
-    stages_blurred = (three_lengths (lent w h is ks ar cs) (length p) (length r) (length b) none).2
-
-    pub stages_done : (p' r' b' : List ℕ) (m : ℕ) → p' ≡ pass1 (lent w h is ks ar cs) (start (lent w h is ks ar cs)) → r' ≡ pass2 (lent w h is ks ar cs) p'
-        → b' ≡ blur (lent w h is ks ar cs) r' → m ≡ greatest r' → stages_given (stages.Done m) p' r' b' ≡ stages_outcome (lent w h is ks ar cs) p r b
-    unfolding stages_outcome when◌then◌else◌
-    stages_done p' r' b' m i j k l =
-        let q : r' ≡ raw (lent w h is ks ar cs) = raw-end (lent w h is ks ar cs) p' r' i j in
-        rw (none, l, k, q, i)
+  stages_done p' r' b' m i j k l =
+      let q : r' ≡ raw F = raw-end F p' r' i j in
+      rw (sym none, l, k, q, i)

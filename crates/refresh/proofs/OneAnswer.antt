@@ -2,26 +2,27 @@
 -- a refusal's number is none of 0, 11 and 31, and no two refusals have the same. Assumes nothing.
 use Prim.Native.Nat.{ℕ}
 use native.Mathlib.Omega.{arith}
+use Rattle.std.specs.Prelude.{Result, Ok, Err}
 use mathlib.Core.Path.{◌≡◌, refl, sym, ap, ◌∙◌}
 use mathlib.Core.List.{List}
 use Rattle.rules.specs.Refresh.{Rows, StagesOutcome, RefreshOutcome}
 use Rattle.checker.proofs.Numbers.{number_pos, number_low, number_not_11, number_same}
-use Rattle.refresh.specs.Answer.{stages_refused_by, stages_most_in, stages_given, refresh_refused_by, refresh_most_in, pass1_rows_in, pass2_rows_in, blur_rows_in, refresh_given}
-use Rattle.refresh.specs.declared.StagesAnswer.{StagesAnswer}
-use Rattle.refresh.specs.declared.StagesAnswer.TheVariants as stages
-use Rattle.refresh.specs.declared.RefreshAnswer.{RefreshAnswer}
-use Rattle.refresh.specs.declared.RefreshAnswer.TheVariants.{Refused, WrongRect, WrongStored, Done}
+use Rattle.refresh.specs.Answer.{stages_refused_by, stages_most_in, stages_given, refresh_number_of, refresh_refused_by, refresh_most_in, pass1_rows_in, pass2_rows_in, blur_rows_in, refresh_given}
+use Rattle.checker.specs.declared.Refusal.{Refusal}
+use Rattle.refresh.specs.declared.RefreshRefusal.{RefreshRefusal}
+use Rattle.refresh.specs.declared.RefreshRefusal.TheVariants as own
+use Rattle.refresh.proofs.Entries.{number_over}
 use Rattle.refresh.specs.declared.Refreshed.{Refreshed}
 
 -- ---------------------------------------------------------------- `build_distance_stages`
 
-stages_same : (a b : StagesAnswer) → stages_refused_by a ≡ stages_refused_by b → stages_most_in a ≡ stages_most_in b → a ≡ b
-stages_same (stages.Refused r) (stages.Refused s) e f = ap stages.Refused (number_same r s e)
-stages_same (stages.Refused r) (stages.Done k) e f = absurd (omega (arith, number_pos r))
-stages_same (stages.Done k) (stages.Refused s) e f = absurd (omega (arith, number_pos s))
-stages_same (stages.Done k) (stages.Done j) e f = ap stages.Done f
+stages_same : (a b : Result ℕ Refusal) → stages_refused_by a ≡ stages_refused_by b → stages_most_in a ≡ stages_most_in b → a ≡ b
+stages_same (Err r) (Err s) e f = ap Err (number_same r s e)
+stages_same (Err r) (Ok k) e f = absurd (omega (arith, number_pos r))
+stages_same (Ok k) (Err s) e f = absurd (omega (arith, number_pos s))
+stages_same (Ok k) (Ok j) e f = ap Ok f
 
-pub one_stages_answer : (o : StagesOutcome) (a b : StagesAnswer) (l m n x y z : List ℕ)
+pub one_stages_answer : (o : StagesOutcome) (a b : Result ℕ Refusal) (l m n x y z : List ℕ)
     → stages_given a l m n ≡ o → stages_given b x y z ≡ o → (a ≡ b) × (l ≡ x) × (m ≡ y) × (n ≡ z)
 one_stages_answer o a b l m n x y z p q =
     let e = p ∙ sym q in (
@@ -34,13 +35,13 @@ one_stages_answer o a b l m n x y z p q =
 -- ---------------------------------------------------------------- `refresh_distance_field`
 
 -- what an answer says beside the refusal
-record Same (a b : RefreshAnswer) : Type 0 where
+record Same (a b : Result Refreshed RefreshRefusal) : Type 0 where
   most : refresh_most_in a ≡ refresh_most_in b
   first : pass1_rows_in a ≡ pass1_rows_in b
   second : pass2_rows_in a ≡ pass2_rows_in b
   third : blur_rows_in a ≡ blur_rows_in b
 
-done_same : (a b : Refreshed) → Same (Done a) (Done b) → a ≡ b
+done_same : (a b : Refreshed) → Same (Ok a) (Ok b) → a ≡ b
 done_same a b u =
     let p = ap (λ (v : Rows). v.first) u.first in
     let p' = ap (λ (v : Rows). v.last) u.first in
@@ -50,25 +51,24 @@ done_same a b u =
     let r' = ap (λ (v : Rows). v.last) u.third in
     rw (u.most, p, p', q, q', r, r')
 
-answer_same : (a b : RefreshAnswer) → refresh_refused_by a ≡ refresh_refused_by b → Same a b → a ≡ b
-answer_same (Refused r) (Refused s) e u = ap Refused (number_same r s e)
-answer_same (Refused r) WrongRect e u = absurd (number_not_11 r e)
-answer_same (Refused r) WrongStored e u = absurd (omega (arith, number_low r))
-answer_same (Refused r) (Done j) e u = absurd (omega (arith, number_pos r))
-answer_same WrongRect (Refused s) e u = absurd (number_not_11 s (sym e))
-answer_same WrongRect WrongRect e u = refl
-answer_same WrongRect WrongStored e u = absurd (omega arith)
-answer_same WrongRect (Done j) e u = absurd (omega arith)
-answer_same WrongStored (Refused s) e u = absurd (omega (arith, number_low s))
-answer_same WrongStored WrongRect e u = absurd (omega arith)
-answer_same WrongStored WrongStored e u = refl
-answer_same WrongStored (Done j) e u = absurd (omega arith)
-answer_same (Done k) (Refused s) e u = absurd (omega (arith, number_pos s))
-answer_same (Done k) WrongRect e u = absurd (omega arith)
-answer_same (Done k) WrongStored e u = absurd (omega arith)
-answer_same (Done k) (Done j) e u = ap Done (done_same k j u)
+refusal_same : (a b : RefreshRefusal) → refresh_number_of a ≡ refresh_number_of b → a ≡ b
+refusal_same (own.Field r) (own.Field s) e = ap own.Field (number_same r s e)
+refusal_same (own.Field r) own.WrongRect e = absurd (number_not_11 r e)
+refusal_same (own.Field r) own.WrongStored e = absurd (omega (arith, number_low r))
+refusal_same own.WrongRect (own.Field s) e = absurd (number_not_11 s (sym e))
+refusal_same own.WrongRect own.WrongRect e = refl
+refusal_same own.WrongRect own.WrongStored e = absurd (omega arith)
+refusal_same own.WrongStored (own.Field s) e = absurd (omega (arith, number_low s))
+refusal_same own.WrongStored own.WrongRect e = absurd (omega arith)
+refusal_same own.WrongStored own.WrongStored e = refl
 
-pub one_refresh_answer : (o : RefreshOutcome) (a b : RefreshAnswer) (l m n x y z : List ℕ)
+answer_same : (a b : Result Refreshed RefreshRefusal) → refresh_refused_by a ≡ refresh_refused_by b → Same a b → a ≡ b
+answer_same (Err r) (Err s) e u = ap Err (refusal_same r s e)
+answer_same (Err r) (Ok j) e u = absurd (omega (arith, number_over r))
+answer_same (Ok k) (Err s) e u = absurd (omega (arith, number_over s))
+answer_same (Ok k) (Ok j) e u = ap Ok (done_same k j u)
+
+pub one_refresh_answer : (o : RefreshOutcome) (a b : Result Refreshed RefreshRefusal) (l m n x y z : List ℕ)
     → refresh_given a l m n ≡ o → refresh_given b x y z ≡ o → (a ≡ b) × (l ≡ x) × (m ≡ y) × (n ≡ z)
 one_refresh_answer o a b l m n x y z p q =
     let e = p ∙ sym q in (

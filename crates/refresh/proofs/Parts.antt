@@ -1,24 +1,28 @@
 -- The spans of a row are a part of each list, between the first and the last cell of the row that is not empty; what is done to the part is done to the row.
 -- Spans stand as their cells do. Assumes nothing.
-use Prim.Native.Nat.{ℕ, suc, ◌+◌, ◌*◌, ◌-◌, ◌/◌, ◌≤◌, ◌<◌}
+use Prim.Native.Nat.{ℕ, zero, suc, ◌+◌, ◌*◌, ◌-◌, ◌/◌, ◌≤◌, ◌<◌}
 use native.Mathlib.Omega.{arith}
 use native.Mathlib.Nat.{mul-suc, mul-le-mul_left}
 use native.Mathlib.Decide.{dec_lt, ℕ_discrete}
 use mathlib.Core.Path.{◌≡◌, refl, sym, ap, ◌∙◌}
-use mathlib.Core.Bool.{true, false}
-use mathlib.Core.List.{List, []}
-use lib.ListN.{length, get_or, set}
+use mathlib.Core.Bool.{Bool}
+use mathlib.Core.List.{List, [], ◌++◌, append_assoc}
+use lib.ListN.{length, get_or, set, take, drop, length-drop}
+use lib.Seq.{paste, paste-zero, paste-suc, drop-drop, get_or-take, get_or-drop, ext_get_or}
+use lib.Pointwise.{pointwise, bytes_decides}
 use lib.Dec.{eqb}
-use borrow.Author.Tests.{eq-eqb, ne_eqb}
+use borrow.Author.Tests.{eq-eqb, eqb-true}
+use borrow.Rule.Slice.PartMut.{put_mid, mid_len}
+use Rattle.laws.proofs.Basics.{same_test, every-at, every_all}
 use mir.Val.{Fits}
 use mir.Syntax.{w64}
-use Rattle.rules.specs.Base.{◌and◌, upto, every}
+use Rattle.rules.specs.Base.{upto, every}
 use Rattle.rules.specs.Field.{Field, spans, cell_of}
 use Rattle.rules.specs.Refresh.{value_to}
 use Rattle.laws.proofs.Cells.{passed}
 use Rattle.meaning.proofs.Places.{layer_in, in_order}
 use Rattle.field.specs.Lent.{lent, Sound}
-use Rattle.field.proofs.Loops.{every_stop, product_small}
+use Rattle.field.proofs.Loops.{product_small}
 use Rattle.field.proofs.Passed.{sound_reached}
 use Rattle.door.specs.Edit.{row_of}
 use Rattle.door.proofs.Places.{row_is, row_cell, layer_cell, of_cell}
@@ -225,40 +229,34 @@ module _ (w h : ℕ) (is ks ar cs : List ℕ) (y : ℕ) (ok : Sound (lent w h is
           let e : w * y + z - 1 ≡ w * y + (z - 1) = omega arith in
           rw (p, q, r, e) (part_some (lent w h is ks ar cs) ok y a z first last some)
 
--- ---------------------------------------------------------------- the part gone through
+-- ---------------------------------------------------------------- the part of a list as a whole
 
-module _ (p : List ℕ) (a i : ℕ) (l m : List ℕ) where
-  pub copy_go : a ≤ i → m ≡ part_to p a i l → set m i (get_or p i 0) ≡ part_to p a (i + 1) l
-  unfolding upto part_to value_to
-  copy_go h e =
-      let q : i + 1 - a ≡ suc (i - a) = omega arith in
-      let r : a + (i - a) ≡ i = omega arith in
-      rw (q, r, ← e)
+-- copied place by place, it is copied whole
+module _ (p l : List ℕ) (a : ℕ) where
+  by_places : (n : ℕ) → a + n ≤ length p → a + n ≤ length l → upto n (λ i. value_to p (a + i)) l ≡ paste l a (drop a p) n
+  unfolding upto value_to
+  by_places zero h g = paste-zero l a (drop a p)
+  by_places (suc n) h g =
+      let q : get_or p (a + n) 0 ≡ get_or (drop a p) n 0 = sym (get_or-drop a p n 0) in
+      ap (λ (x : List ℕ). set x (a + n) (get_or p (a + n) 0)) (by_places n (omega arith) (omega arith)) ∙ rw q (paste-suc l a (drop a p) n 0 (omega arith) (omega (arith, length-drop a p)))
 
-  pub copy_end : (b : ℕ) → i ≤ b → b ≤ i → m ≡ part_to p a i l → m ≡ part_to p a b l
-  copy_end b h g e = let q : b ≡ i = omega arith in rw q e
+  pub copied_whole : (b : ℕ) (m : List ℕ) → a ≤ b → b ≤ length p → b ≤ length l → m ≡ take (b - a) (drop a p) → put_mid a (b - a) l m ≡ part_to p a b l
+  unfolding part_to
+  copied_whole b m h g k e =
+      ap (put_mid a (b - a) l) e ∙ sym (append_assoc (take a l) (take (b - a) (drop a p)) (drop (b - a) (drop a l)))
+      ∙ ap (λ (x : List ℕ). take a l ++ take (b - a) (drop a p) ++ x) (drop-drop (b - a) a l) ∙ sym (by_places (b - a) (omega arith) (omega arith))
 
-pub copy_first : (p : List ℕ) (a : ℕ) (l : List ℕ) → l ≡ part_to p a a l
-unfolding upto part_to
-copy_first p a l = let q : a - a ≡ 0 = omega arith in rw q
+-- the same as whole lists where it is the same place by place
+module _ (l m : List ℕ) (a b : ℕ) (i : b ≤ length l) (j : b ≤ length m) where
+  place : (p : List ℕ) (t : ℕ) → t < b - a → get_or (take (b - a) (drop a p)) t 0 ≡ get_or p (a + t) 0
+  place p t h = get_or-take (b - a) (drop a p) t 0 h ∙ get_or-drop a p t 0
 
-module _ (l m : List ℕ) (a i : ℕ) where
-  pub alike_go : a ≤ i → same_part l m a i ≡ true → get_or m i 0 ≡ get_or l i 0 → same_part l m a (i + 1) ≡ true
-  unfolding every ◌and◌ same_part
-  alike_go h e g =
-      let q : i + 1 - a ≡ suc (i - a) = omega arith in
-      let r : a + (i - a) ≡ i = omega arith in
-      rw (q, e, r) (eq-eqb _ _ g)
-
-  pub alike_stop : (b : ℕ) → a ≤ i → i < b → (get_or m i 0 ≡ get_or l i 0 → ⊥) → false ≡ same_part l m a b
+  pub same_whole : (r : Bool) → r ≡ pointwise eqb (take (b - a) (drop a m)) (take (b - a) (drop a l)) → r ≡ same_part l m a b
   unfolding same_part
-  alike_stop b h g n =
-      let r : a + (i - a) ≡ i = omega arith in
-      sym (every_stop (b - a) (λ j. eqb (get_or m (a + j) 0) (get_or l (a + j) 0)) (i - a) (omega arith) (rw r (ne_eqb _ _ n)))
-
-  pub alike_end : (b : ℕ) → i ≤ b → b ≤ i → same_part l m a i ≡ true → true ≡ same_part l m a b
-  alike_end b h g e = let q : b ≡ i = omega arith in rw (q, e)
-
-pub alike_first : (l m : List ℕ) (a : ℕ) → same_part l m a a ≡ true
-unfolding every same_part
-alike_first l m a = let q : a - a ≡ 0 = omega arith in rw q
+  same_whole r e =
+      let here = λ (t : ℕ). eqb (get_or m (a + t) 0) (get_or l (a + t) 0) in
+      let d = bytes_decides (take (b - a) (drop a m)) (take (b - a) (drop a l)) in
+      let u = mid_len a b m j in
+      same_test r (every (b - a) here)
+      (λ z. every_all (b - a) here (λ t h. eq-eqb _ _ (sym (place m t h) ∙ ap (λ (x : List ℕ). get_or x t 0) (d.0 (sym e ∙ z)) ∙ place l t h)))
+      (λ z. e ∙ d.1 (ext_get_or 0 _ _ (u ∙ sym (mid_len a b l i)) (λ t h. let g : t < b - a = omega (arith, u) in place m t g ∙ eqb-true _ _ (every-at (b - a) here z t g) ∙ sym (place l t g))))

@@ -1,9 +1,10 @@
 // The spans of a row, which follow each other, and the part of a list that they are.
 ghost use Rattle.std.specs.Prelude.{◌≡◌, ◌+◌, ◌<◌, ◌≤◌, length};
-ghost use Rattle.field.specs.Lent.{lent, Sound};
+ghost use Rattle.field.specs.Lent.{Sound};
 ghost use Rattle.refresh.specs.Part.{FirstCell, LastCell, RowPart, part_to, same_part};
+ghost use Rattle.field.specs.Seen.{seen};
 
-use field::read::{at8, at32};
+use field::lent::Heightfield;
 
 // Spans from number `from` on, up to number `to`, which is not among them.
 #[derive(Clone, Copy)]
@@ -18,7 +19,7 @@ fn first_cell(count: &[u8], c: usize, w: usize) -> usize
     ensures { FirstCell count.now c w result }
 {
     for x in 0..w {
-        if at8(count, c + x) != 0 {
+        if count[c + x] != 0 {
             return x;
         }
     }
@@ -30,10 +31,8 @@ fn last_cell(count: &[u8], c: usize, w: usize) -> usize
     requires { (c + w ≤ length count.now) × (c + w ≤ 65536) }
     ensures { LastCell count.now c w result }
 {
-    let mut x = w;
-    while 0 < x {
-        x -= 1;
-        if at8(count, c + x) != 0 {
+    for x in (0..w).rev() {
+        if count[c + x] != 0 {
             return x + 1;
         }
     }
@@ -41,28 +40,21 @@ fn last_cell(count: &[u8], c: usize, w: usize) -> usize
 }
 
 // The spans of row y.
-pub(crate) fn row_part(
-    w: usize,
-    h: usize,
-    index: &[u32],
-    count: &[u8],
-    area: &[u8],
-    con: &[u8],
-    y: usize,
-) -> Part
-    requires { Sound (lent w h index.now count.now area.now con.now) × (y < h) }
-    ensures { RowPart (lent w h index.now count.now area.now con.now) y result.from result.to }
+pub(crate) fn row_part(field: &Heightfield, y: usize) -> Part
+    requires { let F = seen field.now in
+        Sound F × (y < F.h) }
+    ensures { RowPart (seen field.now) y result.from result.to }
 {
-    let c = w * y;
-    let a = first_cell(count, c, w);
-    let z = last_cell(count, c, w);
+    let c = field.w * y;
+    let a = first_cell(field.count, c, field.w);
+    let z = last_cell(field.count, c, field.w);
     if z == 0 {
         return Part { from: 0, to: 0 };
     }
     let last = c + z - 1;
     Part {
-        from: at32(index, c + a),
-        to: at32(index, last) + at8(count, last),
+        from: field.index[c + a] as usize,
+        to: field.index[last] as usize + field.count[last] as usize,
     }
 }
 
@@ -71,9 +63,7 @@ pub(crate) fn copy_part(values: &[u16], to: &mut [u16], a: usize, b: usize)
     requires { (a ≤ b) × (b ≤ length values.now) × (b ≤ length to.old) }
     ensures { to.new ≡ part_to values.now a b to.old }
 {
-    for i in a..b {
-        to[i] = values[i];
-    }
+    to[a..b].copy_from_slice(&values[a..b]);
 }
 
 // Whether a part of one list holds what another holds there.
@@ -81,10 +71,5 @@ pub(crate) fn same_part(old: &[u16], new: &[u16], a: usize, b: usize) -> bool
     requires { (a ≤ b) × (b ≤ length old.now) × (b ≤ length new.now) }
     ensures { result ≡ same_part old.now new.now a b }
 {
-    for i in a..b {
-        if new[i] != old[i] {
-            return false;
-        }
-    }
-    true
+    &new[a..b] == &old[a..b]
 }

@@ -14,9 +14,10 @@ use Rattle.checker.specs.declared.Refusal.{Refusal}
 use Rattle.checker.specs.declared.Refusal.TheVariants.{TooWide, TooMany, WrongLength, WrongCells, WrongReach, WrongBack, TooShort, TooFar, NoIds, NoSum}
 use Rattle.checker.proofs.Numbers.{number_pos, number_same}
 use Rattle.sizes.specs.declared.metres.Room.{Room}
-use Rattle.sizes.specs.declared.RoomAnswer.{RoomAnswer}
-use Rattle.sizes.specs.declared.RoomAnswer.TheVariants.{Refused, WrongScale, WrongIds, Measured}
-use Rattle.sizes.specs.Answer.{room_of, measure_refused_by, room_in, outcome}
+use Rattle.std.specs.Prelude.{Result, Ok, Err}
+use Rattle.sizes.specs.declared.SizeRefusal.{SizeRefusal}
+use Rattle.sizes.specs.declared.SizeRefusal.TheVariants as size
+use Rattle.sizes.specs.Answer.{room_of, measure_refused_by, room_in, outcome, size_number}
 use Rattle.sizes.specs.Into.{sizes_of, numbers_of, Places, GivesInto}
 
 pub zero_is : of_bits binary64 0 ≡ zero64
@@ -50,50 +51,28 @@ module _ {A : Type 0} where
 pub all_zero : (z : Float) (l : List Float) → z ≡ zero64 → l ≡ z ∷ z ∷ z ∷ z ∷ z ∷ [] → l ≡ zero64 ∷ zero64 ∷ zero64 ∷ zero64 ∷ zero64 ∷ []
 all_zero z l e f = f ∙ ap (λ (x : Float). x ∷ x ∷ x ∷ x ∷ x ∷ []) e
 
-module _ (r : RoomAnswer) (s : List Float) (m : List ℕ) where
-  -- one of 1 to 6
-  module _ (x : Refusal) (z : r ≡ Refused x) where
-    pub number_refused : (k : ℕ) → k ≡ number_of x → k ≡ measure_refused_by r
+module _ (r : Result Room SizeRefusal) (s : List Float) (m : List ℕ) where
+  -- a refusal
+  module _ (x : SizeRefusal) (z : r ≡ Err x) where
+    pub number_refused : (k : ℕ) → k ≡ size_number x → k ≡ measure_refused_by r
     number_refused k e = e ∙ ap measure_refused_by (sym z)
 
     pub sizes_refused : s ≡ zero64 ∷ zero64 ∷ zero64 ∷ zero64 ∷ zero64 ∷ [] → s ≡ sizes_of (room_in r)
-    sizes_refused f = f ∙ ap (λ (a : RoomAnswer). sizes_of (room_in a)) (sym z)
+    sizes_refused f = f ∙ ap (λ (a : Result Room SizeRefusal). sizes_of (room_in a)) (sym z)
 
-    pub list_refused : (k : ℕ) → k ≡ number_of x → m ≡ k ∷ 0 ∷ 0 ∷ [] → m ≡ numbers_of (outcome r)
-    list_refused k e f = f ∙ ap (λ (n : ℕ). n ∷ 0 ∷ 0 ∷ []) e ∙ ap (λ (a : RoomAnswer). numbers_of (outcome a)) (sym z)
-
-  -- 9
-  module _ (z : r ≡ WrongScale) where
-    pub number_scale : 9 ≡ measure_refused_by r
-    number_scale = ap measure_refused_by (sym z)
-
-    pub sizes_scale : s ≡ zero64 ∷ zero64 ∷ zero64 ∷ zero64 ∷ zero64 ∷ [] → s ≡ sizes_of (room_in r)
-    sizes_scale f = f ∙ ap (λ (a : RoomAnswer). sizes_of (room_in a)) (sym z)
-
-    pub list_scale : m ≡ 9 ∷ 0 ∷ 0 ∷ [] → m ≡ numbers_of (outcome r)
-    list_scale f = f ∙ ap (λ (a : RoomAnswer). numbers_of (outcome a)) (sym z)
-
-  -- 10
-  module _ (z : r ≡ WrongIds) where
-    pub number_ids : 10 ≡ measure_refused_by r
-    number_ids = ap measure_refused_by (sym z)
-
-    pub sizes_ids : s ≡ zero64 ∷ zero64 ∷ zero64 ∷ zero64 ∷ zero64 ∷ [] → s ≡ sizes_of (room_in r)
-    sizes_ids f = f ∙ ap (λ (a : RoomAnswer). sizes_of (room_in a)) (sym z)
-
-    pub list_ids : m ≡ 10 ∷ 0 ∷ 0 ∷ [] → m ≡ numbers_of (outcome r)
-    list_ids f = f ∙ ap (λ (a : RoomAnswer). numbers_of (outcome a)) (sym z)
+    pub list_refused : (k : ℕ) → k ≡ size_number x → m ≡ k ∷ 0 ∷ 0 ∷ [] → m ≡ numbers_of (outcome r)
+    list_refused k e f = f ∙ ap (λ (n : ℕ). n ∷ 0 ∷ 0 ∷ []) e ∙ ap (λ (a : Result Room SizeRefusal). numbers_of (outcome a)) (sym z)
 
   -- a record
-  module _ (v : Room) (z : r ≡ Measured v) where
+  module _ (v : Room) (z : r ≡ Ok v) where
     pub number_room : 0 ≡ measure_refused_by r
     number_room = ap measure_refused_by (sym z)
 
     pub sizes_room : s ≡ sizes_of (room_of v) → s ≡ sizes_of (room_in r)
-    sizes_room f = f ∙ ap (λ (a : RoomAnswer). sizes_of (room_in a)) (sym z)
+    sizes_room f = f ∙ ap (λ (a : Result Room SizeRefusal). sizes_of (room_in a)) (sym z)
 
     pub list_room : m ≡ 0 ∷ v.area ∷ v.count ∷ [] → m ≡ numbers_of (outcome r)
-    list_room f = f ∙ ap (λ (a : RoomAnswer). numbers_of (outcome a)) (sym z)
+    list_room f = f ∙ ap (λ (a : Result Room SizeRefusal). numbers_of (outcome a)) (sym z)
 
 -- ---------------------------------------------------------------- lists of another length
 
@@ -113,7 +92,7 @@ module _ (F : Field) (ids : List ℕ) (most k id : ℕ) (s₀ : List Float) (m�
   pub into_three : (length m₀ ≡ 3 → ⊥) → (g : ℕ) → g ≡ refusal F ((spans F + 1) ∷ (spans F + 1) ∷ []) → GivesInto F ids most k id s₀ m₀ g s₀ m₀
   into_three n = into_other (λ p. n p.three)
 
-  pub into_done : length s₀ ≡ 5 → length m₀ ≡ 3 → (r : RoomAnswer) → outcome r ≡ measure_outcome F ids most k id → (g : ℕ) (s : List Float) (m : List ℕ)
+  pub into_done : length s₀ ≡ 5 → length m₀ ≡ 3 → (r : Result Room SizeRefusal) → outcome r ≡ measure_outcome F ids most k id → (g : ℕ) (s : List Float) (m : List ℕ)
       → g ≡ measure_refused_by r → s ≡ sizes_of (room_in r) → m ≡ numbers_of (outcome r) → GivesInto F ids most k id s₀ m₀ g s m
   into_done l n r o g s m x y z = record {
     refused = λ _. x ∙ ap (λ (v : MeasureOutcome). v.refused) o;
@@ -150,24 +129,24 @@ room_same a b e =
     let c = ap (λ (r : RoomSize). r.count) e in
     rw (f, l, p, m, q, t, c)
 
-answer_same : (a b : RoomAnswer) → measure_refused_by a ≡ measure_refused_by b → room_in a ≡ room_in b → a ≡ b
-answer_same (Refused r) (Refused s) e f = ap Refused (number_same r s e)
-answer_same (Refused r) WrongScale e f = absurd ((number_not_own r).0 e)
-answer_same (Refused r) WrongIds e f = absurd ((number_not_own r).1 e)
-answer_same (Refused r) (Measured m) e f = absurd (omega (arith, number_pos r))
-answer_same WrongScale (Refused s) e f = absurd ((number_not_own s).0 (sym e))
-answer_same WrongScale WrongScale e f = refl
-answer_same WrongScale WrongIds e f = absurd (omega arith)
-answer_same WrongScale (Measured m) e f = absurd (omega arith)
-answer_same WrongIds (Refused s) e f = absurd ((number_not_own s).1 (sym e))
-answer_same WrongIds WrongScale e f = absurd (omega arith)
-answer_same WrongIds WrongIds e f = refl
-answer_same WrongIds (Measured m) e f = absurd (omega arith)
-answer_same (Measured m) (Refused s) e f = absurd (omega (arith, number_pos s))
-answer_same (Measured m) WrongScale e f = absurd (omega arith)
-answer_same (Measured m) WrongIds e f = absurd (omega arith)
-answer_same (Measured m) (Measured n) e f = ap Measured (room_same m n f)
+answer_same : (a b : Result Room SizeRefusal) → measure_refused_by a ≡ measure_refused_by b → room_in a ≡ room_in b → a ≡ b
+answer_same (Err (size.Field r)) (Err (size.Field s)) e f = ap (λ (q : Refusal). Err (size.Field q)) (number_same r s e)
+answer_same (Err (size.Field r)) (Err size.WrongScale) e f = absurd ((number_not_own r).0 e)
+answer_same (Err (size.Field r)) (Err size.WrongIds) e f = absurd ((number_not_own r).1 e)
+answer_same (Err (size.Field r)) (Ok m) e f = absurd (omega (arith, number_pos r))
+answer_same (Err size.WrongScale) (Err (size.Field s)) e f = absurd ((number_not_own s).0 (sym e))
+answer_same (Err size.WrongScale) (Err size.WrongScale) e f = refl
+answer_same (Err size.WrongScale) (Err size.WrongIds) e f = absurd (omega arith)
+answer_same (Err size.WrongScale) (Ok m) e f = absurd (omega arith)
+answer_same (Err size.WrongIds) (Err (size.Field s)) e f = absurd ((number_not_own s).1 (sym e))
+answer_same (Err size.WrongIds) (Err size.WrongScale) e f = absurd (omega arith)
+answer_same (Err size.WrongIds) (Err size.WrongIds) e f = refl
+answer_same (Err size.WrongIds) (Ok m) e f = absurd (omega arith)
+answer_same (Ok m) (Err (size.Field s)) e f = absurd (omega (arith, number_pos s))
+answer_same (Ok m) (Err size.WrongScale) e f = absurd (omega arith)
+answer_same (Ok m) (Err size.WrongIds) e f = absurd (omega arith)
+answer_same (Ok m) (Ok n) e f = ap Ok (room_same m n f)
 
 -- two results of `measure_room` coincide: o is the outcome that the promise names
-pub one_room_answer : (o : MeasureOutcome) (a b : RoomAnswer) → outcome a ≡ o → outcome b ≡ o → a ≡ b
+pub one_room_answer : (o : MeasureOutcome) (a b : Result Room SizeRefusal) → outcome a ≡ o → outcome b ≡ o → a ≡ b
 one_room_answer o a b p q = let e = p ∙ sym q in answer_same a b (ap (λ v. v.refused) e) (ap (λ v. v.room) e)

@@ -15,13 +15,12 @@ use Rattle.rules.specs.Sizes.{Extent, RoomSize, shown, extent, extent_of, nothin
 use Rattle.laws.proofs.Basics.{neither}
 use Rattle.checker.specs.Answer.{number_of, verdict_number}
 use Rattle.checker.specs.declared.Refusal.{Refusal}
-use Rattle.checker.specs.declared.Verdict.{Verdict}
-use Rattle.checker.specs.declared.Verdict.TheVariants as verdict
+use Rattle.std.specs.Prelude.{Result, Ok, Err}
 use Rattle.checker.proofs.Numbers.{number_pos}
 use Rattle.field.specs.Lent.{Celled}
 use Rattle.field.proofs.Passed.{reached_of}
 use Rattle.sizes.specs.declared.metres.Room.{Room}
-use Rattle.sizes.specs.declared.RoomAnswer.TheVariants.{Refused, WrongScale, WrongIds, Measured}
+use Rattle.sizes.specs.declared.SizeRefusal.TheVariants as size
 use Rattle.sizes.specs.Answer.{room_of, outcome}
 
 -- two lists of n numbers refuse nothing
@@ -45,7 +44,7 @@ module _ (F : Field) (ids : List ℕ) (most id : ℕ) where
   unfolding extent_of when◌then◌else◌
   extent-none b p t e q = let z : shown most id ≡ false = sym p ∙ t in rw z q
 
-pub measure_celled : (F : Field) (v : Verdict) → verdict_number v ≡ refusal F (spans F ∷ spans F ∷ []) → v ≡ verdict.Sound → Celled F
+pub measure_celled : (F : Field) (v : Result Unit Refusal) → verdict_number v ≡ refusal F (spans F ∷ spans F ∷ []) → v ≡ Ok tt → Celled F
 measure_celled F v e y = (reached_of F (spans F ∷ spans F ∷ []) (sym e ∙ ap verdict_number y)).celled
 
 pub measure_long : (n : ℕ) (ids : List ℕ) (most : ℕ) (x : Bool) → x ≡ wrong_ids n ids most → x ≡ false → length ids ≡ n
@@ -56,22 +55,22 @@ first_given : (F : Field) (ids : List ℕ) (most k : ℕ) → (refusal F [] ≡ 
 unfolding measure_refusal when◌then◌else◌
 first_given F ids most k z = rw (ne_eqb (refusal F []) 0 z)
 
-module _ (F : Field) (ids : List ℕ) (most k id : ℕ) (v : Verdict) (e : verdict_number v ≡ refusal F (spans F ∷ spans F ∷ [])) where
-  pub measure_refused : (r : Refusal) → v ≡ verdict.Refused r → outcome (Refused r) ≡ measure_outcome F ids most k id
+module _ (F : Field) (ids : List ℕ) (most k id : ℕ) (v : Result Unit Refusal) (e : verdict_number v ≡ refusal F (spans F ∷ spans F ∷ [])) where
+  pub measure_refused : (r : Refusal) → v ≡ Err r → outcome (Err (size.Field r)) ≡ measure_outcome F ids most k id
   unfolding measure_outcome when◌then◌else◌
   measure_refused r y =
       let n : number_of r ≡ refusal F [] = ap verdict_number (sym y) ∙ e ∙ lens_own F in
       let m : number_of r ≡ measure_refusal F ids most k = n ∙ sym (first_given F ids most k (λ q. omega (arith, number_pos r))) in
       rw (ne_eqb (measure_refusal F ids most k) 0 (λ q. omega (arith, number_pos r)), m)
 
-  module _ (y : v ≡ verdict.Sound) where
+  module _ (y : v ≡ Ok tt) where
     sound : refusal F [] ≡ 0
     sound = sym (lens_own F) ∙ sym e ∙ ap verdict_number y
 
     none : eqb (refusal F []) 0 ≡ true
     none = eq-eqb (refusal F []) 0 sound
 
-    pub measure_scale : (b : Bool) → b ≡ wrong_scale k → b ≡ true → outcome WrongScale ≡ measure_outcome F ids most k id
+    pub measure_scale : (b : Bool) → b ≡ wrong_scale k → b ≡ true → outcome (Err size.WrongScale) ≡ measure_outcome F ids most k id
     unfolding measure_outcome measure_refusal when◌then◌else◌
     measure_scale b p t = let z : wrong_scale k ≡ true = sym p ∙ t in rw (none, z)
 
@@ -79,7 +78,7 @@ module _ (F : Field) (ids : List ℕ) (most k id : ℕ) (v : Verdict) (e : verdi
       good : wrong_scale k ≡ false
       good = sym p ∙ t
 
-      pub measure_ids : (x : Bool) → x ≡ wrong_ids (spans F) ids most → x ≡ true → outcome WrongIds ≡ measure_outcome F ids most k id
+      pub measure_ids : (x : Bool) → x ≡ wrong_ids (spans F) ids most → x ≡ true → outcome (Err size.WrongIds) ≡ measure_outcome F ids most k id
       unfolding measure_outcome measure_refusal when◌then◌else◌
       measure_ids x q u = let z : wrong_ids (spans F) ids most ≡ true = sym q ∙ u in rw (none, good, z)
 
@@ -87,6 +86,6 @@ module _ (F : Field) (ids : List ℕ) (most k id : ℕ) (v : Verdict) (e : verdi
         listed : wrong_ids (spans F) ids most ≡ false
         listed = sym q ∙ u
 
-        pub measure_done : (m : Room) (a : Extent) → a ≡ extent_of F ids most id → room_of m ≡ sized k a → outcome (Measured m) ≡ measure_outcome F ids most k id
+        pub measure_done : (m : Room) (a : Extent) → a ≡ extent_of F ids most id → room_of m ≡ sized k a → outcome (Ok m) ≡ measure_outcome F ids most k id
         unfolding measure_outcome measure_refusal when◌then◌else◌
         measure_done m a f g = rw (none, good, listed, ← f) (ap (λ (r : RoomSize). record { refused = 0; room = r }) g)

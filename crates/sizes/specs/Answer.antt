@@ -1,10 +1,10 @@
 -- The numbers of the entry's answer, and the answer as the rule has it.
-use Rattle.std.specs.Prelude.{ℕ}
+use Rattle.std.specs.Prelude.{ℕ, Result, Ok, Err}
 use Rattle.rules.specs.Sizes.{RoomSize, MeasureOutcome, zeros}
 use Rattle.checker.specs.Answer.{number_of}
 use Rattle.sizes.specs.declared.metres.Room.{Room}
-use Rattle.sizes.specs.declared.RoomAnswer.{RoomAnswer}
-use Rattle.sizes.specs.declared.RoomAnswer.TheVariants.{Refused, WrongScale, WrongIds, Measured}
+use Rattle.sizes.specs.declared.SizeRefusal.{SizeRefusal}
+use Rattle.sizes.specs.declared.SizeRefusal.TheVariants.{Field, WrongScale, WrongIds}
 
 -- the rule's record of the code's
 abbrev pub room_of : Room → RoomSize
@@ -18,19 +18,21 @@ room_of r = record {
   count = r.count;
 }
 
+-- the number of a refusal
+abbrev pub size_number : SizeRefusal → ℕ
+size_number (Field r) = number_of r
+size_number WrongScale = 9
+size_number WrongIds = 10
+
 -- the refusal number, 0 for none
-abbrev pub measure_refused_by : RoomAnswer → ℕ
-measure_refused_by (Refused r) = number_of r
-measure_refused_by WrongScale = 9
-measure_refused_by WrongIds = 10
-measure_refused_by (Measured m) = 0
+abbrev pub measure_refused_by : Result Room SizeRefusal → ℕ
+measure_refused_by (Err r) = size_number r
+measure_refused_by (Ok m) = 0
 
 -- "with a record of zeros" where refused
-abbrev pub room_in : RoomAnswer → RoomSize
-room_in (Refused r) = zeros
-room_in WrongScale = zeros
-room_in WrongIds = zeros
-room_in (Measured m) = room_of m
+abbrev pub room_in : Result Room SizeRefusal → RoomSize
+room_in (Err r) = zeros
+room_in (Ok m) = room_of m
 
-abbrev pub outcome : RoomAnswer → MeasureOutcome
+abbrev pub outcome : Result Room SizeRefusal → MeasureOutcome
 outcome r = record { refused = measure_refused_by r; room = room_in r }

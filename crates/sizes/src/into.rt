@@ -4,10 +4,12 @@ ghost use Rattle.rules.specs.Sizes.{zero64};
 ghost use Rattle.field.specs.Lent.{lent};
 ghost use Rattle.sizes.specs.Answer.{room_of, measure_refused_by, room_in, outcome};
 ghost use Rattle.sizes.specs.Into.{sizes_of, numbers_of, GivesInto};
+ghost use Rattle.field.specs.Seen.{seen};
 
 use crate::metres::Room;
-use crate::{RoomAnswer, measure_room};
-use checker::{refusal_number, wrong_length};
+use crate::{SizeRefusal, measure_room};
+use checker::wrong_length;
+use field::lent::Heightfield;
 
 // How many sizes a record has, and how many numbers beside them.
 const SIZES: usize = 5;
@@ -62,25 +64,17 @@ fn put_room(sizes: &mut [f64], numbers: &mut [u16], m: Room)
 }
 
 // The values of an answer; the refusal is given too.
-fn put(sizes: &mut [f64], numbers: &mut [u16], r: RoomAnswer) -> u16
+fn put(sizes: &mut [f64], numbers: &mut [u16], r: Result<Room, SizeRefusal>) -> u16
     requires { (length sizes.old ≡ 5) × (length numbers.old ≡ 3) }
     ensures { (result ≡ measure_refused_by r) × (sizes.new ≡ sizes_of (room_in r)) × (numbers.new ≡ numbers_of (outcome r)) }
 {
     match r {
-        RoomAnswer::Refused(x) => {
-            let k = refusal_number(x);
+        Err(e) => {
+            let k = e.number();
             put_refused(sizes, numbers, k);
             k
         }
-        RoomAnswer::WrongScale => {
-            put_refused(sizes, numbers, 9);
-            9
-        }
-        RoomAnswer::WrongIds => {
-            put_refused(sizes, numbers, 10);
-            10
-        }
-        RoomAnswer::Measured(m) => {
+        Ok(m) => {
             put_room(sizes, numbers, m);
             0
         }
@@ -89,12 +83,7 @@ fn put(sizes: &mut [f64], numbers: &mut [u16], r: RoomAnswer) -> u16
 
 // As `measure_room`, with the sizes in a list of five and the numbers beside them in a list of three.
 pub fn measure_into(
-    w: u16,
-    h: u16,
-    index: &[u32],
-    count: &[u8],
-    area: &[u8],
-    con: &[u8],
+    field: &Heightfield,
     ids: &[u16],
     max_region: u16,
     k: u16,
@@ -102,16 +91,16 @@ pub fn measure_into(
     sizes: &mut [f64],
     numbers: &mut [u16],
 ) -> u16
-    ensures { let F = lent w h index.now count.now area.now con.now in
+    ensures { let F = seen field.now in
         GivesInto F ids.now max_region k id sizes.old numbers.old
         result sizes.new numbers.new }
 {
     if sizes.len() != SIZES {
-        return wrong_length(w as usize, h as usize, index, count, area, con);
+        return wrong_length(field);
     }
     if numbers.len() != NUMBERS {
-        return wrong_length(w as usize, h as usize, index, count, area, con);
+        return wrong_length(field);
     }
-    let r = measure_room(w, h, index, count, area, con, ids, max_region, k, id);
+    let r = measure_room(field, ids, max_region, k, id);
     put(sizes, numbers, r)
 }

@@ -11,20 +11,44 @@ ghost use Rattle.rules.specs.Base.{◌or◌, any};
 ghost use Rattle.rules.specs.Sizes.{shown, too_great, wrong_scale, wrong_ids, extent_of, measure_outcome};
 ghost use Rattle.field.specs.Lent.{lent, Celled};
 ghost use Rattle.sizes.specs.Walk.{extent_at};
-ghost use Rattle.sizes.specs.Answer.{outcome};
+ghost use Rattle.sizes.specs.Answer.{size_number, outcome};
+ghost use Rattle.field.specs.Seen.{seen};
 
 use crate::metres::{Room, measured};
 use crate::walk::{Extent, no_extent, walk_cells};
-use checker::{Refusal, Verdict, check};
+use checker::{Refusal, check};
+use field::lent::Heightfield;
 use region::RegionId;
 
-// What the entry gives: one of refusals 1 to 6; 9, a scale of 0 or above 256; 10, a wrong list of ids; or the record.
+// Why there is no record: one of refusals 1 to 6; 9, a scale of 0 or above 256; 10, a wrong list of ids.
 #[derive(Clone, Copy)]
-pub enum RoomAnswer {
-    Refused(Refusal),
+pub enum SizeRefusal {
+    Field(Refusal),
     WrongScale,
     WrongIds,
-    Measured(Room),
+}
+
+impl From<Refusal> for SizeRefusal {
+    ghost use Rattle.sizes.specs.declared.SizeRefusal.TheVariants.{Field};
+
+    ghost from_gives = { λ r e. e ≡ Field r };
+
+    fn from(r: Refusal) -> SizeRefusal {
+        SizeRefusal::Field(r)
+    }
+}
+
+impl SizeRefusal {
+    // The number that C gets.
+    pub fn number(self) -> u16
+        ensures { result ≡ size_number self }
+    {
+        match self {
+            SizeRefusal::Field(r) => r.number(),
+            SizeRefusal::WrongScale => 9,
+            SizeRefusal::WrongIds => 10,
+        }
+    }
 }
 
 // The most sixty-fourths of a metre that a cell's side has.
@@ -62,10 +86,8 @@ fn any_too_great(ids: &[u16], max_region: u16) -> bool
     ensures { result ≡ any (too_great max_region) ids.now }
 {
     let mut found = false;
-    let mut i = 0;
-    while i < ids.len() {
+    for i in 0..ids.len() {
         found = or_too_great(found, max_region, ids[i]);
-        i += 1;
     }
     found
 }
@@ -97,57 +119,37 @@ fn is_shown(max_region: u16, id: u16) -> bool
 }
 
 // The extent of an id; of one that has no record, nothing.
-fn extent_of(
-    w: usize,
-    h: usize,
-    index: &[u32],
-    count: &[u8],
-    area: &[u8],
-    con: &[u8],
-    ids: &[u16],
-    max_region: u16,
-    id: u16,
-) -> Extent
-    requires { Celled (lent w h index.now count.now area.now con.now) × (length ids.now ≡ length area.now) }
-    ensures { let F = lent w h index.now count.now area.now con.now in
+fn extent_of(field: &Heightfield, ids: &[u16], max_region: u16, id: u16) -> Extent
+    requires { let F = seen field.now in
+        Celled F × (length ids.now ≡ length F.area) }
+    ensures { let F = seen field.now in
         (extent_at result ≡ extent_of F ids.now max_region id) × (result.count ≤ 65000) }
 {
     if is_shown(max_region, id) {
-        return walk_cells(w, h, index, count, area, con, ids, id);
+        return walk_cells(field, ids, id);
     }
     no_extent()
 }
 
 // The record of an id, with cells of side k/64 metre, of any lists.
 pub fn measure_room(
-    w: u16,
-    h: u16,
-    index: &[u32],
-    count: &[u8],
-    area: &[u8],
-    con: &[u8],
+    field: &Heightfield,
     ids: &[u16],
     max_region: u16,
     k: u16,
     id: u16,
-) -> RoomAnswer
-    ensures { let F = lent w h index.now count.now area.now con.now in
+) -> Result<Room, SizeRefusal>
+    ensures { let F = seen field.now in
         outcome result ≡ measure_outcome F ids.now max_region k id }
 {
-    let width = w as usize;
-    let height = h as usize;
-    let n = area.len();
-    match check(width, height, index, count, area, con, n, n) {
-        Verdict::Refused(r) => RoomAnswer::Refused(r),
-        Verdict::Sound => {
-            if wrong_scale(k) {
-                return RoomAnswer::WrongScale;
-            }
-            if wrong_ids(n, ids, max_region) {
-                return RoomAnswer::WrongIds;
-            }
-            let e = extent_of(width, height, index, count, area, con, ids, max_region, id);
-            RoomAnswer::Measured(measured(e, k))
-        }
+    let n = field.area.len();
+    check(field, n, n)?;
+    if wrong_scale(k) {
+        return Err(SizeRefusal::WrongScale);
     }
+    if wrong_ids(n, ids, max_region) {
+        return Err(SizeRefusal::WrongIds);
+    }
+    let e = extent_of(field, ids, max_region, id);
+    Ok(measured(e, k))
 }

@@ -4,8 +4,9 @@ ghost use Rattle.rules.specs.Base.{upto};
 ghost use Rattle.rules.specs.Sizes.{nothing, added, extent};
 ghost use Rattle.field.specs.Lent.{lent, Celled};
 ghost use Rattle.sizes.specs.Walk.{extent_at, note_at};
+ghost use Rattle.field.specs.Seen.{seen};
 
-use field::read::at8;
+use field::lent::Heightfield;
 
 // What is known of an id after some of its spans: its first span's area, and its edges in cells.
 #[derive(Clone, Copy)]
@@ -32,24 +33,6 @@ pub fn no_extent() -> Extent
     }
 }
 
-fn smaller(a: u32, b: u32) -> u32
-    ensures { result ≡ min a b }
-{
-    if a < b {
-        return a;
-    }
-    b
-}
-
-fn larger(a: u32, b: u32) -> u32
-    ensures { result ≡ max a b }
-{
-    if a < b {
-        return b;
-    }
-    a
-}
-
 // A span of this area at (x, z) is added.
 fn add(e: Extent, area: u8, x: u32, z: u32) -> Extent
     requires { (e.count < 65535) × (x < 65536) × (z < 65536) }
@@ -68,10 +51,10 @@ fn add(e: Extent, area: u8, x: u32, z: u32) -> Extent
     Extent {
         count: e.count + 1,
         area: e.area,
-        x_least: smaller(e.x_least, x),
-        x_past: larger(e.x_past, x + 1),
-        z_least: smaller(e.z_least, z),
-        z_past: larger(e.z_past, z + 1),
+        x_least: e.x_least.min(x),
+        x_past: e.x_past.max(x + 1),
+        z_least: e.z_least.min(z),
+        z_past: e.z_past.max(z + 1),
     }
 }
 
@@ -103,40 +86,28 @@ fn walk_cell(
     ensures { extent_at result ≡ upto spans (λ j. note_at area.now ids.now id x z (first + j)) (extent_at e) }
 {
     let mut seen = e;
-    let mut j: usize = 0;
-    while j < spans {
+    for j in 0..spans {
         seen = note(area, ids, id, first + j, x, z, seen);
-        j += 1;
     }
     seen
 }
 
 // All spans of a field whose cells are in order.
-pub fn walk_cells(
-    w: usize,
-    h: usize,
-    index: &[u32],
-    count: &[u8],
-    area: &[u8],
-    con: &[u8],
-    ids: &[u16],
-    id: u16,
-) -> Extent
-    requires { Celled (lent w h index.now count.now area.now con.now) × (length ids.now ≡ length area.now) }
-    ensures { let F = lent w h index.now count.now area.now con.now in
+pub fn walk_cells(field: &Heightfield, ids: &[u16], id: u16) -> Extent
+    requires { let F = seen field.now in
+        Celled F × (length ids.now ≡ length F.area) }
+    ensures { let F = seen field.now in
         (extent_at result ≡ extent F ids.now id) × (result.count ≤ 65000) }
 {
-    let cells = w * h;
+    let cells = field.w * field.h;
     let mut seen = no_extent();
     let mut first: usize = 0;
-    let mut c: usize = 0;
-    while c < cells {
-        let spans = at8(count, c);
-        let x = (c % w) as u32;
-        let z = (c / w) as u32;
-        seen = walk_cell(area, ids, id, first, spans, x, z, seen);
+    for c in 0..cells {
+        let spans = field.count[c] as usize;
+        let x = (c % field.w) as u32;
+        let z = (c / field.w) as u32;
+        seen = walk_cell(field.area, ids, id, first, spans, x, z, seen);
         first += spans;
-        c += 1;
     }
     seen
 }

@@ -3,20 +3,20 @@
 use Prim.Native.Nat.{ℕ, suc, ◌+◌, ◌*◌, ◌-◌, ◌/◌, ◌%◌, ◌≤◌, ◌<◌}
 use native.Mathlib.Omega.{arith}
 use mathlib.Core.Path.{◌≡◌, refl, sym, ap, subst, ◌∙◌}
-use mathlib.Core.Bool.{Bool, true, false}
+use mathlib.Core.Bool.{Bool, true, false, not}
 use mathlib.Core.List.{List, [], ◌∷◌, ◌++◌}
 use lib.ListN.{length, length-append}
 use lib.Dec.{eqb, ltb, leb}
-use borrow.Author.Tests.{eq-eqb, ne_eqb, ltb-true, lt-ltb, le-leb, leb-true}
+use borrow.Author.Tests.{eq-eqb, ne_eqb, eqb-true, eqb-false, ltb-true, lt-ltb, le-leb, leb-true}
 use Rattle.rules.specs.Base.{◌and◌, when◌then◌else◌}
 use Rattle.rules.specs.File.{word}
 use Rattle.rules.specs.Stored.{two, four, span_record, run_record, mark_record, joins, old_fine, old_ids, runs_of, marks_fit, packed}
-use Rattle.laws.proofs.Basics.{same_test}
+use Rattle.laws.proofs.Basics.{same_test, if-ind}
 use Rattle.forms.proofs.Runs.{joined}
 use Rattle.file.specs.Written.{Room, Wrote}
 use Rattle.file.proofs.Writing.{written_none, room_first, room_then, wrote_then}
 use Rattle.stored.specs.Parts.{grown, five, next_run, turned, run_then, run_bytes, ended, ended_bytes, mark_fits, end_fits}
-use Rattle.stored.proofs.Places.{old_length, runs_left, fits_left, left-first, fits_first, left_next, fits_next, left_end, fits_end, packed_none, grown_le, turned_below}
+use Rattle.stored.proofs.Places.{old_length, runs_left, fits_left, left-first, fits_first, left_next, fits_next, left_end, fits_end, packed_none, grown_le}
 use Rattle.stored.proofs.Fits.{Fits, fits_whole, fits_part, fits_not, Writes, writes_first, writes_room, writes_next, writes_done}
 
 -- ---------------------------------------------------------------- records
@@ -99,9 +99,13 @@ pub joins-same : (x k y : ℕ) → x ≡ y → ltb k 65535 ≡ joins x k y
 unfolding joins ◌and◌
 joins-same x k y e = rw (eq-eqb x y e)
 
-pub joins-other : (x k y : ℕ) → (x ≡ y → ⊥) → false ≡ joins x k y
+pub joins-other : (x k y : ℕ) → (x ≡ y → ⊥) → eqb x y ≡ joins x k y
 unfolding joins ◌and◌
 joins-other x k y e = rw (ne_eqb x y e)
+
+next_is : (t : ℕ) → t < 64 → (t + 1) % 64 ≡ next_run t
+unfolding next_run
+next_is t h = if-ind (λ z. (t + 1) % 64 ≡ z) (eqb (suc t) 64) (λ e. let f = eqb-true (suc t) 64 e in omega arith) (λ e. let f = eqb-false (suc t) 64 e in omega arith)
 
 module _ (x k y : ℕ) (b : Bool) (e : b ≡ joins x k y) where
   pub grown-small : b ≡ true → k < 65535
@@ -119,9 +123,9 @@ module _ (x k y : ℕ) (b : Bool) (e : b ≡ joins x k y) where
   unfolding turned when◌then◌else◌
   turned_same t f = let p : joins x k y ≡ true = sym e ∙ f in rw p
 
-  pub turned_next : (t r : ℕ) → b ≡ false → r ≡ next_run t → r ≡ turned x k y t
+  pub turned_next : (t : ℕ) → t < 64 → b ≡ false → (t + 1) % 64 ≡ turned x k y t
   unfolding turned when◌then◌else◌
-  turned_next t r f g = let p : joins x k y ≡ false = sym e ∙ f in rw p g
+  turned_next t h f = let p : joins x k y ≡ false = sym e ∙ f in rw p (next_is t h)
 
   pub bytes_none : (t : ℕ) → b ≡ true → 0 ≡ ended_bytes x k y t
   unfolding ended_bytes when◌then◌else◌
@@ -131,9 +135,9 @@ module _ (x k y : ℕ) (b : Bool) (e : b ≡ joins x k y) where
   unfolding ended_bytes when◌then◌else◌
   bytes_run t r f g = let p : joins x k y ≡ false = sym e ∙ f in rw p g
 
-  pub end_goes : (t s : ℕ) → b ≡ true → true ≡ end_fits x k y t s
+  pub end_goes : (t s : ℕ) → b ≡ true → b ≡ end_fits x k y t s
   unfolding end_fits when◌then◌else◌
-  end_goes t s f = let p : joins x k y ≡ true = sym e ∙ f in rw p
+  end_goes t s f = let p : joins x k y ≡ true = sym e ∙ f in rw p f
 
   pub end_tests : (t s : ℕ) (r : Bool) → b ≡ false → r ≡ mark_fits t s → r ≡ end_fits x k y t s
   unfolding end_fits when◌then◌else◌
@@ -158,14 +162,6 @@ module _ (x k y : ℕ) (b : Bool) (e : b ≡ joins x k y) where
 
 -- ---------------------------------------------------------------- the last run of a stretch, or another
 
-pub next_zero : (t : ℕ) → t + 1 ≡ 64 → 0 ≡ next_run t
-unfolding next_run when◌then◌else◌
-next_zero t e = rw (eq-eqb (suc t) 64 (omega arith))
-
-pub next_more : (t : ℕ) → (t + 1 ≡ 64 → ⊥) → t + 1 ≡ next_run t
-unfolding next_run when◌then◌else◌
-next_more t n = rw (ne_eqb (suc t) 64 (λ e. n (omega arith))) (omega arith)
-
 pub ten_bytes : (t : ℕ) → t + 1 ≡ 64 → 10 ≡ run_bytes t
 unfolding run_bytes when◌then◌else◌
 ten_bytes t e = rw (eq-eqb (suc t) 64 (omega arith))
@@ -178,9 +174,9 @@ pub mark_tests : (t s : ℕ) → t + 1 ≡ 64 → leb s 4294967295 ≡ mark_fits
 unfolding mark_fits when◌then◌else◌
 mark_tests t s e = rw (eq-eqb (suc t) 64 (omega arith))
 
-pub mark_none : (t s : ℕ) → (t + 1 ≡ 64 → ⊥) → true ≡ mark_fits t s
+pub mark_none : (t s : ℕ) → (t + 1 ≡ 64 → ⊥) → not (eqb (t + 1) 64) ≡ mark_fits t s
 unfolding mark_fits when◌then◌else◌
-mark_none t s n = rw (ne_eqb (suc t) 64 (λ e. n (omega arith)))
+mark_none t s n = rw (ne_eqb (suc t) 64 (λ e. n (omega arith)), ne_eqb (t + 1) 64 n)
 
 then_mark : (x k t s : ℕ) → t + 1 ≡ 64 → run_then x k t s ≡ five 6 x k ++ mark_record s
 unfolding run_then run_record five when◌then◌else◌
@@ -212,13 +208,13 @@ module _ (out : List ℕ) (at x k t s : ℕ) (h : Room out at (run_then x k t s)
 -- ---------------------------------------------------------------- the numbers of spans fit
 
 module _ (l : List ℕ) (i x k t : ℕ) (o : length l % 3 ≡ 1) (f : marks_fit 0 0 (runs_of (old_ids l)) ≡ fits_left l i x k t) (le : k ≤ i) where
-  pub marks_next : (y g u : ℕ) (b : Bool) → i < length l / 3 → y ≡ word l (3 * i + 1) → b ≡ end_fits x k y t i → b ≡ true → u ≡ turned x k y t → g ≡ grown x k y
-      → marks_fit 0 0 (runs_of (old_ids l)) ≡ fits_left l (i + 1) y g u
+  pub marks_next : (y n g u : ℕ) (b : Bool) → i < length l / 3 → y ≡ word l (3 * i + 1) → b ≡ end_fits x k y t i → b ≡ true → n ≡ y → u ≡ turned x k y t → g ≡ grown x k y
+      → marks_fit 0 0 (runs_of (old_ids l)) ≡ fits_left l (i + 1) n g u
   unfolding ◌and◌
-  marks_next y g u b h e p q v w =
+  marks_next y n g u b h e p q c v w =
       f ∙ fits_next l i x k t o h le ∙ ap (λ z. end_fits x k z t i and fits_left l (i + 1) z (grown x k z) (turned x k z t)) (sym e)
       ∙ ap (λ z. z and fits_left l (i + 1) y (grown x k y) (turned x k y t)) (sym p ∙ q)
-      ∙ ap (λ z. fits_left l (i + 1) y z (turned x k y t)) (sym w) ∙ ap (fits_left l (i + 1) y g) (sym v)
+      ∙ ap (λ z. fits_left l (i + 1) y z (turned x k y t)) (sym w) ∙ ap (fits_left l (i + 1) y g) (sym v) ∙ ap (λ z. fits_left l (i + 1) z g u) (sym c)
 
   pub marks_not : (y : ℕ) (b : Bool) → i < length l / 3 → y ≡ word l (3 * i + 1) → b ≡ end_fits x k y t i → b ≡ false → false ≡ marks_fit 0 0 (runs_of (old_ids l))
   unfolding ◌and◌
@@ -226,16 +222,19 @@ module _ (l : List ℕ) (i x k t : ℕ) (o : length l % 3 ≡ 1) (f : marks_fit 
       sym (f ∙ fits_next l i x k t o h le ∙ ap (λ z. end_fits x k z t i and fits_left l (i + 1) z (grown x k z) (turned x k z t)) (sym e)
       ∙ ap (λ z. z and fits_left l (i + 1) y (grown x k y) (turned x k y t)) (sym p ∙ q))
 
-  pub marks_end : (b : Bool) → i ≤ length l / 3 → length l / 3 ≤ i → b ≡ mark_fits t i → b ≡ marks_fit 0 0 (runs_of (old_ids l))
-  marks_end b h g e = e ∙ fits_end l i x k t o h g le ∙ sym f
+  pub marks_end : (b : Bool) → i ≤ length l / 3 → length l / 3 ≤ i → b ≡ mark_fits t (length l / 3) → b ≡ marks_fit 0 0 (runs_of (old_ids l))
+  marks_end b h g e = let n : length l / 3 ≡ i = omega arith in e ∙ ap (mark_fits t) n ∙ fits_end l i x k t o h g le ∙ sym f
 
-pub marks_first : (l : List ℕ) (x : ℕ) → length l % 3 ≡ 1 → 3 < length l → x ≡ word l 1 → marks_fit 0 0 (runs_of (old_ids l)) ≡ fits_left l 1 x 1 0
-marks_first l x o h e = fits_first l o h ∙ ap (λ z. fits_left l 1 z 1 0) (sym e)
+pub marks_first : (l : List ℕ) (x k t : ℕ) → length l % 3 ≡ 1 → 3 < length l → x ≡ word l 1 → k ≡ 1 → t ≡ 0 → marks_fit 0 0 (runs_of (old_ids l)) ≡ fits_left l 1 x k t
+marks_first l x k t o h e f g = rw (e, f, g) (fits_first l o h)
 
 -- ---------------------------------------------------------------- room for the runs
 
-pub fit_first : (l : List ℕ) (room x : ℕ) → length l % 3 ≡ 1 → 3 < length l → x ≡ word l 1 → Fits (packed l) room (runs_left l 1 x 1 0) room
-fit_first l room x o h e = fits_whole (packed l) room (runs_left l 1 x 1 0) (left-first l o h ∙ ap (λ z. runs_left l 1 z 1 0) (sym e))
+first-left : (l : List ℕ) (x k t : ℕ) → length l % 3 ≡ 1 → 3 < length l → x ≡ word l 1 → k ≡ 1 → t ≡ 0 → packed l ≡ runs_left l 1 x k t
+first-left l x k t o h e f g = rw (e, f, g) (left-first l o h)
+
+pub fit_first : (l : List ℕ) (room x k t : ℕ) → length l % 3 ≡ 1 → 3 < length l → x ≡ word l 1 → k ≡ 1 → t ≡ 0 → Fits (packed l) room (runs_left l 1 x k t) room
+fit_first l room x k t o h e f g = fits_whole (packed l) room (runs_left l 1 x k t) (first-left l x k t o h e f g)
 
 -- what is left, by the next id
 left_by_lem : (l : List ℕ) (i x k t y g u : ℕ) → length l % 3 ≡ 1 → i < length l / 3 → k ≤ i → y ≡ word l (3 * i + 1) → g ≡ grown x k y → u ≡ turned x k y t
@@ -263,12 +262,13 @@ unfolding ended ended_bytes
 ended_long x k y t s = ended_long_cases x k t s (joins x k y)
 
 module _ (l : List ℕ) (room i x k t left : ℕ) (f : Fits (packed l) room (runs_left l i x k t) left) (o : length l % 3 ≡ 1) (le : k ≤ i) where
-  pub fit_next : (y g u n : ℕ) → i < length l / 3 → y ≡ word l (3 * i + 1) → n ≡ ended_bytes x k y t → n ≤ left → u ≡ turned x k y t → g ≡ grown x k y
-      → Fits (packed l) room (runs_left l (i + 1) y g u) (left - n)
-  fit_next y g u n h e p q v w =
+  pub fit_next : (y z g u n : ℕ) → i < length l / 3 → y ≡ word l (3 * i + 1) → n ≡ ended_bytes x k y t → n ≤ left → z ≡ y → u ≡ turned x k y t → g ≡ grown x k y
+      → Fits (packed l) room (runs_left l (i + 1) z g u) (left - n)
+  fit_next y z g u n h e p q c v w =
       let m : length (ended x k y t i) ≡ n = ended_long x k y t i ∙ sym p in
-      subst (λ z. Fits (packed l) room (runs_left l (i + 1) y g u) (left - z)) m
-      (fits_part (packed l) room (runs_left l i x k t) left f (ended x k y t i) (runs_left l (i + 1) y g u) (left_by_lem l i x k t y g u o h le e w v) (omega arith))
+      subst (λ d. Fits (packed l) room (runs_left l (i + 1) d g u) (left - n)) (sym c)
+      (subst (λ d. Fits (packed l) room (runs_left l (i + 1) y g u) (left - d)) m
+      (fits_part (packed l) room (runs_left l i x k t) left f (ended x k y t i) (runs_left l (i + 1) y g u) (left_by_lem l i x k t y g u o h le e w v) (omega arith)))
 
   pub fit_not : (y n : ℕ) → i < length l / 3 → y ≡ word l (3 * i + 1) → n ≡ ended_bytes x k y t → left < n → false ≡ leb (length (packed l)) room
   fit_not y n h e p lt =
@@ -293,8 +293,8 @@ old_some l e n = let o = old_length l e in omega arith
 
 -- ---------------------------------------------------------------- writing the runs
 
-pub some_first : (l out : List ℕ) (x : ℕ) → length l % 3 ≡ 1 → 3 < length l → Room out 0 (packed l) → x ≡ word l 1 → Writes out (packed l) 0 (runs_left l 1 x 1 0) out
-some_first l out x o h m e = writes_first out (packed l) (runs_left l 1 x 1 0) (omega (arith, m.fits)) (left-first l o h ∙ ap (λ z. runs_left l 1 z 1 0) (sym e))
+pub some_first : (l out : List ℕ) (x k t : ℕ) → length l % 3 ≡ 1 → 3 < length l → Room out 0 (packed l) → x ≡ word l 1 → k ≡ 1 → t ≡ 0 → Writes out (packed l) 0 (runs_left l 1 x k t) out
+some_first l out x k t o h m e f g = writes_first out (packed l) (runs_left l 1 x k t) (omega (arith, m.fits)) (first-left l x k t o h e f g)
 
 module _ (l out₀ : List ℕ) (at i x k t : ℕ) (out : List ℕ) (w : Writes out₀ (packed l) at (runs_left l i x k t) out) (o : length l % 3 ≡ 1) (le : k ≤ i) where
   pub some_room : (y : ℕ) → i < length l / 3 → y ≡ word l (3 * i + 1) → Room out at (ended x k y t i)
@@ -302,18 +302,22 @@ module _ (l out₀ : List ℕ) (at i x k t : ℕ) (out : List ℕ) (w : Writes o
       writes_room out₀ (packed l) at (runs_left l i x k t) out w (ended x k y t i) (runs_left l (i + 1) y (grown x k y) (turned x k y t))
       (left_by_lem l i x k t y (grown x k y) (turned x k y t) o h le e refl refl)
 
-  pub some_next : (y g u r : ℕ) (out' : List ℕ) → i < length l / 3 → y ≡ word l (3 * i + 1) → Wrote out at (ended x k y t i) r out' → u ≡ turned x k y t → g ≡ grown x k y
-      → Writes out₀ (packed l) r (runs_left l (i + 1) y g u) out'
-  some_next y g u r out' h e p q v =
-      writes_next out₀ (packed l) at (runs_left l i x k t) out w (ended x k y t i) (runs_left l (i + 1) y g u) (left_by_lem l i x k t y g u o h le e v q) r out' p
+  pub some_next : (y z g u r : ℕ) (out' : List ℕ) → i < length l / 3 → y ≡ word l (3 * i + 1) → Wrote out at (ended x k y t i) r out' → z ≡ y → u ≡ turned x k y t → g ≡ grown x k y
+      → Writes out₀ (packed l) r (runs_left l (i + 1) z g u) out'
+  some_next y z g u r out' h e p f q v =
+      subst (λ n. Writes out₀ (packed l) r (runs_left l (i + 1) n g u) out') (sym f)
+      (writes_next out₀ (packed l) at (runs_left l i x k t) out w (ended x k y t i) (runs_left l (i + 1) y g u) (left_by_lem l i x k t y g u o h le e v q) r out' p)
 
   module _ (h : i ≤ length l / 3) (g : length l / 3 ≤ i) where
-    pub last_room : Room out at (run_then x k t i)
-    last_room = writes_room out₀ (packed l) at (runs_left l i x k t) out w (run_then x k t i) (4 ∷ []) (left_end l i x k t o h g le)
+    last_left : runs_left l i x k t ≡ run_then x k t (length l / 3) ++ (4 ∷ [])
+    last_left = let n : i ≡ length l / 3 = omega arith in left_end l i x k t o h g le ∙ ap (λ z. run_then x k t z ++ (4 ∷ [])) n
 
-    module _ (r : ℕ) (out' : List ℕ) (p : Wrote out at (run_then x k t i) r out') where
+    pub last_room : Room out at (run_then x k t (length l / 3))
+    last_room = writes_room out₀ (packed l) at (runs_left l i x k t) out w (run_then x k t (length l / 3)) (4 ∷ []) last_left
+
+    module _ (r : ℕ) (out' : List ℕ) (p : Wrote out at (run_then x k t (length l / 3)) r out') where
       end-left : Writes out₀ (packed l) r (4 ∷ []) out'
-      end-left = writes_next out₀ (packed l) at (runs_left l i x k t) out w (run_then x k t i) (4 ∷ []) (left_end l i x k t o h g le) r out' p
+      end-left = writes_next out₀ (packed l) at (runs_left l i x k t) out w (run_then x k t (length l / 3)) (4 ∷ []) last_left r out' p
 
       pub end_room : Room out' r (4 ∷ [])
       end_room = writes_room out₀ (packed l) r (4 ∷ []) out' end-left (4 ∷ []) [] refl
@@ -334,9 +338,6 @@ whole_room l out h = record { fits = omega arith }
 
 pub grown_bound : (x k y i g : ℕ) → k ≤ i → g ≡ grown x k y → g ≤ i + 1
 grown_bound x k y i g h e = omega (arith, grown_le x k y i h)
-
-pub turned_bound : (x k y t u : ℕ) → t < 64 → u ≡ turned x k y t → u < 64
-turned_bound x k y t u h e = omega (arith, turned_below x k y t h)
 
 pub many_some : (l : List ℕ) → 4294967295 < length l / 3 → 3 < length l
 many_some l h = omega arith

@@ -8,14 +8,13 @@ use mathlib.Core.List.{List, ◌++◌}
 use lib.ListN.{length, drop}
 use lib.Dec.{leb}
 use borrow.Author.Tests.{leb-true, leb-false}
+use Rattle.std.specs.Prelude.{Result, Ok, Err}
 use Rattle.rules.specs.Base.{◌and◌, when◌then◌else◌}
 use Rattle.rules.specs.Stored.{old_fine, old_ids, runs_of, marks_fit, packed, pack_refusal, pack_outcome, new_fine, new_runs, longest, right_numbers, unpacked, read_refusal, unpack_outcome, given_out}
 use Rattle.file.specs.Written.{written, Wrote}
 use Rattle.stored.specs.Answer.{stored_number, checked_number, CheckedAs}
 use Rattle.stored.specs.declared.StoredRefusal.{StoredRefusal}
 use Rattle.stored.specs.declared.StoredRefusal.TheVariants.{Malformed, NotLongest, NoRoom, WrongNumber}
-use Rattle.stored.specs.declared.Checked.{Checked}
-use Rattle.stored.specs.declared.Checked.TheVariants as checked
 use Rattle.forms.proofs.Room.{gives, given_refused, given_full, given_done}
 
 pub test_true : (a b : Bool) → a ≡ b → a ≡ true → b ≡ true
@@ -83,7 +82,7 @@ module _ (g : List ℕ) (b : Bool) (e : b ≡ new_fine g) where
   unfolding read_refusal when◌then◌else◌
   new_refused n = let p : new_fine g ≡ false = sym e ∙ n in rw p
 
-  pub check_malformed : b ≡ false → CheckedAs g (checked.Refused Malformed)
+  pub check_malformed : b ≡ false → CheckedAs g (Err Malformed)
   check_malformed n = record { refusal = sym (new_refused n); fine = λ z. absurd (off 22 (sym (new_refused n) ∙ z) (omega arith)) }
 
   module _ (n : b ≡ true) (c : Bool) (f : c ≡ longest (new_runs g)) where
@@ -91,7 +90,7 @@ module _ (g : List ℕ) (b : Bool) (e : b ≡ new_fine g) where
     unfolding read_refusal when◌then◌else◌
     not-longest m = let p : new_fine g ≡ true = sym e ∙ n in let q : longest (new_runs g) ≡ false = sym f ∙ m in rw (p, q)
 
-    pub check_shorter : c ≡ false → CheckedAs g (checked.Refused NotLongest)
+    pub check_shorter : c ≡ false → CheckedAs g (Err NotLongest)
     check_shorter m = record { refusal = sym (not-longest m); fine = λ z. sym e ∙ n }
 
     module _ (m : c ≡ true) (d : Bool) (h : d ≡ right_numbers g) where
@@ -105,32 +104,32 @@ module _ (g : List ℕ) (b : Bool) (e : b ≡ new_fine g) where
       no_refusal k =
           let p : new_fine g ≡ true = sym e ∙ n in let q : longest (new_runs g) ≡ true = sym f ∙ m in let r : right_numbers g ≡ true = sym h ∙ k in rw (p, q, r)
 
-      pub check_wrong : d ≡ false → CheckedAs g (checked.Refused WrongNumber)
+      pub check_wrong : d ≡ false → CheckedAs g (Err WrongNumber)
       check_wrong k = record { refusal = sym (wrong_number k); fine = λ z. sym e ∙ n }
 
-      pub check_fine : d ≡ true → CheckedAs g checked.Fine
+      pub check_fine : d ≡ true → CheckedAs g (Ok tt)
       check_fine k = record { refusal = sym (no_refusal k); fine = λ z. sym e ∙ n }
 
 -- ---------------------------------------------------------------- unpack
 
-module _ (g out : List ℕ) (r : Checked) (p : CheckedAs g r) where
-  pub unpack_refused : (x : StoredRefusal) → r ≡ checked.Refused x → gives (stored_number x) 0 out ≡ unpack_outcome g out
+module _ (g out : List ℕ) (r : Result Unit StoredRefusal) (p : CheckedAs g r) where
+  pub unpack_refused : (x : StoredRefusal) → r ≡ Err x → gives (stored_number x) 0 out ≡ unpack_outcome g out
   unfolding unpack_outcome
   unpack_refused x e =
       let q : stored_number x ≡ read_refusal g = ap checked_number (sym e) ∙ p.refusal in
       sym (ap (λ z. given_out z (unpacked g) out) (sym q) ∙ given_refused (stored_number x) (unpacked g) out (number_some x))
 
-  accepts : r ≡ checked.Fine → read_refusal g ≡ 0
+  accepts : r ≡ Ok tt → read_refusal g ≡ 0
   accepts e = sym p.refusal ∙ ap checked_number e
 
-  pub unpack_fine : r ≡ checked.Fine → new_fine g ≡ true
+  pub unpack_fine : r ≡ Ok tt → new_fine g ≡ true
   unpack_fine e = p.fine (accepts e)
 
-  pub unpack_full : (d : Bool) → r ≡ checked.Fine → d ≡ leb (length (unpacked g)) (length out) → d ≡ false → gives 24 0 out ≡ unpack_outcome g out
+  pub unpack_full : (d : Bool) → r ≡ Ok tt → d ≡ leb (length (unpacked g)) (length out) → d ≡ false → gives 24 0 out ≡ unpack_outcome g out
   unfolding unpack_outcome
   unpack_full d e k l = no_room (unpacked g) out d k l ∙ sym (ap (λ z. given_out z (unpacked g) out) (accepts e))
 
-  pub unpack_done : (d : Bool) (n : ℕ) (out' : List ℕ) → r ≡ checked.Fine → d ≡ leb (length (unpacked g)) (length out) → d ≡ true → Wrote out 0 (unpacked g) n out'
+  pub unpack_done : (d : Bool) (n : ℕ) (out' : List ℕ) → r ≡ Ok tt → d ≡ leb (length (unpacked g)) (length out) → d ≡ true → Wrote out 0 (unpacked g) n out'
       → gives 0 n out' ≡ unpack_outcome g out
   unfolding unpack_outcome
   unpack_done d n out' e k l w = wrote_out (unpacked g) out n out' w (fits_room (unpacked g) out d k l) ∙ sym (ap (λ z. given_out z (unpacked g) out) (accepts e))

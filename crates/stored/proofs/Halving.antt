@@ -1,26 +1,25 @@
 -- One span's id by way of the kind 7 records: the halving, the numbers, and one stretch.
 -- The halving's fuel is never seen: it is no less than the stretches that are left. Assumes nothing.
-use Prim.Native.Nat.{ℕ, zero, suc, ◌+◌, ◌*◌, ◌-◌, ◌/◌, ◌%◌, ◌≤◌, ◌<◌}
+use Prim.Native.Nat.{ℕ, zero, suc, min, ◌+◌, ◌*◌, ◌-◌, ◌/◌, ◌%◌, ◌≤◌, ◌<◌}
 use native.Mathlib.Omega.{arith}
-use mathlib.Core.Path.{◌≡◌, refl, sym, ap, ◌∙◌}
+use mathlib.Core.Path.{◌≡◌, refl, sym, ap, subst, ◌∙◌}
 use mathlib.Core.Bool.{Bool, true, false}
 use mathlib.Core.List.{List}
 use lib.ListN.{length, get_or, drop}
-use lib.Dec.{eqb, ltb, leb}
-use borrow.Author.Tests.{eq-eqb, ne_eqb, lt-ltb, le-ltb, le-leb, lt-leb}
-use Rattle.rules.specs.Base.{◌and◌, when◌then◌else◌}
+use lib.Dec.{eqb, ltb}
+use borrow.Author.Tests.{eq-eqb, ne_eqb, lt-ltb, le-ltb, le-leb, lt-leb, ltb-true, ltb-false}
+use Rattle.rules.specs.Base.{when◌then◌else◌}
 use Rattle.rules.specs.File.{word}
 use Rattle.rules.specs.Stored.{IdOutcome, four_of, marks_in, mark_at, halving, chosen, spans_before, within, id_at, id_whole, read_refusal, new_fine, new_runs, seek}
-use Rattle.laws.proofs.Basics.{if_ind₂}
+use Rattle.laws.proofs.Basics.{if-ind}
+use Rattle.std.specs.Prelude.{Result, Ok, Err}
 use Rattle.stored.specs.Records.{long_word, spans_after}
 use Rattle.stored.specs.Answer.{stored_number, checked_number, CheckedAs}
 use Rattle.stored.specs.declared.StoredRefusal.{StoredRefusal}
-use Rattle.stored.specs.declared.Checked.{Checked}
-use Rattle.stored.specs.declared.Checked.TheVariants as checked
 use Rattle.stored.proofs.Places.{drop-last}
 use Rattle.stored.proofs.NewPlaces.{drop_record}
 use Rattle.stored.proofs.Ends.{number_some}
-use Rattle.stored.specs.Ids.{holds, low_after, high_after, is_run, ends_at}
+use Rattle.stored.specs.Ids.{holds, is_run, ends_at}
 
 pub mark_is : (l : List ℕ) (k r : ℕ) → r ≡ long_word l (325 * k + 321) → r ≡ mark_at l k
 unfolding long_word word mark_at four_of
@@ -30,29 +29,9 @@ mark_is l k r e =
     let c : 325 * k + 323 + 1 ≡ 325 * k + 324 = omega arith in
     e ∙ rw (a, b, c) (omega arith)
 
-pub marks_most : (l : List ℕ) → 4294967295 < length l / 325 → 4294967295 ≡ marks_in l
-unfolding marks_in when◌then◌else◌
-marks_most l h = rw (lt-ltb 4294967295 (length l / 325) h)
-
-pub marks_all : (l : List ℕ) → length l / 325 ≤ 4294967295 → length l / 325 ≡ marks_in l
-unfolding marks_in when◌then◌else◌
-marks_all l h = rw (le-ltb 4294967295 (length l / 325) h)
-
-pub low_more : (n span lo mid : ℕ) → n ≤ span → mid + 1 ≡ low_after n span lo mid
-unfolding low_after when◌then◌else◌
-low_more n span lo mid h = rw (le-leb n span h) (omega arith)
-
-pub low_same : (n span lo mid : ℕ) → span < n → lo ≡ low_after n span lo mid
-unfolding low_after when◌then◌else◌
-low_same n span lo mid h = rw (lt-leb n span h)
-
-pub high_same : (n span hi mid : ℕ) → n ≤ span → hi ≡ high_after n span hi mid
-unfolding high_after when◌then◌else◌
-high_same n span hi mid h = rw (le-leb n span h)
-
-pub high_less : (n span hi mid : ℕ) → span < n → mid ≡ high_after n span hi mid
-unfolding high_after when◌then◌else◌
-high_less n span hi mid h = rw (lt-leb n span h)
+pub marks_least : (l : List ℕ) (r : ℕ) → r ≡ min 4294967295 (length l / 325) → r ≡ marks_in l
+unfolding marks_in
+marks_least l r e = if-ind (λ z. r ≡ z) (ltb 4294967295 (length l / 325)) (λ p. omega (arith, ltb-true 4294967295 (length l / 325) p)) (λ p. omega (arith, ltb-false 4294967295 (length l / 325) p))
 
 pub record Halves (l : List ℕ) (span lo hi : ℕ) : Type 0 where
   pub fuel : ℕ
@@ -69,59 +48,44 @@ halves-first l span hi e h g = record {
   within = (omega arith, h, g);
 }
 
-halving_cases : (k : ℕ) (l : List ℕ) (span lo hi : ℕ) (z : Bool) → leb (mark_at l ((lo + hi) / 2)) span ≡ z
-    → (when z then halving k l span (suc ((lo + hi) / 2)) hi else halving k l span lo ((lo + hi) / 2))
-    ≡ halving k l span (when z then suc ((lo + hi) / 2) else lo) (when z then hi else (lo + hi) / 2)
-unfolding when◌then◌else◌
-halving_cases k l span lo hi true e = refl
-halving_cases k l span lo hi false e = refl
+halving_up : (k : ℕ) (l : List ℕ) (span lo hi : ℕ) → lo < hi → mark_at l ((lo + hi) / 2) ≤ span → halving (suc k) l span lo hi ≡ halving k l span (suc ((lo + hi) / 2)) hi
+unfolding halving when◌then◌else◌
+halving_up k l span lo hi h g = rw (lt-ltb lo hi h, le-leb (mark_at l ((lo + hi) / 2)) span g)
 
-halving-step : (k : ℕ) (l : List ℕ) (span lo hi : ℕ) → lo < hi
-    → halving (suc k) l span lo hi ≡ halving k l span (low_after (mark_at l ((lo + hi) / 2)) span lo ((lo + hi) / 2)) (high_after (mark_at l ((lo + hi) / 2)) span hi ((lo + hi) / 2))
-unfolding halving low_after high_after when◌then◌else◌
-halving-step k l span lo hi h = rw (lt-ltb lo hi h) (halving_cases k l span lo hi (leb (mark_at l ((lo + hi) / 2)) span) refl)
+halving_down : (k : ℕ) (l : List ℕ) (span lo hi : ℕ) → lo < hi → span < mark_at l ((lo + hi) / 2) → halving (suc k) l span lo hi ≡ halving k l span lo ((lo + hi) / 2)
+unfolding halving when◌then◌else◌
+halving_down k l span lo hi h g = rw (lt-ltb lo hi h, lt-leb (mark_at l ((lo + hi) / 2)) span g)
 
 halving_stop : (k : ℕ) (l : List ℕ) (span lo hi : ℕ) → hi ≤ lo → halving k l span lo hi ≡ lo
 unfolding halving when◌then◌else◌
 halving_stop zero l span lo hi h = refl
 halving_stop (suc k) l span lo hi h = rw (le-ltb lo hi h)
 
--- where a look leaves the ends
-record Left (lo hi lo' hi' : ℕ) (k : ℕ) : Type 0 where
-  inside : lo' ≤ hi'
-  most : hi' ≤ hi
-  enough : hi' ≤ lo' + k
-
-left : (n span lo hi mid k : ℕ) → lo < hi → mid ≡ (lo + hi) / 2 → hi ≤ lo + suc k → Left lo hi (low_after n span lo mid) (high_after n span hi mid) k
-unfolding low_after high_after
-left n span lo hi mid k h e g =
-    if_ind₂ (λ a b. Left lo hi a b k) (leb n span)
-    (λ p. record { inside = omega arith; most = omega arith; enough = omega arith })
-    (λ p. record { inside = omega arith; most = omega arith; enough = omega arith })
-
 one_less : (k : ℕ) → 0 < k → k ≡ suc (k - 1)
 one_less k h = omega arith
 
-pub halves_next : (l : List ℕ) (span lo hi mid n lo' hi' : ℕ) → Halves l span lo hi → lo < hi → mid ≡ (lo + hi) / 2 → n ≡ mark_at l mid → lo' ≡ low_after n span lo mid → hi' ≡ high_after n span hi mid
-    → Halves l span lo' hi'
-halves_next l span lo hi mid n lo' hi' w h e f p q =
-    let k : w.fuel ≡ suc (w.fuel - 1) = one_less w.fuel (omega (arith, w.enough)) in
-    let g : hi ≤ lo + suc (w.fuel - 1) = omega (arith, w.enough) in
-    let x = left n span lo hi mid (w.fuel - 1) h e g in
-    record {
-      fuel = w.fuel - 1;
-      enough = omega (arith, x.enough);
-      same = w.same ∙ ap (λ z. halving z l span lo hi) k ∙ halving-step (w.fuel - 1) l span lo hi h
-          ∙ ap (λ z. halving (w.fuel - 1) l span (low_after (mark_at l z) span lo z) (high_after (mark_at l z) span hi z)) (sym e)
-          ∙ ap (λ z. halving (w.fuel - 1) l span (low_after z span lo mid) (high_after z span hi mid)) (sym f)
-          ∙ ap (λ z. halving (w.fuel - 1) l span z (high_after n span hi mid)) (sym p) ∙ ap (λ z. halving (w.fuel - 1) l span lo' z) (sym q);
-      within = (omega (arith, x.inside), omega (arith, x.most, w.within.1), omega (arith, x.most, w.within.2));
-    }
+module _ (l : List ℕ) (span lo hi n : ℕ) (w : Halves l span lo hi) (h : lo < hi) (e : n ≡ mark_at l ((lo + hi) / 2)) where
+  spent : w.fuel ≡ suc (w.fuel - 1)
+  spent = one_less w.fuel (omega (arith, w.enough))
 
-pub halves_less : (n span lo hi mid lo' hi' : ℕ) → lo < hi → mid ≡ (lo + hi) / 2 → lo' ≡ low_after n span lo mid → hi' ≡ high_after n span hi mid → hi' - lo' < hi - lo
-unfolding low_after high_after
-halves_less n span lo hi mid lo' hi' h e p q =
-    rw (p, q) (if_ind₂ (λ a b. b - a < hi - lo) (leb n span) (λ x. omega arith) (λ x. omega arith))
+  -- a look takes the lower half, or the upper
+  pub halves_up : n ≤ span → Halves l span ((lo + hi) / 2 + 1) hi
+  halves_up g =
+      let s : suc ((lo + hi) / 2) ≡ (lo + hi) / 2 + 1 = omega arith in
+      record {
+        fuel = w.fuel - 1;
+        enough = omega (arith, w.enough);
+        same = w.same ∙ ap (λ z. halving z l span lo hi) spent ∙ halving_up (w.fuel - 1) l span lo hi h (omega (arith, e)) ∙ ap (λ z. halving (w.fuel - 1) l span z hi) s;
+        within = (omega arith, w.within.1, w.within.2);
+      }
+
+  pub halves_down : span < n → Halves l span lo ((lo + hi) / 2)
+  halves_down g = record {
+    fuel = w.fuel - 1;
+    enough = omega (arith, w.enough);
+    same = w.same ∙ ap (λ z. halving z l span lo hi) spent ∙ halving_down (w.fuel - 1) l span lo hi h (omega (arith, e));
+    within = (omega arith, omega (arith, w.within.1), omega (arith, w.within.2));
+  }
 
 pub halves_done : (l : List ℕ) (span lo hi : ℕ) → Halves l span lo hi → hi ≤ lo → lo ≡ chosen l span
 halves_done l span lo hi w h = sym (w.same ∙ halving_stop w.fuel l span lo hi h)
@@ -137,24 +101,16 @@ before_suc l k = refl
 pub before_mark : (l : List ℕ) (p r : ℕ) → (p ≡ 0 → ⊥) → r ≡ mark_at l (p - 1) → r ≡ spans_before l p
 before_mark l p r n e = e ∙ sym (before_suc l (p - 1)) ∙ ap (spans_before l) (sym (one_less p (omega arith)))
 
-pub run_is : (l : List ℕ) (i v : ℕ) → get_or l i 0 ≡ 6 → v ≡ word l (i + 3) → ltb 0 v ≡ is_run l i
-unfolding is_run ◌and◌
-run_is l i v e f = rw (eq-eqb (get_or l i 0) 6 e) (ap (ltb 0) f)
-
-pub run-not : (l : List ℕ) (i : ℕ) → (get_or l i 0 ≡ 6 → ⊥) → false ≡ is_run l i
-unfolding is_run ◌and◌
-run-not l i e = rw (ne_eqb (get_or l i 0) 6 e)
-
 -- ---------------------------------------------------------------- one stretch
 
 abbrev pub outcome : ℕ → ℕ → ℕ → IdOutcome
 outcome r id p = record { refused = r; id = id; stretch = p }
 
-pub ends_beyond : (l : List ℕ) (i p : ℕ) → get_or l i 0 ≡ 4 → outcome 26 0 p ≡ ends_at l i p
+ends_beyond : (l : List ℕ) (i p : ℕ) → get_or l i 0 ≡ 4 → outcome 26 0 p ≡ ends_at l i p
 unfolding ends_at when◌then◌else◌
 ends_beyond l i p e = rw (eq-eqb (get_or l i 0) 4 e)
 
-pub ends_malformed : (l : List ℕ) (i p : ℕ) → (get_or l i 0 ≡ 4 → ⊥) → outcome 22 0 p ≡ ends_at l i p
+ends_malformed : (l : List ℕ) (i p : ℕ) → (get_or l i 0 ≡ 4 → ⊥) → outcome 22 0 p ≡ ends_at l i p
 unfolding ends_at when◌then◌else◌
 ends_malformed l i p e = rw (ne_eqb (get_or l i 0) 4 e)
 
@@ -179,21 +135,26 @@ pub record Within (l : List ℕ) (p before span left j s : ℕ) : Type 0 where
   pub most : left ≤ 64
   pub few : s ≤ 4294967295 + 65535 * (64 - left)
 
-pub within_first : (l : List ℕ) (p before span : ℕ) → p ≤ length l / 325 → before ≤ 4294967295 → Within l p before span 64 (65 * p) before
+pub within_first : (l : List ℕ) (p before span : ℕ) → p ≤ length l / 325 → before ≤ 4294967295 → Within l p before span (65 * p + 64 - 65 * p) (65 * p) before
 within_first l p before span h g =
     let e : 325 * p ≡ 5 * (65 * p) = omega arith in
-    record { same = ap (λ z. within p 64 (drop z l) before span) e; place = omega arith; most = omega arith; few = omega arith }
-
-suc_less : (k : ℕ) → 0 < k → k ≡ suc (k - 1)
-suc_less k h = omega arith
+    let f : 64 ≡ 65 * p + 64 - 65 * p = omega arith in
+    subst (λ z. Within l p before span z (65 * p) before) f
+    (record { same = ap (λ z. within p 64 (drop z l) before span) e; place = omega arith; most = omega arith; few = omega arith })
 
 module _ (l : List ℕ) (p before span left j s : ℕ) (w : Within l p before span left j s) (o : length l % 5 ≡ 1) (g : 0 < left) where
   whole : within p 64 (drop (325 * p) l) before span ≡ within p (suc (left - 1)) (drop (5 * j) l) s span
-  whole = w.same ∙ ap (λ z. within p z (drop (5 * j) l) s span) (suc_less left g)
+  whole = w.same ∙ ap (λ z. within p z (drop (5 * j) l) s span) (one_less left g)
 
-  pub within_end : (r : IdOutcome) → j ≡ length l / 5 → r ≡ ends_at l (5 * j) p → r ≡ within p 64 (drop (325 * p) l) before span
+  within_end : (r : IdOutcome) → j ≡ length l / 5 → r ≡ ends_at l (5 * j) p → r ≡ within p 64 (drop (325 * p) l) before span
   unfolding within ends_at
   within_end r e f = f ∙ sym (whole ∙ ap (λ z. within p (suc (left - 1)) z s span) (drop-last l (5 * j) (omega arith)))
+
+  pub within_beyond : j ≡ length l / 5 → get_or l (5 * j) 0 ≡ 4 → outcome 26 0 p ≡ within p 64 (drop (325 * p) l) before span
+  within_beyond e f = within_end (outcome 26 0 p) e (ends_beyond l (5 * j) p f)
+
+  pub within_cut : j ≡ length l / 5 → (get_or l (5 * j) 0 ≡ 4 → ⊥) → outcome 22 0 p ≡ within p 64 (drop (325 * p) l) before span
+  within_cut e f = within_end (outcome 22 0 p) e (ends_malformed l (5 * j) p f)
 
   module _ (n : j ≡ length l / 5 → ⊥) where
     before_end : j < length l / 5
@@ -217,7 +178,7 @@ module _ (l : List ℕ) (p before span left j s : ℕ) (w : Within l p before sp
       unfolding when◌then◌else◌
       within_found x q v = ap (λ z. outcome 0 z p) v ∙ sym (run_here ∙ ap (λ z. when z then outcome 0 (word l (5 * j + 1)) p else within p (left - 1) (drop (5 * (j + 1)) l) (s + word l (5 * j + 3)) span) q)
 
-      pub within_next : (r : ℕ) → d ≡ false → r ≡ spans_after l (5 * j) 0 s → r ≤ s + 65535 → Within l p before span (left - 1) (j + 1) r
+      within_next : (r : ℕ) → d ≡ false → r ≡ spans_after l (5 * j) 0 s → r ≤ s + 65535 → Within l p before span (left - 1) (j + 1) r
       unfolding when◌then◌else◌
       within_next r q v u = record {
         same = run_here ∙ ap (λ z. when z then outcome 0 (word l (5 * j + 1)) p else within p (left - 1) (drop (5 * (j + 1)) l) (s + word l (5 * j + 3)) span) q
@@ -226,6 +187,13 @@ module _ (l : List ℕ) (p before span left j s : ℕ) (w : Within l p before sp
         most = omega (arith, w.most);
         few = omega (arith, w.few, w.most);
       }
+
+-- the next record, by its number
+pub within_on : (l : List ℕ) (p before span j s r : ℕ) (b d : Bool) → Within l p before span (65 * p + 64 - j) j s → length l % 5 ≡ 1 → j < 65 * p + 64 → (j ≡ length l / 5 → ⊥) → b ≡ is_run l (5 * j) → b ≡ true
+    → d ≡ holds l (5 * j) 0 s span → d ≡ false → r ≡ spans_after l (5 * j) 0 s → r ≤ s + 65535 → Within l p before span (65 * p + 64 - (j + 1)) (j + 1) r
+within_on l p before span j s r b d w o g n e f k q v u =
+    let x : 65 * p + 64 - j - 1 ≡ 65 * p + 64 - (j + 1) = omega arith in
+    subst (λ z. Within l p before span z (j + 1) r) x (within_next l p before span (65 * p + 64 - j) j s w o (omega arith) n b e f d k r q v u)
 
 pub within-wrong : (l : List ℕ) (p before span left j s : ℕ) → Within l p before span left j s → left ≤ 0 → outcome 25 0 p ≡ within p 64 (drop (325 * p) l) before span
 unfolding within
@@ -244,19 +212,19 @@ unfolding id_at when◌then◌else◌
 id_read l span p before r o e f g =
     rw (eq-eqb (length l % 5) 1 o) (g ∙ ap (λ z. within p 64 (drop (325 * p) l) z span) f ∙ ap (λ z. within z 64 (drop (325 * z) l) (spans_before l z) span) e)
 
-pub whole_refused : (l : List ℕ) (span : ℕ) (c : Checked) (x : StoredRefusal) → CheckedAs l c → c ≡ checked.Refused x → outcome (stored_number x) 0 0 ≡ id_whole l span
+pub whole_refused : (l : List ℕ) (span : ℕ) (c : Result Unit StoredRefusal) (x : StoredRefusal) → CheckedAs l c → c ≡ Err x → outcome (stored_number x) 0 0 ≡ id_whole l span
 unfolding id_whole when◌then◌else◌
 whole_refused l span c x p e =
     let q : read_refusal l ≡ stored_number x = sym (ap checked_number (sym e) ∙ p.refusal) in
     let n : eqb (read_refusal l) 0 ≡ false = ne_eqb (read_refusal l) 0 (λ z. number_some x (sym q ∙ z)) in
     rw n (ap (λ z. outcome z 0 0) (sym q))
 
-pub whole_found : (l : List ℕ) (span : ℕ) (c : Checked) (r : IdOutcome) → CheckedAs l c → c ≡ checked.Fine → r ≡ seek 0 0 0 (new_runs l) span → r ≡ id_whole l span
+pub whole_found : (l : List ℕ) (span : ℕ) (c : Result Unit StoredRefusal) (r : IdOutcome) → CheckedAs l c → c ≡ Ok tt → r ≡ seek 0 0 0 (new_runs l) span → r ≡ id_whole l span
 unfolding id_whole when◌then◌else◌
 whole_found l span c r p e f =
     let q : read_refusal l ≡ 0 = sym p.refusal ∙ ap checked_number e in
     let n : eqb (read_refusal l) 0 ≡ true = eq-eqb (read_refusal l) 0 q in
     rw n f
 
-pub whole_fine : (l : List ℕ) (c : Checked) → CheckedAs l c → c ≡ checked.Fine → new_fine l ≡ true
+pub whole_fine : (l : List ℕ) (c : Result Unit StoredRefusal) → CheckedAs l c → c ≡ Ok tt → new_fine l ≡ true
 whole_fine l c p e = p.fine (sym p.refusal ∙ ap checked_number e)

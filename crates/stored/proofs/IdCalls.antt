@@ -3,10 +3,10 @@
 use Prim.Native.Nat.{ℕ, ◌+◌}
 use native.Mathlib.Omega.{arith}
 use mathlib.Core.Path.{◌≡◌, refl, sym, ap, ◌∙◌}
-use mathlib.Core.Bool.{false}
-use mathlib.Core.List.{List, [], ◌∷◌}
-use lib.ListN.{length, set}
-use lib.Dec.{ltb}
+use mathlib.Core.Bool.{not}
+use mathlib.Core.List.{List}
+use lib.ListN.{length}
+use lib.Dec.{eqb, ltb}
 use borrow.Author.Tests.{eq-eqb, ne_eqb}
 use Rattle.rules.specs.Base.{when◌then◌else◌}
 use Rattle.rules.specs.File.{word}
@@ -17,12 +17,12 @@ use Rattle.stored.specs.Into.{id_numbers, IdIntoOutcome, leaves_id, id_into}
 use Rattle.stored.specs.declared.StoredRefusal.{StoredRefusal}
 use Rattle.stored.specs.declared.StoredRefusal.TheVariants.{Malformed, NotLongest, NoRoom, WrongNumber}
 use Rattle.stored.specs.declared.id.IdAnswer.{IdAnswer}
-use Rattle.stored.specs.declared.id.IdAnswer.TheVariants.{Refused, Beyond, Found}
-use Rattle.stored.specs.Ids.{id_outcome, holds, stretch_after}
+use Rattle.std.specs.Prelude.{Result, Ok, Err, Option, Some, None}
+use Rattle.stored.specs.Ids.{id_outcome, found_outcome, holds, stretch_after}
 use Rattle.stored.proofs.Ends.{number_some}
 use Rattle.stored.proofs.Numbers.{number_same}
 
-pub holds-none : (l : List ℕ) (i t s span : ℕ) → t ≡ 64 → false ≡ holds l i t s span
+pub holds-none : (l : List ℕ) (i t s span : ℕ) → t ≡ 64 → not (eqb t 64) ≡ holds l i t s span
 unfolding holds when◌then◌else◌
 holds-none l i t s span e = rw (eq-eqb t 64 e)
 
@@ -39,32 +39,6 @@ unfolding stretch_after when◌then◌else◌
 stretch_same t p n = rw (ne_eqb t 64 n)
 
 -- ---------------------------------------------------------------- numbers in a list
-
-pub three_stores : (l : List ℕ) (a b c : ℕ) → length l ≡ 3 → set (set (set l 0 a) 1 b) 2 c ≡ a ∷ b ∷ c ∷ []
-three_stores [] a b c e = absurd (omega arith)
-three_stores (x ∷ []) a b c e = absurd (omega arith)
-three_stores (x ∷ y ∷ []) a b c e = absurd (omega arith)
-three_stores (x ∷ y ∷ z ∷ []) a b c e = refl
-three_stores (x ∷ y ∷ z ∷ w ∷ l) a b c e = absurd (omega arith)
-
-module _ (r : IdAnswer) where
-  pub put_refused : (x : StoredRefusal) (p k : ℕ) → r ≡ Refused x p → k ≡ stored_number x → k ≡ (id_outcome r).refused
-  put_refused x p k e f = f ∙ sym (ap (λ v. (id_outcome v).refused) e)
-
-  pub list_refused : (x : StoredRefusal) (p k : ℕ) (l : List ℕ) → r ≡ Refused x p → k ≡ stored_number x → l ≡ k ∷ 0 ∷ p ∷ [] → l ≡ id_numbers (id_outcome r)
-  list_refused x p k l e f g = g ∙ ap (λ z. z ∷ 0 ∷ p ∷ []) f ∙ sym (ap (λ v. id_numbers (id_outcome v)) e)
-
-  pub put_beyond : (p : ℕ) → r ≡ Beyond p → 26 ≡ (id_outcome r).refused
-  put_beyond p e = sym (ap (λ v. (id_outcome v).refused) e)
-
-  pub list_beyond : (p : ℕ) (l : List ℕ) → r ≡ Beyond p → l ≡ 26 ∷ 0 ∷ p ∷ [] → l ≡ id_numbers (id_outcome r)
-  list_beyond p l e g = g ∙ sym (ap (λ v. id_numbers (id_outcome v)) e)
-
-  pub put_found : (id p : ℕ) → r ≡ Found id p → 0 ≡ (id_outcome r).refused
-  put_found id p e = sym (ap (λ v. (id_outcome v).refused) e)
-
-  pub list_found : (id p : ℕ) (l : List ℕ) → r ≡ Found id p → l ≡ 0 ∷ id ∷ p ∷ [] → l ≡ id_numbers (id_outcome r)
-  list_found id p l e g = g ∙ sym (ap (λ v. id_numbers (id_outcome v)) e)
 
 pub id_other : (o : IdOutcome) (answer : List ℕ) → (length answer ≡ 3 → ⊥) → leaves_id 3 answer ≡ id_into o answer
 unfolding id_into when◌then◌else◌
@@ -89,16 +63,27 @@ not_beyond NotLongest e = omega arith
 not_beyond NoRoom e = omega arith
 not_beyond WrongNumber e = omega arith
 
+found_same : (a b : Result (Option ℕ) StoredRefusal) (p q : ℕ) → found_outcome a p ≡ found_outcome b q → a ≡ b
+found_same (Err r) (Err s) p q e = ap Err (number_same r s (ap (λ v. v.refused) e))
+found_same (Err r) (Ok None) p q e = absurd (not_beyond r (ap (λ v. v.refused) e))
+found_same (Err r) (Ok (Some id)) p q e = absurd (number_some r (ap (λ v. v.refused) e))
+found_same (Ok None) (Err s) p q e = absurd (not_beyond s (sym (ap (λ v. v.refused) e)))
+found_same (Ok None) (Ok None) p q e = refl
+found_same (Ok None) (Ok (Some id)) p q e = let f : ◌≡◌ {A = ℕ} 26 0 = ap (λ v. v.refused) e in absurd (omega arith)
+found_same (Ok (Some id)) (Err s) p q e = absurd (number_some s (sym (ap (λ v. v.refused) e)))
+found_same (Ok (Some id)) (Ok None) p q e = let f : ◌≡◌ {A = ℕ} 0 26 = ap (λ v. v.refused) e in absurd (omega arith)
+found_same (Ok (Some id)) (Ok (Some j)) p q e = ap (λ x. Ok (Some x)) (ap (λ v. v.id) e)
+
+stretch_is : (a : Result (Option ℕ) StoredRefusal) (p : ℕ) → (found_outcome a p).stretch ≡ p
+stretch_is (Err r) p = refl
+stretch_is (Ok None) p = refl
+stretch_is (Ok (Some id)) p = refl
+
 answer_same : (a b : IdAnswer) → id_outcome a ≡ id_outcome b → a ≡ b
-answer_same (Refused r p) (Refused s q) e = ap (λ x. Refused x p) (number_same r s (ap (λ v. v.refused) e)) ∙ ap (Refused s) (ap (λ v. v.stretch) e)
-answer_same (Refused r p) (Beyond q) e = absurd (not_beyond r (ap (λ v. v.refused) e))
-answer_same (Refused r p) (Found id q) e = absurd (number_some r (ap (λ v. v.refused) e))
-answer_same (Beyond p) (Refused s q) e = absurd (not_beyond s (sym (ap (λ v. v.refused) e)))
-answer_same (Beyond p) (Beyond q) e = ap Beyond (ap (λ v. v.stretch) e)
-answer_same (Beyond p) (Found id q) e = let f : ◌≡◌ {A = ℕ} 26 0 = ap (λ v. v.refused) e in absurd (omega arith)
-answer_same (Found id p) (Refused s q) e = absurd (number_some s (sym (ap (λ v. v.refused) e)))
-answer_same (Found id p) (Beyond q) e = let f : ◌≡◌ {A = ℕ} 0 26 = ap (λ v. v.refused) e in absurd (omega arith)
-answer_same (Found id p) (Found j q) e = ap (λ x. Found x p) (ap (λ v. v.id) e) ∙ ap (Found j) (ap (λ v. v.stretch) e)
+answer_same a b e =
+    let f = found_same a.id b.id a.stretch b.stretch e in
+    let g : a.stretch ≡ b.stretch = sym (stretch_is a.id a.stretch) ∙ ap (λ v. v.stretch) e ∙ stretch_is b.id b.stretch in
+    ap (λ x. record { id = x; stretch = a.stretch }) f ∙ ap (λ p. record { id = b.id; stretch = p }) g
 
 -- two results of `id_at`, or of `id_at_whole`, coincide: o is the outcome that the promise names
 pub one_id_answer : (o : IdOutcome) (a b : IdAnswer) → id_outcome a ≡ o → id_outcome b ≡ o → a ≡ b

@@ -3,7 +3,7 @@
 use Prim.Native.Nat.{ℕ, zero, suc, ◌+◌, ◌*◌, ◌-◌, ◌/◌, ◌%◌, ◌≤◌, ◌<◌}
 use native.Mathlib.Omega.{arith}
 use mathlib.Core.Path.{◌≡◌, refl, sym, ap, subst, ◌∙◌}
-use mathlib.Core.Bool.{Bool, true, false}
+use mathlib.Core.Bool.{Bool, false, not}
 use mathlib.Core.List.{List, [], ◌∷◌, ◌++◌}
 use lib.ListN.{length, get_or, replicate, length-append}
 use lib.Dec.{eqb, ltb, leb}
@@ -15,28 +15,33 @@ use Rattle.laws.proofs.Basics.{same_test}
 use Rattle.file.specs.Written.{written, Room, Wrote}
 use Rattle.file.proofs.Writing.{written_none, written_more, written-length}
 use Rattle.stored.specs.Parts.{may_follow, span_records, run_spans}
+use Rattle.stored.specs.Ids.{is_run}
 use Rattle.stored.specs.Records.{record_fine, runs_after, spans_after, long_word, number_right, record_follows, number_after, spans_bytes, record_spans}
 use Rattle.stored.proofs.NewPlaces.{spans_left, spans-first, spans_next, spans-end, spans_long}
 use Rattle.stored.proofs.Fits.{Fits, fits_whole, fits_part, fits_not, Writes, writes_first, writes_room, writes_next, writes_done}
 
 -- ---------------------------------------------------------------- tests
 
+pub run_is : (l : List ℕ) (i v : ℕ) → get_or l i 0 ≡ 6 → v ≡ word l (i + 3) → ltb 0 v ≡ is_run l i
+unfolding is_run ◌and◌
+run_is l i v e f = rw (eq-eqb (get_or l i 0) 6 e) (ap (ltb 0) f)
+
+pub run-not : (l : List ℕ) (i : ℕ) → (get_or l i 0 ≡ 6 → ⊥) → eqb (get_or l i 0) 6 ≡ is_run l i
+unfolding is_run ◌and◌
+run-not l i e = rw (ne_eqb (get_or l i 0) 6 e)
+
 module _ (l : List ℕ) (i t s : ℕ) where
   pub mark_kind : t ≡ 64 → get_or l i 0 ≡ 7 → leb s 4294967295 ≡ record_fine l i t s
   unfolding record_fine when◌then◌else◌ ◌and◌
   mark_kind e k = rw (eq-eqb t 64 e, eq-eqb (get_or l i 0) 7 k)
 
-  pub mark_other : t ≡ 64 → (get_or l i 0 ≡ 7 → ⊥) → false ≡ record_fine l i t s
+  pub mark_other : t ≡ 64 → (get_or l i 0 ≡ 7 → ⊥) → eqb (get_or l i 0) 7 ≡ record_fine l i t s
   unfolding record_fine when◌then◌else◌ ◌and◌
   mark_other e k = rw (eq-eqb t 64 e, ne_eqb (get_or l i 0) 7 k)
 
-  pub run_kind : (v : ℕ) → (t ≡ 64 → ⊥) → get_or l i 0 ≡ 6 → v ≡ word l (i + 3) → ltb 0 v ≡ record_fine l i t s
-  unfolding record_fine when◌then◌else◌ ◌and◌
-  run_kind v n e f = rw (ne_eqb t 64 n, eq-eqb (get_or l i 0) 6 e) (ap (ltb 0) f)
-
-  pub run-other : (t ≡ 64 → ⊥) → (get_or l i 0 ≡ 6 → ⊥) → false ≡ record_fine l i t s
-  unfolding record_fine when◌then◌else◌ ◌and◌
-  run-other n e = rw (ne_eqb t 64 n, ne_eqb (get_or l i 0) 6 e)
+  pub run_due : (r : Bool) → (t ≡ 64 → ⊥) → r ≡ is_run l i → r ≡ record_fine l i t s
+  unfolding record_fine is_run when◌then◌else◌
+  run_due r n e = rw (ne_eqb t 64 n) e
 
   pub spans_stay : t ≡ 64 → s ≡ spans_after l i t s
   unfolding spans_after when◌then◌else◌
@@ -50,7 +55,7 @@ module _ (l : List ℕ) (i t s : ℕ) where
   unfolding number_right when◌then◌else◌
   number_is v e f = rw (eq-eqb t 64 e) (ap (λ z. eqb z s) f)
 
-  pub number_none : (t ≡ 64 → ⊥) → true ≡ number_right l i t s
+  pub number_none : (t ≡ 64 → ⊥) → not (eqb t 64) ≡ number_right l i t s
   unfolding number_right when◌then◌else◌
   number_none n = rw (ne_eqb t 64 n)
 
@@ -66,7 +71,7 @@ pub long_is : (l : List ℕ) (i a b : ℕ) → a ≡ word l i → b ≡ word l (
 unfolding long_word
 long_is l i a b e f = rw (e, f)
 
-pub follows_mark : (l : List ℕ) (i t x k : ℕ) → t ≡ 64 → true ≡ record_follows l i t x k
+pub follows_mark : (l : List ℕ) (i t x k : ℕ) → t ≡ 64 → eqb t 64 ≡ record_follows l i t x k
 unfolding record_follows when◌then◌else◌
 follows_mark l i t x k e = rw (eq-eqb t 64 e)
 
@@ -94,7 +99,7 @@ pub follow_same : (x k y : ℕ) → x ≡ y → eqb k 65535 ≡ may_follow x k y
 unfolding may_follow ◌or◌
 follow_same x k y e = rw (eq-eqb x y e)
 
-pub follow_other : (x k y : ℕ) → (x ≡ y → ⊥) → true ≡ may_follow x k y
+pub follow_other : (x k y : ℕ) → (x ≡ y → ⊥) → not (eqb x y) ≡ may_follow x k y
 unfolding may_follow ◌or◌
 follow_other x k y e = rw (ne_eqb x y e)
 
@@ -133,8 +138,10 @@ pub record Spans (out₀ : List ℕ) (at x k : ℕ) (next left : ℕ) (out : Lis
   pub ends : next + length (span_records (replicate left x)) ≡ at + length (span_records (replicate k x))
   pub long : length out ≡ length out₀
 
-pub spans-start : (out : List ℕ) (at x k : ℕ) → Spans out at x k at k out
-spans-start out at x k = record { same = refl; ends = refl; long = refl }
+pub spans-start : (out : List ℕ) (at x k : ℕ) → Spans out at x k at (k - 0) out
+spans-start out at x k =
+    let e : k ≡ k - 0 = omega arith in
+    subst (λ z. Spans out at x k at z out) e (record { same = refl; ends = refl; long = refl })
 
 one-first : (x left : ℕ) → 0 < left → span_records (replicate left x) ≡ span_record x ++ span_records (replicate (left - 1) x)
 unfolding span_records
@@ -148,7 +155,7 @@ module _ (out₀ : List ℕ) (at x k next left : ℕ) (out : List ℕ) (m : Room
   pub one_room : 0 < left → Room out next (span_record x)
   one_room h = record { fits = omega (arith, total h, s.ends, s.long, m.fits) }
 
-  pub one_next : (r : ℕ) (out' : List ℕ) → 0 < left → Wrote out next (span_record x) r out' → Spans out₀ at x k r (left - 1) out'
+  one_next : (r : ℕ) (out' : List ℕ) → 0 < left → Wrote out next (span_record x) r out' → Spans out₀ at x k r (left - 1) out'
   one_next r out' h w = record {
     same = ap (λ l. written l r (span_records (replicate (left - 1) x))) w.bytes
         ∙ ap (λ j. written (written out next (span_record x)) j (span_records (replicate (left - 1) x))) w.ends
@@ -166,16 +173,23 @@ module _ (out₀ : List ℕ) (at x k next left : ℕ) (out : List ℕ) (m : Room
       let e : span_records (replicate left x) ≡ [] = ap (λ n. span_records (replicate n x)) z in
       record { ends = omega (arith, ap length e, s.ends); bytes = sym (written_none out next) ∙ ap (written out next) (sym e) ∙ s.same }
 
+-- the same, by how many are written
+pub one_more : (out₀ : List ℕ) (at x k next n : ℕ) (out : List ℕ) (r : ℕ) (out' : List ℕ) → Room out₀ at (span_records (replicate k x)) → Spans out₀ at x k next (k - n) out → n < k
+    → Wrote out next (span_record x) r out' → Spans out₀ at x k r (k - (n + 1)) out'
+one_more out₀ at x k next n out r out' m s h w =
+    let e : k - n - 1 ≡ k - (n + 1) = omega arith in
+    subst (λ z. Spans out₀ at x k r z out') e (one_next out₀ at x k next (k - n) out m s r out' (omega arith) w)
+
 -- ---------------------------------------------------------------- writing all spans
 
 pub all_first : (l out : List ℕ) → length (unpacked l) ≤ length out → Writes out (unpacked l) 0 (spans_left l 0 0) out
 all_first l out h = writes_first out (unpacked l) (spans_left l 0 0) h (spans-first l)
 
-pub run-spans_room : (l : List ℕ) (i x k : ℕ) (out : List ℕ) (at : ℕ) → x ≡ word l (i + 1) → k ≡ word l (i + 3) → Room out at (run_spans l i) → Room out at (span_records (replicate k x))
+run-spans_room : (l : List ℕ) (i x k : ℕ) (out : List ℕ) (at : ℕ) → x ≡ word l (i + 1) → k ≡ word l (i + 3) → Room out at (run_spans l i) → Room out at (span_records (replicate k x))
 unfolding run_spans
 run-spans_room l i x k out at p q h = rw (p, q) h
 
-pub run-spans-wrote : (l : List ℕ) (i x k : ℕ) (out : List ℕ) (at r : ℕ) (out' : List ℕ) → x ≡ word l (i + 1) → k ≡ word l (i + 3)
+run-spans-wrote : (l : List ℕ) (i x k : ℕ) (out : List ℕ) (at r : ℕ) (out' : List ℕ) → x ≡ word l (i + 1) → k ≡ word l (i + 3)
     → Wrote out at (span_records (replicate k x)) r out' → Wrote out at (run_spans l i) r out'
 unfolding run_spans
 run-spans-wrote l i x k out at r out' p q h = rw (← p, ← q) h
@@ -191,11 +205,12 @@ some_spans l i t n = rw (ne_eqb t 64 n)
 pub record_here : (l : List ℕ) (i t : ℕ) (out : List ℕ) (at : ℕ) → t ≡ 64 → Wrote out at (record_spans l i t) at out
 record_here l i t out at e = subst (λ z. Wrote out at z at out) (sym (none-spans l i t e)) (record { ends = omega arith; bytes = sym (written_none out at) })
 
-pub record_room : (l : List ℕ) (i t : ℕ) (out : List ℕ) (at : ℕ) → (t ≡ 64 → ⊥) → Room out at (record_spans l i t) → Room out at (run_spans l i)
-record_room l i t out at n h = subst (Room out at) (some_spans l i t n) h
+pub record_room : (l : List ℕ) (i t x k : ℕ) (out : List ℕ) (at : ℕ) → (t ≡ 64 → ⊥) → x ≡ word l (i + 1) → k ≡ word l (i + 3) → Room out at (record_spans l i t) → Room out at (span_records (replicate k x))
+record_room l i t x k out at n p q h = run-spans_room l i x k out at p q (subst (Room out at) (some_spans l i t n) h)
 
-pub record_wrote : (l : List ℕ) (i t : ℕ) (out : List ℕ) (at r : ℕ) (out' : List ℕ) → (t ≡ 64 → ⊥) → Wrote out at (run_spans l i) r out' → Wrote out at (record_spans l i t) r out'
-record_wrote l i t out at r out' n w = subst (λ z. Wrote out at z r out') (sym (some_spans l i t n)) w
+pub record_wrote : (l : List ℕ) (i t x k : ℕ) (out : List ℕ) (at r : ℕ) (out' : List ℕ) → (t ≡ 64 → ⊥) → x ≡ word l (i + 1) → k ≡ word l (i + 3)
+    → Wrote out at (span_records (replicate k x)) r out' → Wrote out at (record_spans l i t) r out'
+record_wrote l i t x k out at r out' n p q w = subst (λ z. Wrote out at z r out') (sym (some_spans l i t n)) (run-spans-wrote l i x k out at r out' p q w)
 
 module _ (l out₀ : List ℕ) (at j t : ℕ) (out : List ℕ) (w : Writes out₀ (unpacked l) at (spans_left l j t) out) (o : length l % 5 ≡ 1) where
   pub all_room : j < length l / 5 → Room out at (record_spans l (5 * j) t)

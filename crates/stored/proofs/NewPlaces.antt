@@ -7,7 +7,7 @@ use mathlib.Core.Bool.{Bool, true, false, not}
 use mathlib.Core.List.{List, [], ◌∷◌, ◌++◌, append_assoc}
 use lib.ListN.{length, get_or, drop, replicate}
 use lib.Dec.{eqb, ltb, leb}
-use borrow.Author.Tests.{eqb-false, lt-ltb, le-ltb, leb-true}
+use borrow.Author.Tests.{eq-eqb, eqb-false, lt-ltb, le-ltb, leb-true}
 use Rattle.rules.specs.Base.{◌and◌, when◌then◌else◌}
 use Rattle.rules.specs.File.{word}
 use Rattle.rules.specs.Stored.{Run, four_of, two, span_record, old_bytes, spread, longest_after, longest, new_fine_from, new_fine, new_runs_from, new_runs, right_from, right_numbers, unpacked}
@@ -160,9 +160,9 @@ pub at_on : (l : List ℕ) (j t s r u : ℕ) → At l j t s → length l % 5 ≡
 at_on l j t s r u w o h e p q v = at_next l j t s w o h true r u (sym (at_fine l j t s w o h e)) refl p q v
 
 module _ (l : List ℕ) (j t s : ℕ) (w : At l j t s) (o : length l % 5 ≡ 1) (h : j ≤ length l / 5) (g : length l / 5 ≤ j) where
-  pub at_full : t ≡ 64 → false ≡ new_fine l
+  pub at_full : t ≡ 64 → not (eqb t 64) ≡ new_fine l
   unfolding ◌and◌
-  at_full e = sym (w.fine ∙ fine_end l j t o h g s ∙ ap (λ z. eqb (get_or l (5 * j) 0) 4 and z) (le-ltb t 64 (omega arith)) ∙ and_no (eqb (get_or l (5 * j) 0) 4))
+  at_full e = ap not (eq-eqb t 64 e) ∙ sym (w.fine ∙ fine_end l j t o h g s ∙ ap (λ z. eqb (get_or l (5 * j) 0) 4 and z) (le-ltb t 64 (omega arith)) ∙ and_no (eqb (get_or l (5 * j) 0) 4))
 
   pub at-end : (t ≡ 64 → ⊥) → eqb (get_or l (5 * j) 0) 4 ≡ new_fine l
   at-end n = sym (w.fine ∙ fine_end l j t o h g s ∙ ap (λ z. eqb (get_or l (5 * j) 0) 4 and z) (lt-ltb t 64 (omega (arith, w.below))) ∙ and_yes (eqb (get_or l (5 * j) 0) 4))

@@ -4,8 +4,9 @@ use Prim.Native.Nat.{ℕ}
 use native.Mathlib.Omega.{arith}
 use mathlib.Core.Path.{◌≡◌, refl, sym, ap, ◌∙◌}
 use mathlib.Core.List.{List, [], ◌∷◌}
-use lib.ListN.{length, set}
+use lib.ListN.{length}
 use borrow.Author.Tests.{eq-eqb, ne_eqb}
+use Rattle.std.specs.Prelude.{Result, Ok, Err}
 use Rattle.rules.specs.Base.{when◌then◌else◌}
 use Rattle.rules.specs.Stored.{StoredOutcome}
 use Rattle.stored.specs.Answer.{stored_number, stored_refused_by, bytes_in, outcome}
@@ -13,34 +14,14 @@ use Rattle.stored.specs.Into.{IntoOutcome, leaves, stored_into}
 use Rattle.stored.proofs.Ends.{number_some}
 use Rattle.stored.specs.declared.StoredRefusal.{StoredRefusal}
 use Rattle.stored.specs.declared.StoredRefusal.TheVariants.{Malformed, NotLongest, NoRoom, WrongNumber}
-use Rattle.stored.specs.declared.StoredAnswer.{StoredAnswer}
-use Rattle.stored.specs.declared.StoredAnswer.TheVariants.{Refused, Done}
 
 -- ---------------------------------------------------------------- numbers in a list
-
-pub two_stores : (l : List ℕ) (a b : ℕ) → length l ≡ 2 → set (set l 0 a) 1 b ≡ a ∷ b ∷ []
-two_stores [] a b e = absurd (omega arith)
-two_stores (x ∷ []) a b e = absurd (omega arith)
-two_stores (x ∷ y ∷ []) a b e = refl
-two_stores (x ∷ y ∷ z ∷ l) a b e = absurd (omega arith)
-
-pub put_refused : (r : StoredAnswer) (x : StoredRefusal) (k : ℕ) → r ≡ Refused x → k ≡ stored_number x → k ≡ stored_refused_by r
-put_refused r x k e p = p ∙ sym (ap stored_refused_by e)
-
-pub list_refused : (r : StoredAnswer) (x : StoredRefusal) (k : ℕ) (l : List ℕ) → r ≡ Refused x → k ≡ stored_number x → l ≡ k ∷ 0 ∷ [] → l ≡ stored_refused_by r ∷ bytes_in r ∷ []
-list_refused r x k l e p q = q ∙ ap (λ z. z ∷ 0 ∷ []) p ∙ sym (ap (λ v. stored_refused_by v ∷ bytes_in v ∷ []) e)
-
-pub put_done : (r : StoredAnswer) (n : ℕ) → r ≡ Done n → 0 ≡ stored_refused_by r
-put_done r n e = sym (ap stored_refused_by e)
-
-pub list_done : (r : StoredAnswer) (n : ℕ) (l : List ℕ) → r ≡ Done n → l ≡ 0 ∷ n ∷ [] → l ≡ stored_refused_by r ∷ bytes_in r ∷ []
-list_done r n l e q = q ∙ sym (ap (λ v. stored_refused_by v ∷ bytes_in v ∷ []) e)
 
 pub into_other : (o : StoredOutcome) (out answer : List ℕ) → (length answer ≡ 2 → ⊥) → leaves 3 out answer ≡ stored_into o out answer
 unfolding stored_into when◌then◌else◌
 into_other o out answer n = rw (ne_eqb (length answer) 2 n)
 
-pub into_done : (o : StoredOutcome) (out₀ answer₀ : List ℕ) (r : StoredAnswer) (k : ℕ) (out answer : List ℕ) → length answer₀ ≡ 2 → outcome r out ≡ o
+pub into_done : (o : StoredOutcome) (out₀ answer₀ : List ℕ) (r : Result ℕ StoredRefusal) (k : ℕ) (out answer : List ℕ) → length answer₀ ≡ 2 → outcome r out ≡ o
     → k ≡ stored_refused_by r → answer ≡ stored_refused_by r ∷ bytes_in r ∷ [] → leaves k out answer ≡ stored_into o out₀ answer₀
 unfolding stored_into when◌then◌else◌
 into_done o out₀ answer₀ r k out answer e p q a =
@@ -67,13 +48,13 @@ number_same WrongNumber NotLongest e = absurd (omega arith)
 number_same WrongNumber NoRoom e = absurd (omega arith)
 number_same WrongNumber WrongNumber e = refl
 
-answer_same : (a b : StoredAnswer) → stored_refused_by a ≡ stored_refused_by b → bytes_in a ≡ bytes_in b → a ≡ b
-answer_same (Refused r) (Refused s) e f = ap Refused (number_same r s e)
-answer_same (Refused r) (Done k) e f = absurd (number_some r e)
-answer_same (Done k) (Refused s) e f = absurd (number_some s (sym e))
-answer_same (Done k) (Done j) e f = ap Done f
+answer_same : (a b : Result ℕ StoredRefusal) → stored_refused_by a ≡ stored_refused_by b → bytes_in a ≡ bytes_in b → a ≡ b
+answer_same (Err r) (Err s) e f = ap Err (number_same r s e)
+answer_same (Err r) (Ok k) e f = absurd (number_some r e)
+answer_same (Ok k) (Err s) e f = absurd (number_some s (sym e))
+answer_same (Ok k) (Ok j) e f = ap Ok f
 
-pub one_stored_answer : (o : StoredOutcome) (a b : StoredAnswer) (l m : List ℕ) → outcome a l ≡ o → outcome b m ≡ o → (a ≡ b) × (l ≡ m)
+pub one_stored_answer : (o : StoredOutcome) (a b : Result ℕ StoredRefusal) (l m : List ℕ) → outcome a l ≡ o → outcome b m ≡ o → (a ≡ b) × (l ≡ m)
 one_stored_answer o a b l m p q =
     let e = p ∙ sym q in (answer_same a b (ap (λ v. v.refused) e) (ap (λ v. v.long) e), ap (λ v. v.out) e)
 

@@ -8,7 +8,7 @@ use mathlib.Core.List.{List, [], ◌∷◌, ◌++◌, append_assoc}
 use lib.ListN.{length, get_or, drop, replicate, length-append, length-replicate, drop_of_length-le}
 use lib.Seq.{drop-cons}
 use lib.Dec.{eqb, leb}
-use borrow.Author.Tests.{eqb-true, eqb-false, eq-eqb, le-leb}
+use borrow.Author.Tests.{eqb-true, eq-eqb, le-leb}
 use Rattle.rules.specs.Base.{◌and◌, when◌then◌else◌}
 use Rattle.rules.specs.File.{word}
 use Rattle.rules.specs.Stored.{Run, old_fine, old_ids, joins, runs_from, runs_of, spread, run_record, mark_record, new_from, new_bytes, marks_fit, packed}
@@ -165,14 +165,6 @@ module _ (x k y t i : ℕ) (ys : List ℕ) (le : k ≤ i) where
 pub grown_le : (x k y i : ℕ) → k ≤ i → grown x k y ≤ i + 1
 unfolding grown
 grown_le x k y i h = if-ind (λ z. z ≤ i + 1) (joins x k y) (λ e. omega arith) (λ e. omega arith)
-
-below : (t : ℕ) → t < 64 → (suc t ≡ 64 → ⊥) → suc t < 64
-below t h n = omega arith
-
-pub turned_below : (x k y t : ℕ) → t < 64 → turned x k y t < 64
-unfolding turned next_run
-turned_below x k y t h =
-    if-ind (λ z. z < 64) (joins x k y) (λ e. h) (λ e. if-ind (λ z. z < 64) (eqb (suc t) 64) (λ p. omega arith) (λ p. below t h (eqb-false (suc t) 64 p)))
 
 pub left-first : (l : List ℕ) → length l % 3 ≡ 1 → 3 < length l → packed l ≡ runs_left l 1 (word l 1) 1 0
 unfolding packed new_bytes runs_left runs_of

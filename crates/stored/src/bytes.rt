@@ -5,7 +5,6 @@ ghost use Rattle.rules.specs.Stored.{two, mark_record};
 ghost use Rattle.file.specs.Written.{Room, Wrote};
 ghost use Rattle.stored.specs.Parts.{five};
 
-use field::read::at8;
 use file::put::put;
 
 // The kinds of records: a span, a run, the number of spans after a stretch, the end.
@@ -35,9 +34,7 @@ pub(crate) fn word(bytes: &[u8], i: usize) -> u16
     requires { i + 1 < length bytes.now }
     ensures { result ≡ word bytes.now i }
 {
-    let low = at8(bytes, i);
-    let high = at8(bytes, i + 1);
-    (low + 256 * high) as u16
+    u16::from_le_bytes([bytes[i], bytes[i + 1]])
 }
 
 // A number's two bytes.

@@ -13,10 +13,8 @@ pub fn old_form(ids: &[u16], out: &mut [u8]) -> usize
     ensures { Wrote out.old 0 (old_bytes ids.now) result out.new }
 {
     let mut at = 0;
-    let mut i = 0;
-    while i < ids.len() {
-        at = put_span(out, at, ids[i]);
-        i += 1;
+    for id in ids {
+        at = put_span(out, at, *id);
     }
     put(out, at, END)
 }

@@ -6,10 +6,13 @@ ghost use Rattle.stored.specs.Into.{leaves, stored_into, id_numbers, leaves_id, 
 ghost use Rattle.stored.specs.Ids.{id_outcome};
 
 use crate::id::{IdAnswer, id_at, id_at_whole};
-use crate::{StoredAnswer, StoredRefusal, pack, unpack};
+use crate::{StoredRefusal, pack, unpack};
 
 // How many numbers an answer has.
 const NUMBERS: usize = 2;
+
+// The refusal of a list of another length.
+const WRONG_LENGTH: u32 = 3;
 
 // Document 02's number of a refusal.
 fn stored_number(r: StoredRefusal) -> u32
@@ -23,30 +26,17 @@ fn stored_number(r: StoredRefusal) -> u32
     }
 }
 
-fn write(to: &mut [u64], refusal: u64, bytes: u64)
-    requires { length to.old ≡ 2 }
-    ensures { to.new ≡ refusal ∷ bytes ∷ [] }
-{
-    to[0] = refusal;
-    to[1] = bytes;
-}
-
 // The numbers of an answer; the refusal's is given too.
-fn put_answer(to: &mut [u64], r: StoredAnswer) -> u32
+fn put_answer(to: &mut [u64], r: Result<u64, StoredRefusal>) -> u32
     requires { length to.old ≡ 2 }
     ensures { (result ≡ stored_refused_by r) × (to.new ≡ stored_refused_by r ∷ bytes_in r ∷ []) }
 {
-    match r {
-        StoredAnswer::Refused(x) => {
-            let k = stored_number(x);
-            write(to, k as u64, 0);
-            k
-        }
-        StoredAnswer::Done(bytes) => {
-            write(to, 0, bytes);
-            0
-        }
-    }
+    let (refusal, bytes) = match r {
+        Err(x) => (stored_number(x), 0),
+        Ok(bytes) => (0, bytes),
+    };
+    to.copy_from_slice(&[refusal as u64, bytes]);
+    refusal
 }
 
 // As `pack`, with the answer's numbers in a list of two.
@@ -55,10 +45,9 @@ pub fn pack_into(old: &[u8], out: &mut [u8], answer: &mut [u64]) -> u32
         ≡ stored_into (pack_outcome old.now out.old) out.old answer.old }
 {
     if answer.len() != NUMBERS {
-        return 3;
+        return WRONG_LENGTH;
     }
-    let r = pack(old, out);
-    put_answer(answer, r)
+    put_answer(answer, pack(old, out))
 }
 
 // As `unpack`, with the answer's numbers in a list of two.
@@ -67,44 +56,29 @@ pub fn unpack_into(new: &[u8], out: &mut [u8], answer: &mut [u64]) -> u32
         ≡ stored_into (unpack_outcome new.now out.old) out.old answer.old }
 {
     if answer.len() != NUMBERS {
-        return 3;
+        return WRONG_LENGTH;
     }
-    let r = unpack(new, out);
-    put_answer(answer, r)
+    put_answer(answer, unpack(new, out))
 }
 
 // How many numbers an answer of one span's id has.
 const ID_NUMBERS: usize = 3;
 
-fn write_id(to: &mut [u32], refusal: u32, id: u32, stretch: u32)
-    requires { length to.old ≡ 3 }
-    ensures { to.new ≡ refusal ∷ id ∷ stretch ∷ [] }
-{
-    to[0] = refusal;
-    to[1] = id;
-    to[2] = stretch;
-}
+// The refusal's number where the file has no such span.
+const BEYOND: u32 = 26;
 
 // The numbers of an answer; the refusal's is given too.
 fn put_id(to: &mut [u32], r: IdAnswer) -> u32
     requires { length to.old ≡ 3 }
     ensures { (result ≡ (id_outcome r).refused) × (to.new ≡ id_numbers (id_outcome r)) }
 {
-    match r {
-        IdAnswer::Refused(x, p) => {
-            let k = stored_number(x);
-            write_id(to, k, 0, p);
-            k
-        }
-        IdAnswer::Beyond(p) => {
-            write_id(to, 26, 0, p);
-            26
-        }
-        IdAnswer::Found(id, p) => {
-            write_id(to, 0, id as u32, p);
-            0
-        }
-    }
+    let (refusal, id) = match r.id {
+        Err(x) => (stored_number(x), 0),
+        Ok(None) => (BEYOND, 0),
+        Ok(Some(id)) => (0, id),
+    };
+    to.copy_from_slice(&[refusal, id as u32, r.stretch]);
+    refusal
 }
 
 // As `id_at`, with the answer's numbers in a list of three.
@@ -112,10 +86,9 @@ pub fn id_at_into(file: &[u8], span: u32, answer: &mut [u32]) -> u32
     ensures { leaves_id result answer.new ≡ id_into (id_at file.now span) answer.old }
 {
     if answer.len() != ID_NUMBERS {
-        return 3;
+        return WRONG_LENGTH;
     }
-    let r = id_at(file, span);
-    put_id(answer, r)
+    put_id(answer, id_at(file, span))
 }
 
 // As `id_at_whole`, with the answer's numbers in a list of three.
@@ -123,8 +96,7 @@ pub fn id_at_whole_into(file: &[u8], span: u32, answer: &mut [u32]) -> u32
     ensures { leaves_id result answer.new ≡ id_into (id_whole file.now span) answer.old }
 {
     if answer.len() != ID_NUMBERS {
-        return 3;
+        return WRONG_LENGTH;
     }
-    let r = id_at_whole(file, span);
-    put_id(answer, r)
+    put_id(answer, id_at_whole(file, span))
 }

@@ -25,65 +25,45 @@ pub enum StoredRefusal {
     WrongNumber,
 }
 
-// A refusal, or how many bytes were written.
-#[derive(Clone, Copy)]
-pub enum StoredAnswer {
-    Refused(StoredRefusal),
-    Done(u64),
-}
-
-// Old to new: any input.
-pub fn pack(old: &[u8], out: &mut [u8]) -> StoredAnswer
+// Old to new: any input. Gives how many bytes were written.
+pub fn pack(old: &[u8], out: &mut [u8]) -> Result<u64, StoredRefusal>
     ensures { outcome result out.new ≡ pack_outcome old.now out.old }
 {
-    if old_fine(old) {} else {
-        return StoredAnswer::Refused(StoredRefusal::Malformed);
+    if !old_fine(old) {
+        return Err(StoredRefusal::Malformed);
     }
-    if marks_fit(old) {} else {
-        return StoredAnswer::Refused(StoredRefusal::Malformed);
+    if !marks_fit(old) {
+        return Err(StoredRefusal::Malformed);
     }
-    if pack_fits(old, out.len()) {} else {
-        return StoredAnswer::Refused(StoredRefusal::NoRoom);
+    if !pack_fits(old, out.len()) {
+        return Err(StoredRefusal::NoRoom);
     }
-    let end = write_runs(old, out);
-    StoredAnswer::Done(end as u64)
-}
-
-// What a full read refuses.
-#[derive(Clone, Copy)]
-pub enum Checked {
-    Fine,
-    Refused(StoredRefusal),
+    Ok(write_runs(old, out) as u64)
 }
 
 // Refusals 22, 23 and 25 of a file of the new form, each asked over the whole file.
-pub(crate) fn check(new: &[u8]) -> Checked
+pub(crate) fn check(new: &[u8]) -> Result<(), StoredRefusal>
     ensures { CheckedAs new.now result }
 {
-    if new_fine(new) {} else {
-        return Checked::Refused(StoredRefusal::Malformed);
+    if !new_fine(new) {
+        return Err(StoredRefusal::Malformed);
     }
-    if longest_runs(new) {} else {
-        return Checked::Refused(StoredRefusal::NotLongest);
+    if !longest_runs(new) {
+        return Err(StoredRefusal::NotLongest);
     }
-    if numbers_right(new) {} else {
-        return Checked::Refused(StoredRefusal::WrongNumber);
+    if !numbers_right(new) {
+        return Err(StoredRefusal::WrongNumber);
     }
-    Checked::Fine
+    Ok(())
 }
 
-// New to old: any input.
-pub fn unpack(new: &[u8], out: &mut [u8]) -> StoredAnswer
+// New to old: any input. Gives how many bytes were written.
+pub fn unpack(new: &[u8], out: &mut [u8]) -> Result<u64, StoredRefusal>
     ensures { outcome result out.new ≡ unpack_outcome new.now out.old }
 {
-    match check(new) {
-        Checked::Refused(r) => StoredAnswer::Refused(r),
-        Checked::Fine => {
-            if unpack_fits(new, out.len()) {} else {
-                return StoredAnswer::Refused(StoredRefusal::NoRoom);
-            }
-            let end = write_spans(new, out);
-            StoredAnswer::Done(end as u64)
-        }
+    check(new)?;
+    if !unpack_fits(new, out.len()) {
+        return Err(StoredRefusal::NoRoom);
     }
+    Ok(write_spans(new, out) as u64)
 }

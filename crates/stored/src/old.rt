@@ -1,8 +1,9 @@
 // The old form, one record a span, and the runs that are made of it.
 ghost use Rattle.std.specs.Prelude.{◌≡◌, true, ◌+◌, ◌*◌, ◌<◌, ◌≤◌, ◌%◌, length, leb};
+ghost use Rattle.rules.specs.File.{word};
 ghost use Rattle.rules.specs.Stored.{joins, old_fine, old_ids, runs_of, marks_fit, packed};
 ghost use Rattle.file.specs.Written.{Room, Wrote};
-ghost use Rattle.stored.specs.Parts.{grown, next_run, turned, run_bytes, ended_bytes, run_then, ended, mark_fits, end_fits};
+ghost use Rattle.stored.specs.Parts.{grown, turned, run_bytes, ended_bytes, run_then, ended, mark_fits, end_fits};
 
 use crate::bytes::{
     END, MOST_LONG, MOST_MARKED, RUN, RUN_BYTES, SPAN, SPAN_BYTES, STRETCH, put_five, put_mark,
@@ -18,123 +19,116 @@ pub(crate) fn old_fine(old: &[u8]) -> bool
         return false;
     }
     let n = old.len() / SPAN_BYTES;
-    let mut i = 0;
-    while i < n {
+    for i in 0..n {
         if old[SPAN_BYTES * i] != SPAN {
             return false;
         }
-        i += 1;
     }
-    old[SPAN_BYTES * i] == END
+    old[SPAN_BYTES * n] == END
 }
 
-// A span of id y lengthens the run of id x and length k.
-fn run_joins(x: u16, k: u16, y: u16) -> bool
-    ensures { result ≡ joins x k y }
-{
-    if x == y {
-        return k < MOST_LONG;
-    }
-    false
+// The run that the spans so far end in: its id, its length so far, and the runs of its stretch before it.
+#[derive(Clone, Copy)]
+struct Run {
+    id: u16,
+    long: u16,
+    before: usize,
+    ghost in_stretch: { before < 64 },
 }
 
-// The length of the run that a span of id y is in, after a run of id x and length k.
-fn run_grown(x: u16, k: u16, y: u16) -> u16
-    ensures { result ≡ grown x k y }
+// A span of this id lengthens the run.
+fn joins(run: Run, id: u16) -> bool
+    ensures { result ≡ joins run.id run.long id }
 {
-    if run_joins(x, k, y) {
-        return k + 1;
-    }
-    1
+    run.id == id && run.long < MOST_LONG
 }
 
-// The runs of the stretch after one more, t before it.
-fn next_run(t: usize) -> usize
-    requires { t < 64 }
-    ensures { result ≡ next_run t }
+// The run that a span of this id is in, after the run.
+fn run_after(run: Run, id: u16) -> Run
+    ensures { (result.id ≡ id) × (result.long ≡ grown run.id run.long id) × (result.before ≡ turned run.id run.long id run.before) }
 {
-    if t + 1 == STRETCH {
-        return 0;
+    if joins(run, id) {
+        Run {
+            id,
+            long: run.long + 1,
+            before: run.before,
+        }
+    } else {
+        Run {
+            id,
+            long: 1,
+            before: (run.before + 1) % STRETCH,
+        }
     }
-    t + 1
 }
 
-// The runs of the stretch before the run that a span of id y is in.
-fn runs_before(x: u16, k: u16, y: u16, t: usize) -> usize
-    requires { t < 64 }
-    ensures { result ≡ turned x k y t }
+// The bytes of the run: where it is the last of its stretch, of the number of spans too.
+fn run_bytes(run: Run) -> usize
+    ensures { result ≡ run_bytes run.before }
 {
-    if run_joins(x, k, y) {
-        return t;
+    if run.before + 1 == STRETCH {
+        RUN_BYTES + RUN_BYTES
+    } else {
+        RUN_BYTES
     }
-    next_run(t)
 }
 
-// The bytes of a run, t runs of the stretch being before it: where it is the last, of the number of spans too.
-fn run_bytes(t: usize) -> usize
-    requires { t < 64 }
-    ensures { result ≡ run_bytes t }
+// Those that the run takes before a span of this id: none if the run goes on.
+fn ended_bytes(run: Run, id: u16) -> usize
+    ensures { result ≡ ended_bytes run.id run.long id run.before }
 {
-    if t + 1 == STRETCH {
-        return RUN_BYTES + RUN_BYTES;
-    }
-    RUN_BYTES
-}
-
-// Those that the run of id x and length k takes before a span of id y: none if the run goes on.
-fn ended_bytes(x: u16, k: u16, y: u16, t: usize) -> usize
-    requires { t < 64 }
-    ensures { result ≡ ended_bytes x k y t }
-{
-    if run_joins(x, k, y) {
-        return 0;
-    }
-    run_bytes(t)
+    if joins(run, id) { 0 } else { run_bytes(run) }
 }
 
 // The record of a run that ends after so many spans, and where it is the last of its stretch, of the number of spans.
-fn put_run(out: &mut [u8], at: usize, x: u16, k: u16, t: usize, spans: usize) -> usize
-    requires { (t < 64) × Room out.old at (run_then x k t spans) }
-    ensures { Wrote out.old at (run_then x k t spans) result out.new }
+fn put_run(out: &mut [u8], at: usize, run: Run, spans: usize) -> usize
+    requires { Room out.old at (run_then run.id run.long run.before spans) }
+    ensures { Wrote out.old at (run_then run.id run.long run.before spans) result out.new }
 {
-    let next = put_five(out, at, RUN, x, k);
-    if t + 1 == STRETCH {
-        return put_mark(out, next, spans);
+    let next = put_five(out, at, RUN, run.id, run.long);
+    if run.before + 1 == STRETCH {
+        put_mark(out, next, spans)
+    } else {
+        next
     }
-    next
 }
 
-// The same, where a span of id y ends it.
-fn put_ended(out: &mut [u8], at: usize, x: u16, k: u16, y: u16, t: usize, spans: usize) -> usize
-    requires { (t < 64) × Room out.old at (ended x k y t spans) }
-    ensures { Wrote out.old at (ended x k y t spans) result out.new }
+// The same, where a span of this id ends it.
+fn put_ended(out: &mut [u8], at: usize, run: Run, id: u16, spans: usize) -> usize
+    requires { Room out.old at (ended run.id run.long id run.before spans) }
+    ensures { Wrote out.old at (ended run.id run.long id run.before spans) result out.new }
 {
-    if run_joins(x, k, y) {
-        return at;
+    if joins(run, id) {
+        at
+    } else {
+        put_run(out, at, run, spans)
     }
-    put_run(out, at, x, k, t, spans)
 }
 
 // The number of spans fits its record, if one stands after this run.
-fn mark_fits(t: usize, spans: usize) -> bool
-    requires { t < 64 }
-    ensures { result ≡ mark_fits t spans }
+fn mark_fits(run: Run, spans: usize) -> bool
+    ensures { result ≡ mark_fits run.before spans }
 {
-    if t + 1 == STRETCH {
-        return spans <= MOST_MARKED;
-    }
-    true
+    run.before + 1 != STRETCH || spans <= MOST_MARKED
 }
 
-// The same, where a span of id y ends the run.
-fn end_fits(x: u16, k: u16, y: u16, t: usize, spans: usize) -> bool
-    requires { t < 64 }
-    ensures { result ≡ end_fits x k y t spans }
+// The same, where a span of this id ends the run.
+fn end_fits(run: Run, id: u16, spans: usize) -> bool
+    ensures { result ≡ end_fits run.id run.long id run.before spans }
 {
-    if run_joins(x, k, y) {
-        return true;
+    joins(run, id) || mark_fits(run, spans)
+}
+
+// The run of the first span, of a file with a span.
+fn first_run(old: &[u8]) -> Run
+    requires { 3 < length old.now }
+    ensures { (result.id ≡ word old.now 1) × (result.long ≡ 1) × (result.before ≡ 0) }
+{
+    Run {
+        id: word(old, 1),
+        long: 1,
+        before: 0,
     }
-    mark_fits(t, spans)
 }
 
 // Every number of spans of the new form fits its record: of a file with a span.
@@ -143,21 +137,15 @@ fn some_marks_fit(old: &[u8]) -> bool
     ensures { result ≡ marks_fit 0 0 (runs_of (old_ids old.now)) }
 {
     let n = old.len() / SPAN_BYTES;
-    let mut id = word(old, 1);
-    let mut long: u16 = 1;
-    let mut t = 0;
-    let mut i = 1;
-    while i < n {
-        let next = word(old, SPAN_BYTES * i + 1);
-        if end_fits(id, long, next, t, i) {} else {
+    let mut run = first_run(old);
+    for i in 1..n {
+        let id = word(old, SPAN_BYTES * i + 1);
+        if !end_fits(run, id, i) {
             return false;
         }
-        t = runs_before(id, long, next, t);
-        long = run_grown(id, long, next);
-        id = next;
-        i += 1;
+        run = run_after(run, id);
     }
-    mark_fits(t, i)
+    mark_fits(run, n)
 }
 
 // Every number of spans of the new form fits its record: with no more spans than that, each does.
@@ -165,10 +153,7 @@ pub(crate) fn marks_fit(old: &[u8]) -> bool
     requires { old_fine old.now ≡ true }
     ensures { result ≡ marks_fit 0 0 (runs_of (old_ids old.now)) }
 {
-    if old.len() / SPAN_BYTES <= MOST_MARKED {
-        return true;
-    }
-    some_marks_fit(old)
+    old.len() / SPAN_BYTES <= MOST_MARKED || some_marks_fit(old)
 }
 
 // The new form of a file with a span takes at most so many bytes.
@@ -178,23 +163,17 @@ fn runs_fit(old: &[u8], room: usize) -> bool
 {
     let n = old.len() / SPAN_BYTES;
     let mut left = room;
-    let mut id = word(old, 1);
-    let mut long: u16 = 1;
-    let mut t = 0;
-    let mut i = 1;
-    while i < n {
-        let next = word(old, SPAN_BYTES * i + 1);
-        let taken = ended_bytes(id, long, next, t);
+    let mut run = first_run(old);
+    for i in 1..n {
+        let id = word(old, SPAN_BYTES * i + 1);
+        let taken = ended_bytes(run, id);
         if left < taken {
             return false;
         }
         left -= taken;
-        t = runs_before(id, long, next, t);
-        long = run_grown(id, long, next);
-        id = next;
-        i += 1;
+        run = run_after(run, id);
     }
-    run_bytes(t) < left
+    run_bytes(run) < left
 }
 
 // The new form takes at most so many bytes.
@@ -203,9 +182,10 @@ pub(crate) fn pack_fits(old: &[u8], room: usize) -> bool
     ensures { result ≡ leb (length (packed old.now)) room }
 {
     if old.len() == 1 {
-        return 0 < room;
+        0 < room
+    } else {
+        runs_fit(old, room)
     }
-    runs_fit(old, room)
 }
 
 // The runs of a file with a span.
@@ -215,19 +195,13 @@ fn write_some(old: &[u8], out: &mut [u8]) -> usize
 {
     let n = old.len() / SPAN_BYTES;
     let mut at = 0;
-    let mut id = word(old, 1);
-    let mut long: u16 = 1;
-    let mut t = 0;
-    let mut i = 1;
-    while i < n {
-        let next = word(old, SPAN_BYTES * i + 1);
-        at = put_ended(out, at, id, long, next, t, i);
-        t = runs_before(id, long, next, t);
-        long = run_grown(id, long, next);
-        id = next;
-        i += 1;
+    let mut run = first_run(old);
+    for i in 1..n {
+        let id = word(old, SPAN_BYTES * i + 1);
+        at = put_ended(out, at, run, id, i);
+        run = run_after(run, id);
     }
-    let last = put_run(out, at, id, long, t, i);
+    let last = put_run(out, at, run, n);
     put(out, last, END)
 }
 
@@ -237,7 +211,8 @@ pub(crate) fn write_runs(old: &[u8], out: &mut [u8]) -> usize
     ensures { Wrote out.old 0 (packed old.now) result out.new }
 {
     if old.len() == 1 {
-        return put(out, 0, END);
+        put(out, 0, END)
+    } else {
+        write_some(old, out)
     }
-    write_some(old, out)
 }

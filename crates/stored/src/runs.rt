@@ -2,7 +2,8 @@
 ghost use Rattle.std.specs.Prelude.{◌≡◌, true, ◌+◌, ◌*◌, ◌<◌, ◌≤◌, ◌%◌, length, replicate, leb};
 ghost use Rattle.rules.specs.Stored.{span_record, new_fine, new_runs, right_numbers, longest, unpacked};
 ghost use Rattle.file.specs.Written.{Room, Wrote};
-ghost use Rattle.stored.specs.Parts.{may_follow, span_records, run_spans};
+ghost use Rattle.stored.specs.Parts.{may_follow, span_records};
+ghost use Rattle.stored.specs.Ids.{is_run};
 ghost use Rattle.stored.specs.Records.{record_fine, runs_after, spans_after, long_word, number_right, record_follows, number_after, spans_bytes, record_spans};
 
 use crate::bytes::{
@@ -10,21 +11,24 @@ use crate::bytes::{
 };
 use file::put::put;
 
+// The record at place i is that of a run.
+pub(crate) fn is_run(file: &[u8], i: usize) -> bool
+    requires { i + 4 < length file.now }
+    ensures { result ≡ is_run file.now i }
+{
+    file[i] == RUN && 0 < word(file, i + 3)
+}
+
 // The record at place i is the one that is due after t runs of a stretch: after 64 the number of spans, which then fits, otherwise a run.
 fn record_fine(new: &[u8], i: usize, t: usize, spans: usize) -> bool
     requires { i + 4 < length new.now }
     ensures { result ≡ record_fine new.now i t spans }
 {
     if t == STRETCH {
-        if new[i] == MARK {
-            return spans <= MOST_MARKED;
-        }
-        return false;
+        new[i] == MARK && spans <= MOST_MARKED
+    } else {
+        is_run(new, i)
     }
-    if new[i] == RUN {
-        return 0 < word(new, i + 3);
-    }
-    false
 }
 
 // The runs of the stretch after the record that is due.
@@ -32,10 +36,7 @@ pub(crate) fn runs_after(t: usize) -> usize
     requires { t ≤ 64 }
     ensures { result ≡ runs_after t }
 {
-    if t == STRETCH {
-        return 0;
-    }
-    t + 1
+    if t == STRETCH { 0 } else { t + 1 }
 }
 
 // The spans after the record at place i.
@@ -44,9 +45,10 @@ pub(crate) fn spans_after(new: &[u8], i: usize, t: usize, spans: usize) -> usize
     ensures { (result ≡ spans_after new.now i t spans) × (result ≤ spans + 65535) }
 {
     if t == STRETCH {
-        return spans;
+        spans
+    } else {
+        spans + word(new, i + 3) as usize
     }
-    spans + word(new, i + 3) as usize
 }
 
 // The file is one of the new form, whatever its runs and its numbers of spans.
@@ -59,19 +61,14 @@ pub(crate) fn new_fine(new: &[u8]) -> bool
     let m = new.len() / RUN_BYTES;
     let mut t: usize = 0;
     let mut spans: usize = 0;
-    let mut j = 0;
-    while j < m {
-        if record_fine(new, RUN_BYTES * j, t, spans) {} else {
+    for j in 0..m {
+        if !record_fine(new, RUN_BYTES * j, t, spans) {
             return false;
         }
         spans = spans_after(new, RUN_BYTES * j, t, spans);
         t = runs_after(t);
-        j += 1;
     }
-    if t == STRETCH {
-        return false;
-    }
-    new[RUN_BYTES * j] == END
+    t != STRETCH && new[RUN_BYTES * m] == END
 }
 
 // The number of four bytes at place i.
@@ -89,10 +86,7 @@ fn number_right(new: &[u8], i: usize, t: usize, spans: usize) -> bool
     requires { i + 4 < length new.now }
     ensures { result ≡ number_right new.now i t spans }
 {
-    if t == STRETCH {
-        return long_word(new, i + 1) == spans;
-    }
-    true
+    t != STRETCH || long_word(new, i + 1) == spans
 }
 
 // Every number of spans is right.
@@ -103,14 +97,12 @@ pub(crate) fn numbers_right(new: &[u8]) -> bool
     let m = new.len() / RUN_BYTES;
     let mut t: usize = 0;
     let mut spans: usize = 0;
-    let mut j = 0;
-    while j < m {
-        if number_right(new, RUN_BYTES * j, t, spans) {} else {
+    for j in 0..m {
+        if !number_right(new, RUN_BYTES * j, t, spans) {
             return false;
         }
         spans = spans_after(new, RUN_BYTES * j, t, spans);
         t = runs_after(t);
-        j += 1;
     }
     true
 }
@@ -119,10 +111,7 @@ pub(crate) fn numbers_right(new: &[u8]) -> bool
 fn may_follow(x: u16, k: u16, y: u16) -> bool
     ensures { result ≡ may_follow x k y }
 {
-    if x == y {
-        return k == MOST_LONG;
-    }
-    true
+    x != y || k == MOST_LONG
 }
 
 // The record at place i may follow a run of id x and length k: a number of spans always.
@@ -130,10 +119,7 @@ fn record_follows(new: &[u8], i: usize, t: usize, x: u16, k: u16) -> bool
     requires { i + 4 < length new.now }
     ensures { result ≡ record_follows new.now i t x k }
 {
-    if t == STRETCH {
-        return true;
-    }
-    may_follow(x, k, word(new, i + 1))
+    t == STRETCH || may_follow(x, k, word(new, i + 1))
 }
 
 // A number of the run at place i, or that of the run before it where the number of spans is due.
@@ -141,10 +127,7 @@ fn number_after(new: &[u8], i: usize, t: usize, before: u16) -> u16
     requires { i + 1 < length new.now }
     ensures { result ≡ number_after new.now i t before }
 {
-    if t == STRETCH {
-        return before;
-    }
-    word(new, i)
+    if t == STRETCH { before } else { word(new, i) }
 }
 
 // The runs are the longest. Any run may follow one of the greatest length, so the first does too.
@@ -156,15 +139,13 @@ pub(crate) fn longest_runs(new: &[u8]) -> bool
     let mut id: u16 = 0;
     let mut long = MOST_LONG;
     let mut t: usize = 0;
-    let mut j = 0;
-    while j < m {
-        if record_follows(new, RUN_BYTES * j, t, id, long) {} else {
+    for j in 0..m {
+        if !record_follows(new, RUN_BYTES * j, t, id, long) {
             return false;
         }
         id = number_after(new, RUN_BYTES * j + 1, t, id);
         long = number_after(new, RUN_BYTES * j + 3, t, long);
         t = runs_after(t);
-        j += 1;
     }
     true
 }
@@ -175,9 +156,10 @@ fn spans_bytes(new: &[u8], i: usize, t: usize) -> usize
     ensures { result ≡ spans_bytes new.now i t }
 {
     if t == STRETCH {
-        return 0;
+        0
+    } else {
+        SPAN_BYTES * word(new, i + 3) as usize
     }
-    SPAN_BYTES * word(new, i + 3) as usize
 }
 
 // The old form takes at most so many bytes.
@@ -188,15 +170,13 @@ pub(crate) fn unpack_fits(new: &[u8], room: usize) -> bool
     let m = new.len() / RUN_BYTES;
     let mut left = room;
     let mut t: usize = 0;
-    let mut j = 0;
-    while j < m {
+    for j in 0..m {
         let taken = spans_bytes(new, RUN_BYTES * j, t);
         if left < taken {
             return false;
         }
         left -= taken;
         t = runs_after(t);
-        j += 1;
     }
     0 < left
 }
@@ -216,33 +196,22 @@ fn put_spans(out: &mut [u8], at: usize, x: u16, k: u16) -> usize
     ensures { Wrote out.old at (span_records (replicate k x)) result out.new }
 {
     let mut next = at;
-    let mut left = k;
-    while 0 < left {
+    for _ in 0..k {
         next = put_span(out, next, x);
-        left -= 1;
     }
     next
 }
 
-// The records of the spans of the run at place i.
-fn put_run_spans(new: &[u8], i: usize, out: &mut [u8], at: usize) -> usize
-    requires { (i + 4 < length new.now) × Room out.old at (run_spans new.now i) }
-    ensures { Wrote out.old at (run_spans new.now i) result out.new }
-{
-    let id = word(new, i + 1);
-    let long = word(new, i + 3);
-    put_spans(out, at, id, long)
-}
-
-// Those of the record at place i: none where the number of spans is due.
+// The records of the spans of the record at place i: none where the number of spans is due.
 fn put_record_spans(new: &[u8], i: usize, t: usize, out: &mut [u8], at: usize) -> usize
     requires { (i + 4 < length new.now) × Room out.old at (record_spans new.now i t) }
     ensures { Wrote out.old at (record_spans new.now i t) result out.new }
 {
     if t == STRETCH {
-        return at;
+        at
+    } else {
+        put_spans(out, at, word(new, i + 1), word(new, i + 3))
     }
-    put_run_spans(new, i, out, at)
 }
 
 // The old form.
@@ -253,11 +222,9 @@ pub(crate) fn write_spans(new: &[u8], out: &mut [u8]) -> usize
     let m = new.len() / RUN_BYTES;
     let mut at = 0;
     let mut t: usize = 0;
-    let mut j = 0;
-    while j < m {
+    for j in 0..m {
         at = put_record_spans(new, RUN_BYTES * j, t, out, at);
         t = runs_after(t);
-        j += 1;
     }
     put(out, at, END)
 }

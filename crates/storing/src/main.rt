@@ -12,17 +12,10 @@ ghost use Rattle.std.specs.Prelude.{◌≤◌};
 
 use crate::read::{print_id, span};
 use crate::whole::print_file;
-use console::{arg, arg_count, buffer, fail, read_first};
-use file::read::{FilePlace, place};
+use console::{arg, arg_count, buffer, fail, read_first, tell_place};
+use file::read::place;
 use std::io::{Read, Result};
 use std::rt::Env;
-
-fn tell_place(rt: &impl Eprint, bytes: &[u8]) -> Result<()> {
-    match place(bytes) {
-        FilePlace::At(p) => eprintln!(rt; "position {p}"),
-        FilePlace::Nowhere => Ok(()),
-    }
-}
 
 // A read that fails is told.
 fn store_input(rt: &(impl Print + Eprint + Alloc), from: &mut impl Read) -> Result<()> {
@@ -30,7 +23,7 @@ fn store_input(rt: &(impl Print + Eprint + Alloc), from: &mut impl Read) -> Resu
     match read_first(from, &mut bytes) {
         Ok(n) => {
             print_file(rt, &bytes[..n])?;
-            tell_place(rt, &bytes[..n])
+            tell_place(rt, place(&bytes[..n]))
         }
         Err(e) => fail(rt, "standard input", &e),
     }
@@ -45,12 +38,9 @@ fn read_input(rt: &(impl Env + Print + Eprint + Alloc), from: &mut impl Read) ->
 }
 
 fn main(rt: HostRuntime) -> Result<()> {
-    let n = arg_count(&rt, 3);
-    if n == 1 {
-        return store_input(&rt, &mut rt.stdin());
+    match arg_count(&rt, 3) {
+        1 => store_input(&rt, &mut rt.stdin()),
+        2 => read_input(&rt, &mut rt.stdin()),
+        _ => eprintln!(rt; "usage: storing <FIELD, or storing SPAN <RESULT"),
     }
-    if n == 2 {
-        return read_input(&rt, &mut rt.stdin());
-    }
-    eprintln!(rt; "usage: storing <FIELD, or storing SPAN <RESULT")
 }

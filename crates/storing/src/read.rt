@@ -1,46 +1,24 @@
 // One span's id from a stored result.
 ghost use Rattle.std.specs.Prelude.{◌≤◌};
 
-use console::{fail, has_more, read_full};
-use field::read::at32;
+use console::{fail, has_more, number, read_full};
 use std::io::{Read, Result};
 use stored::into::id_at_into;
 
 // The number that the text is; one that no stored result has where it is none or above 99,999,999.
-const NO_NUMBER: u32 = 4294967295;
-
 pub(crate) fn span(text: &[u8]) -> u32 {
-    if text.len() == 0 {
-        return NO_NUMBER;
-    }
-    let mut v: u32 = 0;
-    let mut i: usize = 0;
-    while i < text.len() {
-        let b = text[i];
-        if b < 48 {
-            return NO_NUMBER;
-        }
-        if 57 < b {
-            return NO_NUMBER;
-        }
-        if 9999999 < v {
-            return NO_NUMBER;
-        }
-        v = v * 10 + (b - 48) as u32;
-        i += 1;
-    }
-    v
+    number(text, 99999999).unwrap_or(u32::MAX)
 }
 
+// In the form that C gets, since it has a refusal's number.
 fn print_found(rt: &impl Print, bytes: &[u8], span: u32) -> Result<()> {
     let mut answer = [0u32; 3];
     let refusal = id_at_into(bytes, span, &mut answer);
     if refusal != 0 {
-        println!(rt; "refused {refusal}")
-    } else {
-        let id = at32(&answer, 1);
-        println!(rt; "{id}")
+        return println!(rt; "refused {refusal}");
     }
+    let id = answer[1];
+    println!(rt; "{id}")
 }
 
 // Reads the stored result: 330,076 bytes are the most that 65,000 spans take.

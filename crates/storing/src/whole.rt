@@ -1,43 +1,30 @@
 // From a field file's bytes to its stored result: both entries, the ids in the old form, and runs.
-ghost use Rattle.std.specs.Prelude.{◌≤◌, length};
+ghost use Rattle.std.specs.Prelude.{◌≤◌, length, Ok};
 ghost use Rattle.file.specs.Reads.{Few, Lists};
-ghost use Rattle.file.specs.declared.read.FileReading.TheVariants.{Described};
 
-use checker::refusal_number;
-use file::read::{FileReading, Header, file_number, read_file};
+use console::print_refused;
+use field::lent::Heightfield;
+use file::read::{Header, read_file};
 use std::io::Result;
 use stored::ids::old_form;
-use stored::into::pack_into;
-use watershed::{DistanceAnswer, RegionAnswer, build_distance_field, build_regions};
-
-fn print_refused(rt: &impl Print, n: u16) -> Result<()> {
-    println!(rt; "refused {n}")
-}
+use stored::pack;
+use watershed::{build_distance_field, build_regions};
 
 // The first n bytes, of which there are as many.
-fn print_some(rt: &impl Print, bytes: &[u8], n: u64) -> Result<()> {
-    if n <= bytes.len() as u64 {
-        rt.write_all(&bytes[..n as usize])?;
+fn print_some(rt: &impl Print, bytes: &[u8], n: usize) -> Result<()> {
+    match bytes.get(..n) {
+        Some(part) => rt.write_all(part),
+        None => Ok(()),
     }
-    Ok(())
 }
 
 // The runs of at most 200 ids: there is room for 6 bytes a span and 1, the most that they take.
 fn print_runs(rt: &impl Print, old: &[u8]) -> Result<()> {
     let mut out = [0u8; 1201];
-    let mut answer = [0u64; 2];
-    if pack_into(old, &mut out, &mut answer) != 0 {
-        return Ok(());
+    match pack(old, &mut out) {
+        Ok(n) => print_some(rt, &out, n as usize),
+        Err(_) => Ok(()),
     }
-    print_some(rt, &out, answer[1])
-}
-
-// Those of the file that the first bytes are.
-fn print_first_runs(rt: &impl Print, old: &[u8], end: usize) -> Result<()> {
-    if end <= old.len() {
-        print_runs(rt, &old[..end])?;
-    }
-    Ok(())
 }
 
 // There is room for 3 bytes a span and 1.
@@ -46,16 +33,16 @@ fn print_stored(rt: &impl Print, ids: &[u16]) -> Result<()>
 {
     let mut old = [0u8; 601];
     let end = old_form(ids, &mut old);
-    print_first_runs(rt, &old, end)
+    match old.get(..end) {
+        Some(part) => print_runs(rt, part),
+        None => Ok(()),
+    }
 }
 
 fn print_regions(
     rt: &impl Print,
+    field: &Heightfield,
     head: Header,
-    index: &[u32],
-    count: &[u8],
-    area: &[u8],
-    con: &[u8],
     dist: &[u16],
     max_distance: u16,
     workspace: &mut [u16],
@@ -64,12 +51,7 @@ fn print_regions(
     requires { length ids.old ≤ 200 }
 {
     match build_regions(
-        head.w,
-        head.h,
-        index,
-        count,
-        area,
-        con,
+        field,
         dist,
         max_distance,
         head.border,
@@ -78,18 +60,15 @@ fn print_regions(
         workspace,
         ids,
     ) {
-        RegionAnswer::Refused(x) => print_refused(rt, refusal_number(x)),
-        RegionAnswer::Done(m, o, u) => print_stored(rt, ids),
+        Ok(_) => print_stored(rt, ids),
+        Err(r) => print_refused(rt, r.number()),
     }
 }
 
 fn print_field(
     rt: &impl Print,
+    field: &Heightfield,
     head: Header,
-    index: &[u32],
-    count: &[u8],
-    area: &[u8],
-    con: &[u8],
     raw: &mut [u16],
     blurred: &mut [u16],
     workspace: &mut [u16],
@@ -97,13 +76,9 @@ fn print_field(
 ) -> Result<()>
     requires { length ids.old ≤ 200 }
 {
-    match build_distance_field(head.w, head.h, index, count, area, con, raw, blurred) {
-        DistanceAnswer::Refused(x) => print_refused(rt, refusal_number(x)),
-        DistanceAnswer::Done(m) => {
-            print_regions(
-                rt, head, index, count, area, con, blurred, m, workspace, ids,
-            )
-        }
+    match build_distance_field(field, raw, blurred) {
+        Ok(m) => print_regions(rt, field, head, blurred, m, workspace, ids),
+        Err(r) => print_refused(rt, r.number()),
     }
 }
 
@@ -117,20 +92,26 @@ fn print_first(
     area: &[u8],
     con: &[u8],
 ) -> Result<()>
-    requires { Lists index.now count.now area.now con.now × Few (Described head n) }
+    requires { Lists index.now count.now area.now con.now × Few (Ok (head, n)) }
 {
-    let cells = head.w as usize * head.h as usize;
+    let w = head.w as usize;
+    let h = head.h as usize;
+    let field = Heightfield {
+        w,
+        h,
+        index: &index[..w * h],
+        count: &count[..w * h],
+        area: &area[..n],
+        con: &con[..4 * n],
+    };
     let mut raw = [0u16; 200];
     let mut blurred = [0u16; 200];
     let mut workspace = [0u16; 29696];
     let mut ids = [0u16; 200];
     print_field(
         rt,
+        &field,
         head,
-        &index[..cells],
-        &count[..cells],
-        &area[..n],
-        &con[..4 * n],
         &mut raw[..n],
         &mut blurred[..n],
         &mut workspace,
@@ -145,7 +126,7 @@ pub(crate) fn print_file(rt: &impl Print, bytes: &[u8]) -> Result<()> {
     let mut area = [0u8; 200];
     let mut con = [0u8; 800];
     match read_file(bytes, &mut index, &mut count, &mut area, &mut con) {
-        FileReading::Refused(x) => print_refused(rt, file_number(x)),
-        FileReading::Described(head, n) => print_first(rt, head, n, &index, &count, &area, &con),
+        Err(r) => print_refused(rt, r.number()),
+        Ok((head, n)) => print_first(rt, head, n, &index, &count, &area, &con),
     }
 }

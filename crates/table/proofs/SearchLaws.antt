@@ -1,19 +1,21 @@
 -- Laws of an id looked for in a list, whether it is there, and its first place; and of an entry above a limit.
 use Prim.Native.Nat.{ℕ, zero, suc, ◌+◌, ◌-◌, ◌≤◌, ◌<◌}
 use native.Mathlib.Omega.{arith}
-use native.Mathlib.Decide.{ℕ_discrete}
-use native.Mathlib.Numerals.{add-one}
+use native.Mathlib.Decide.{ℕ_discrete, dec_lt}
 use mathlib.Core.Path.{◌≡◌, refl, sym, ap, ◌∙◌}
-use mathlib.Core.Bool.{Bool, true, false, false≢true}
+use mathlib.Core.Bool.{Bool, true, false, false≢true, cond}
 use mathlib.Core.List.{List, [], ◌∷◌}
-use lib.ListN.{drop_of_length-le, length, get_or, take, drop, length-drop}
-use lib.Seq.{drop-cons, drop-drop, take-length}
-use lib.Dec.{ltb}
+use lib.ListN.{length, get_or, take, drop, length-drop}
+use lib.Seq.{drop-drop, take-length}
+use lib.Dec.{eqb, ltb}
 use borrow.Author.Tests.{eq-eqb, ne_eqb, lt-ltb, le-ltb}
 use Rattle.rules.specs.Base.{◌or◌, when◌then◌else◌, any}
 use Rattle.rules.specs.Merge.{place}
 use Rattle.rules.specs.Records.{has}
-use Rattle.laws.proofs.Basics.{any_more, any_past}
+use Rattle.laws.proofs.Basics.{code_or}
+use Rattle.std.specs.List.{list_any, position_or_len}
+use Rattle.std.specs.Option.{unwrap_or}
+use Rattle.std.proofs.Common.{Option, Some, None}
 
 -- ---- by the first entry
 
@@ -53,24 +55,6 @@ module _ (l : List ℕ) (r i : ℕ) (e : place l r ≡ i + place (drop i l) r) w
       let z = place_past 16 (drop i l) r (rw (length-drop i l) (omega arith)) (rw n at (sym q ∙ f)) in
       omega (arith, e, z ∙ ap (λ m. 16 + place m r) (drop-drop 16 i l))
 
-  pub place_here : i < length l → get_or l i 0 ≡ r → i ≡ place l r
-  unfolding place when◌then◌else◌
-  place_here h q =
-      let z : place (drop i l) r ≡ 0 = rw (drop-cons l i 0 h, eq-eqb _ _ q) refl in
-      omega arith
-
-  pub place_next : i < length l → (get_or l i 0 ≡ r → ⊥) → place l r ≡ (i + 1) + place (drop (i + 1) l) r
-  unfolding place when◌then◌else◌
-  place_next h q =
-      let z : place (drop i l) r ≡ suc (place (drop (i + 1) l) r) = rw (drop-cons l i 0 h, ne_eqb (get_or l i 0) r q, add-one i) refl in
-      omega arith
-
-  pub place_end : length l ≤ i → i ≡ place l r
-  unfolding place
-  place_end h =
-      let z : place (drop i l) r ≡ 0 = rw (drop_of_length-le l h) refl in
-      omega arith
-
   pub place_rest : (p : ℕ) → i ≤ length l → p ≡ place (take (length l - i) (drop i l)) r → i + p ≡ place l r
   place_rest p h q =
       let z : take (length l - i) (drop i l) ≡ drop i l = rw (← length-drop i l) (take-length (drop i l)) in
@@ -103,16 +87,35 @@ place-holds (x ∷ l) r h = elim (ℕ_discrete x r) [
   | no q ↦ rw (place_other x l r q) (place-holds l r (omega (arith, place_other x l r q)))
 ]
 
--- ---------------------------------------------------------------- an entry above a limit
+-- ---------------------------------------------------------------- as the slice's own methods say it
 
-module _ (l : List ℕ) (most i : ℕ) (e : any (ltb most) l ≡ any (ltb most) (drop i l)) where
-  pub above_here : i < length l → most < get_or l i 0 → true ≡ any (ltb most) l
-  unfolding ◌or◌
-  above_here h g = sym (e ∙ any_more (ltb most) l i h ∙ rw (lt-ltb most (get_or l i 0) g) refl)
+pub any_listed : (p : ℕ → Bool) (l : List ℕ) → list_any p l ≡ any p l
+unfolding any ◌or◌
+any_listed p [] = refl
+any_listed p (x ∷ l) = rw (any_listed p l, code_or (p x) (any p l)) refl
 
-  pub above_next : i < length l → get_or l i 0 ≤ most → any (ltb most) l ≡ any (ltb most) (drop (i + 1) l)
-  unfolding ◌or◌
-  above_next h g = e ∙ any_more (ltb most) l i h ∙ rw (le-ltb most (get_or l i 0) g) refl
+pub has_listed : (l : List ℕ) (r : ℕ) → list_any (λ y. eqb y r) l ≡ has l r
+unfolding any
+has_listed [] r = refl
+has_listed (x ∷ l) r = elim (ℕ_discrete x r) [
+  | yes q ↦ rw (eq-eqb x r q, q) (sym (has-head l r))
+  | no q ↦ rw (ne_eqb x r q) (has_listed l r ∙ sym (has_cons x l r q))
+]
 
-  pub above_none : length l ≤ i → false ≡ any (ltb most) l
-  above_none h = sym (e ∙ any_past (ltb most) l i h)
+place_nil : (r : ℕ) → 0 ≡ place [] r
+unfolding place
+place_nil r = refl
+
+place_listed : (l : List ℕ) (r : ℕ) → position_or_len (λ x. eqb x r) l ≡ place l r
+place_listed [] r = place_nil r
+place_listed (x ∷ l) r = elim (ℕ_discrete x r) [
+  | yes q ↦ rw (eq-eqb x r q) (sym (place-first x l r q))
+  | no q ↦ rw (ne_eqb x r q) (omega (arith, place_listed l r, place_other x l r q))
+]
+
+pub place_found : (l : List ℕ) (r : ℕ) (o : Option ℕ) → o ≡ cond (ltb (position_or_len (λ x. eqb x r) l) (length l)) (Some (position_or_len (λ x. eqb x r) l)) None
+    → unwrap_or o (length l) ≡ place l r
+place_found l r o e = elim (dec_lt (place l r) (length l)) [
+  | yes q ↦ rw (e, place_listed l r, lt-ltb _ _ q) refl
+  | no q ↦ let w = place-within l r in rw (e, place_listed l r, le-ltb (place l r) (length l) (omega arith)) (omega arith)
+]

@@ -4,27 +4,14 @@ ghost use Rattle.rules.specs.Base.{◌or◌, any};
 ghost use Rattle.rules.specs.Merge.{place};
 ghost use Rattle.rules.specs.Records.{has};
 
-// Found before, or x is r. No branch, so that the compiler can take many at once.
-fn or_equal(found: bool, x: u16, r: u16) -> bool
-    ensures { result ≡ (found or eqb r x) }
-{
-    found | (r == x)
-}
-
-// Does the list hold r? The loop goes on past the first, for the same reason.
+// Does the list hold r?
 pub fn holds(l: &[u16], r: u16) -> bool
     ensures { result ≡ has l.now r }
 {
-    let mut found = false;
-    let mut i = 0;
-    while i < l.len() {
-        found = or_equal(found, l[i], r);
-        i += 1;
-    }
-    found
+    l.contains(&r)
 }
 
-// How many entries can be passed over, sixteen at a time, before the first r.
+// How many entries can be passed over, sixteen at a time, before the first r. The loop strides.
 fn pass_over(l: &[u16], r: u16) -> usize
     ensures { (place l.now r ≡ result + place (drop result l.now) r) × (result ≤ length l.now) }
 {
@@ -42,14 +29,7 @@ fn pass_over(l: &[u16], r: u16) -> usize
 fn scan(l: &[u16], r: u16) -> usize
     ensures { (result ≡ place l.now r) × (result ≤ length l.now) }
 {
-    let mut i = 0;
-    while i < l.len() {
-        if l[i] == r {
-            return i;
-        }
-        i += 1;
-    }
-    i
+    l.iter().position(|x| *x == r).unwrap_or(l.len())
 }
 
 // The place of the first entry r, or how many there are.
@@ -57,19 +37,12 @@ pub fn place(l: &[u16], r: u16) -> usize
     ensures { (result ≡ place l.now r) × (result ≤ length l.now) }
 {
     let k = pass_over(l, r);
-    k + scan(&l[k..l.len()], r)
+    k + scan(&l[k..], r)
 }
 
 // Is an entry above most?
 pub fn any_above(l: &[u16], most: u16) -> bool
     ensures { result ≡ any (ltb most) l.now }
 {
-    let mut i = 0;
-    while i < l.len() {
-        if most < l[i] {
-            return true;
-        }
-        i += 1;
-    }
-    false
+    l.iter().any(|x| most < *x)
 }

@@ -15,34 +15,34 @@ pub struct Step {
 }
 
 // The merge noted at b: if it absorbs the id, that is written at place k, and the trail goes on with the id that absorbed it.
-fn follow_one(ws: &[u16], b: usize, id: u16, list: &mut [u16], k: usize) -> Step
-    requires { Follows ws.now b 1 id k list.old }
-    ensures { Followed ws.now b 1 id k list.old result.id result.place list.new }
+fn follow_one(ws: &[u16], b: usize, s: Step, list: &mut [u16]) -> Step
+    requires { Follows ws.now b 1 s.id s.place list.old }
+    ensures { Followed ws.now b 1 s.id s.place list.old result.id result.place list.new }
 {
-    if ws[b] != id {
-        return Step { id, place: k };
+    if ws[b] != s.id {
+        return s;
     }
-    list[k] = id;
+    list[s.place] = s.id;
     Step {
         id: ws[b + 1],
-        place: k + 1,
+        place: s.place + 1,
     }
 }
 
 // The `left` merges noted from b on: the first half of them, and then the others. So no more calls wait at once than `left` can be halved.
-fn follow(ws: &[u16], b: usize, left: usize, id: u16, list: &mut [u16], k: usize) -> Step
-    requires { Follows ws.now b left id k list.old }
-    ensures { Followed ws.now b left id k list.old result.id result.place list.new }
+fn follow(ws: &[u16], b: usize, left: usize, s: Step, list: &mut [u16]) -> Step
+    requires { Follows ws.now b left s.id s.place list.old }
+    ensures { Followed ws.now b left s.id s.place list.old result.id result.place list.new }
 {
     if left == 0 {
-        return Step { id, place: k };
+        return s;
     }
     if left == 1 {
-        return follow_one(ws, b, id, list, k);
+        return follow_one(ws, b, s, list);
     }
     let half = left / 2;
-    let s = follow(ws, b, half, id, list, k);
-    follow(ws, b + 2 * half, left - half, s.id, list, s.place)
+    let t = follow(ws, b, half, s, list);
+    follow(ws, b + 2 * half, left - half, t, list)
 }
 
 // The trail of an id is written to the list from place k on; the merges are noted from b on, two numbers each. Gives the place past the trail.
@@ -59,7 +59,7 @@ pub fn write_trail(
     ensures list_after { list.new ≡ take k list.old
         ++ (trail (mergings_from ws.now b merges) id ++ drop result list.old) }
 {
-    let last = follow(ws, b, merges, id, list, k);
+    let last = follow(ws, b, merges, Step { id, place: k }, list);
     let end = last.place;
     list[end] = last.id;
     end + 1

@@ -3,31 +3,9 @@
 
 #![tactic(auto)]
 
-ghost use Rattle.std.specs.Prelude.{◌≤◌, length};
-
-use answer::reply;
+use answer::print_reply;
 use console::read_full;
-use field::read::at8;
 use std::io::{Read, Result};
-
-// The length that four bytes tell, 4,097 for more than 4,096.
-fn length_of(b: &[u8]) -> usize
-    requires { 4 ≤ length b.now }
-{
-    if at8(b, 3) != 0 {
-        return 4097;
-    }
-    if at8(b, 2) != 0 {
-        return 4097;
-    }
-    at8(b, 0) + 256 * at8(b, 1)
-}
-
-fn print_reply(rt: &impl Print, bytes: &[u8]) -> Result<()> {
-    let mut out = [0u8; 4096];
-    let n = reply(bytes, &mut out);
-    rt.write_all(&out[..n])
-}
 
 // The next file, as long as bytes. Gives whether it was there.
 fn print_next(rt: &(impl Print + Eprint), from: &mut impl Read, bytes: &mut [u8]) -> Result<bool> {
@@ -42,7 +20,7 @@ fn print_next(rt: &(impl Print + Eprint), from: &mut impl Read, bytes: &mut [u8]
 
 fn replay_next(rt: &(impl Print + Eprint), from: &mut impl Read, n: usize) -> Result<bool> {
     let mut bytes = [0u8; 4096];
-    if 4096 < n {
+    if bytes.len() < n {
         eprintln!(rt; "vectors: a file of more than 4,096 bytes")?;
         return Ok(false);
     }
@@ -59,7 +37,7 @@ fn replay_one(rt: &(impl Print + Eprint), from: &mut impl Read) -> Result<bool> 
         eprintln!(rt; "vectors: cut short")?;
         return Ok(false);
     }
-    replay_next(rt, from, length_of(&head))
+    replay_next(rt, from, u32::from_le_bytes(head) as usize)
 }
 
 // A proved loop has to end, and nothing says that the input does: so its turns are counted down, from a number that no run uses up.

@@ -26,7 +26,9 @@ use Rattle.field.specs.Lent.{Sound}
 use Rattle.field.proofs.Passed.{sound_of}
 use Rattle.records.proofs.CountLaws.{mine_le}
 use Rattle.records.proofs.Fits.{never_marked}
-use Rattle.watershed.specs.declared.regions.RegionAnswer.{RegionAnswer}
+use Rattle.std.specs.Prelude.{Result}
+use Rattle.checker.specs.declared.Refusal.{Refusal}
+use Rattle.numbering.specs.declared.Regions as numbering
 use Rattle.watershed.specs.Answer.{regions_refused_by, max_region_in, overlaps_in, cut_in, AnswersRegions}
 
 bare_is : (r : Rec) → r.cut ≡ false → bare r ≡ r
@@ -93,7 +95,7 @@ module _ (form : Form) (F : Field) (dist : List ℕ) (most : ℕ) (z : Sizes) (w
       (λ _ _. formed_unmarked form _ _ (mark_only_carried F z.least z.merge grown_ids next)))
 
   -- and so for a call: r, ws' and ids' are what it returns and leaves
-  module _ (r : RegionAnswer) (ws' ids' : List ℕ) (a : AnswersRegions (region_outcome form F dist most z ws ids) r ws' ids') where
+  module _ (r : Result numbering.Regions Refusal) (ws' ids' : List ℕ) (a : AnswersRegions (region_outcome form F dist most z ws ids) r ws' ids') where
     pub call_uncut : ((i : ℕ) → many (eqb i) grown_ids ≤ 10000) → cut_in r ≡ 0
     call_uncut few = a.cut ∙ outcome_uncut few
 

@@ -21,8 +21,7 @@ use Rattle.rules.specs.Reasons.{Story, story, gone_with, mergings, trail, Reason
 use Rattle.laws.proofs.Basics.{if-ind, get_d_any}
 use Rattle.checker.specs.Answer.{number_of, verdict_number}
 use Rattle.checker.specs.declared.Refusal.{Refusal}
-use Rattle.checker.specs.declared.Verdict.{Verdict}
-use Rattle.checker.specs.declared.Verdict.TheVariants as verdict
+use Rattle.std.specs.Prelude.{Result, Ok, Err}
 use Rattle.checker.proofs.Numbers.{number_pos}
 use Rattle.records.specs.Stock.{Built}
 use Rattle.merge.proofs.ToldLaws.{part_length}
@@ -33,18 +32,18 @@ use Rattle.watershed.specs.Explain.{explained, without_room, with_room, room_rea
 
 -- ---------------------------------------------------------------- the refusal
 
-module _ (F : Field) (own work : ℕ) (dist : List ℕ) (most s : ℕ) (v : Verdict) (e : verdict_number v ≡ region_refusal F (length dist ∷ own ∷ []) work dist most) where
+module _ (F : Field) (own work : ℕ) (dist : List ℕ) (most s : ℕ) (v : Result Unit Refusal) (e : verdict_number v ≡ region_refusal F (length dist ∷ own ∷ []) work dist most) where
   abbrev first : ℕ
   first = region_refusal F (length dist ∷ own ∷ []) work dist most
 
-  pub explain_refused : (r : Refusal) → v ≡ verdict.Refused r → (k : ℕ) → k ≡ number_of r → k ≡ explain_refusal F own work dist most s
+  pub explain_refused : (r : Refusal) → v ≡ Err r → (k : ℕ) → k ≡ number_of r → k ≡ explain_refusal F own work dist most s
   unfolding explain_refusal when◌then◌else◌
   explain_refused r y k q =
       let n : number_of r ≡ first = ap verdict_number (sym y) ∙ e in
       let f : not (eqb first 0) ≡ true = rw (ne_eqb first 0 (λ z. omega (arith, number_pos r))) refl in
       rw f (q ∙ n)
 
-  module _ (y : v ≡ verdict.Sound) where
+  module _ (y : v ≡ Ok tt) where
     passes : not (eqb first 0) ≡ false
     passes = rw (eq-eqb first 0 (sym e ∙ ap verdict_number y)) refl
 

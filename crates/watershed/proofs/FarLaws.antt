@@ -2,26 +2,25 @@
 -- Each test that fails gives its number, after those before it have passed.
 use Prim.Native.Nat.{ℕ, ◌+◌, ◌*◌, ◌≤◌, ◌<◌}
 use native.Mathlib.Omega.{arith}
-use mathlib.Core.Path.{◌≡◌, sym, ap, ◌∙◌}
+use mathlib.Core.Path.{◌≡◌, refl, sym, ap, ◌∙◌}
 use mathlib.Core.Bool.{Bool, true, false}
 use mathlib.Core.List.{List}
-use lib.Dec.{ltb, eqb}
+use lib.Dec.{ltb}
 use borrow.Author.Tests.{lt-ltb, le-ltb, eq-eqb, ne_eqb}
 use Rattle.rules.specs.Base.{◌or◌, when◌then◌else◌, any}
 use Rattle.rules.specs.Field.{Field, spans}
 use Rattle.rules.specs.Refusals.{refusal, too_short, too_far, region_refusal, most_spans}
 use Rattle.checker.specs.Answer.{number_of, verdict_number}
 use Rattle.checker.specs.declared.Refusal.{Refusal}
-use Rattle.checker.specs.declared.Verdict.{Verdict}
-use Rattle.checker.specs.declared.Verdict.TheVariants as verdict
+use Rattle.std.specs.Prelude.{Result, Ok, Err}
 use Rattle.field.proofs.Passed.{reached_of}
 use Rattle.watershed.specs.Stages.{own_refusal}
 use Rattle.checker.proofs.Numbers.{number_pos}
 
 module _ (dist : List ℕ) (most : ℕ) where
-  pub far_most : 510 < most → true ≡ too_far dist most
+  pub far_most : 510 < most → ltb 510 most ≡ too_far dist most
   unfolding too_far ◌or◌
-  far_most h = rw (lt-ltb 510 most h)
+  far_most h = rw (lt-ltb 510 most h) refl
 
   pub far-any : most ≤ 510 → (r : Bool) → r ≡ any (ltb most) dist → r ≡ too_far dist most
   unfolding too_far ◌or◌
@@ -29,21 +28,8 @@ module _ (dist : List ℕ) (most : ℕ) where
 
 -- ---------------------------------------------------------------- the order
 
-pub few_spans : (F : Field) (lens : List ℕ) (v : Verdict) → verdict_number v ≡ refusal F lens → v ≡ verdict.Sound → spans F ≤ most_spans
+pub few_spans : (F : Field) (lens : List ℕ) (v : Result Unit Refusal) → verdict_number v ≡ refusal F lens → v ≡ Ok tt → spans F ≤ most_spans
 few_spans F lens v e z = (reached_of F lens (sym e ∙ ap verdict_number z)).celled.few
-
-module _ (short far : Bool) where
-  pub own_seven : short ≡ true → 7 ≡ own_refusal short far
-  unfolding own_refusal when◌then◌else◌
-  own_seven e = rw e
-
-  pub own_eight : short ≡ false → far ≡ true → 8 ≡ own_refusal short far
-  unfolding own_refusal when◌then◌else◌
-  own_eight e f = rw (e, f)
-
-  pub own_none : short ≡ false → far ≡ false → 0 ≡ own_refusal short far
-  unfolding own_refusal when◌then◌else◌
-  own_none e f = rw (e, f)
 
 -- 7 after 1 to 6 have passed
 pub short_seven : (F : Field) (lens : List ℕ) (work : ℕ) (dist : List ℕ) (most : ℕ) → refusal F lens ≡ 0 → work < 128 * spans F + 4096
@@ -51,18 +37,31 @@ pub short_seven : (F : Field) (lens : List ℕ) (work : ℕ) (dist : List ℕ) (
 unfolding region_refusal when◌then◌else◌ too_short
 short_seven F lens work dist most e h = rw (eq-eqb (refusal F lens) 0 e, lt-ltb work (128 * spans F + 4096) h)
 
-module _ (F : Field) (lens : List ℕ) (work : ℕ) (dist : List ℕ) (most : ℕ) (v : Verdict) (e : verdict_number v ≡ refusal F lens) where
-  pub first_refused : (r : Refusal) → v ≡ verdict.Refused r → number_of r ≡ region_refusal F lens work dist most
+module _ (F : Field) (lens : List ℕ) (work : ℕ) (dist : List ℕ) (most : ℕ) (v : Result Unit Refusal) (e : verdict_number v ≡ refusal F lens) where
+  pub first_refused : (r : Refusal) → v ≡ Err r → number_of r ≡ region_refusal F lens work dist most
   unfolding region_refusal when◌then◌else◌
   first_refused r z =
       let n : number_of r ≡ refusal F lens = ap verdict_number (sym z) ∙ e in
       rw (ne_eqb (refusal F lens) 0 (λ k. omega (arith, number_pos r))) n
 
-  module _ (z : v ≡ verdict.Sound) where
-    none : eqb (refusal F lens) 0 ≡ true
-    none = eq-eqb (refusal F lens) 0 (sym e ∙ ap verdict_number z)
+  module _ (z : v ≡ Ok tt) where
+    none : refusal F lens ≡ 0
+    none = sym e ∙ ap verdict_number z
 
-    pub then_own : (short far : Bool) → short ≡ ltb work (128 * spans F + 4096) → far ≡ too_far dist most → (u : Verdict) → verdict_number u ≡ own_refusal short far
+    pub then_seven : work < 128 * spans F + 4096 → 7 ≡ region_refusal F lens work dist most
+    then_seven h = short_seven F lens work dist most none h
+
+    module _ (h : 128 * spans F + 4096 ≤ work) where
+      pub then_eight : true ≡ too_far dist most → 8 ≡ region_refusal F lens work dist most
+      unfolding region_refusal when◌then◌else◌ too_short
+      then_eight f = rw (eq-eqb (refusal F lens) 0 none, le-ltb work (128 * spans F + 4096) h, ← f)
+
+      pub then_none : false ≡ too_far dist most → 0 ≡ region_refusal F lens work dist most
+      unfolding region_refusal when◌then◌else◌ too_short
+      then_none f = rw (eq-eqb (refusal F lens) 0 none, le-ltb work (128 * spans F + 4096) h, ← f)
+
+    -- both in their order, as one number
+    pub then_own : (short far : Bool) → short ≡ ltb work (128 * spans F + 4096) → far ≡ too_far dist most → (u : Result Unit Refusal) → verdict_number u ≡ own_refusal short far
         → verdict_number u ≡ region_refusal F lens work dist most
     unfolding region_refusal when◌then◌else◌ too_short own_refusal
-    then_own short far p q u h = h ∙ rw (none, p, q)
+    then_own short far p q u h = h ∙ rw (eq-eqb (refusal F lens) 0 none, p, q)

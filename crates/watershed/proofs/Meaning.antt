@@ -23,7 +23,8 @@ use Rattle.meaning.proofs.Chains.{raw_is_a_chain's_cost, raw-not_below_cheapest}
 use Rattle.meaning.proofs.OneSpan.{one-span-raw_is_cheapest}
 use Rattle.meaning.proofs.OpenField.{open_spans_lem}
 use Rattle.meaning.proofs.Open.{open_raw_is_twice_the_least}
-use Rattle.watershed.specs.declared.DistanceAnswer.{DistanceAnswer}
+use Rattle.std.specs.Prelude.{Result}
+use Rattle.checker.specs.declared.Refusal.{Refusal}
 use Rattle.watershed.specs.Answer.{refused_by, most_in, Answers}
 
 -- an outcome that is not a refusal: the field passes, and the lists and the number are the rules'
@@ -42,7 +43,7 @@ given F raw₀ blurred₀ =
     (λ e h. absurd (eqb-false _ _ e h))
 
 -- raw₀ and blurred₀ are the two lists before the call; r, l and m what it returns and leaves
-module _ (F : Field) (raw₀ blurred₀ : List ℕ) (r : DistanceAnswer) (l m : List ℕ) (a : Answers (distance_outcome F raw₀ blurred₀) r l m) (e : refused_by r ≡ 0) where
+module _ (F : Field) (raw₀ blurred₀ : List ℕ) (r : Result ℕ Refusal) (l m : List ℕ) (a : Answers (distance_outcome F raw₀ blurred₀) r l m) (e : refused_by r ≡ 0) where
   gave : Given F (length raw₀ ∷ length blurred₀ ∷ []) (distance_outcome F raw₀ blurred₀)
   gave = given F raw₀ blurred₀ (sym a.refused ∙ e)
 
@@ -71,7 +72,7 @@ module _ (F : Field) (raw₀ blurred₀ : List ℕ) (r : DistanceAnswer) (l m : 
     call_one-span-raw_is_cheapest single = rw raw_is (one-span-raw_is_cheapest F _ gave.passes bytes single s h)
 
 -- "On an open field the raw value at (x,z) is exactly twice the least of x, z, w−1−x and h−1−z."
-pub call_open_raw_is_twice_the_least : (w h : ℕ) (raw₀ blurred₀ : List ℕ) (r : DistanceAnswer) (l m : List ℕ) → Answers (distance_outcome (open_field w h) raw₀ blurred₀) r l m → refused_by r ≡ 0
+pub call_open_raw_is_twice_the_least : (w h : ℕ) (raw₀ blurred₀ : List ℕ) (r : Result ℕ Refusal) (l m : List ℕ) → Answers (distance_outcome (open_field w h) raw₀ blurred₀) r l m → refused_by r ≡ 0
     → (x z : ℕ) → x < w → z < h → get_or l (span_at w x z) 0 ≡ 2 * least w h x z
 call_open_raw_is_twice_the_least w h raw₀ blurred₀ r l m a e x z p q =
     let g = given (open_field w h) raw₀ blurred₀ (sym a.refused ∙ e) in

@@ -17,39 +17,36 @@ use Rattle.laws.proofs.Lengths.{raw-length}
 use Rattle.field.specs.Lent.{Reached, lent}
 use Rattle.checker.specs.Answer.{number_of, verdict_number}
 use Rattle.checker.specs.declared.Refusal.{Refusal}
-use Rattle.checker.specs.declared.Verdict.{Verdict}
-use Rattle.checker.specs.declared.Verdict.TheVariants as verdict
+use Rattle.std.specs.Prelude.{Result, Ok, Err}
 use Rattle.checker.proofs.Numbers.{number_pos, number_same}
 use Rattle.field.proofs.Passed.{reached_of, own_lengths}
-use Rattle.watershed.specs.declared.DistanceAnswer.{DistanceAnswer}
-use Rattle.watershed.specs.declared.DistanceAnswer.TheVariants.{Refused, Done}
 use Rattle.watershed.specs.Answer.{refused_by, most_in, Answers}
 
 -- ---------------------------------------------------------------- the two ways out
 
-module _ (F : Field) (l m : List ℕ) (v : Verdict) (e : verdict_number v ≡ refusal F (length l ∷ length m ∷ [])) where
-  pub refused_out : (r : Refusal) → v ≡ verdict.Refused r → Answers (distance_outcome F l m) (Refused r) l m
+module _ (F : Field) (l m : List ℕ) (v : Result Unit Refusal) (e : verdict_number v ≡ refusal F (length l ∷ length m ∷ [])) where
+  pub refused_out : (r : Refusal) → v ≡ Err r → Answers (distance_outcome F l m) (Err r) l m
   unfolding distance_outcome when◌then◌else◌
   refused_out r z =
       let n : number_of r ≡ refusal F (length l ∷ length m ∷ []) = ap verdict_number (sym z) ∙ e in
       let f : eqb (refusal F (length l ∷ length m ∷ [])) 0 ≡ false = ne_eqb (refusal F (length l ∷ length m ∷ [])) 0 (λ k. omega (arith, number_pos r)) in
       record { refused = rw f n; most = rw f; raw = rw f; blurred = rw f }
 
-  module _ (z : v ≡ verdict.Sound) where
+  module _ (z : v ≡ Ok tt) where
     none : refusal F (length l ∷ length m ∷ []) ≡ 0
     none = sym e ∙ ap verdict_number z
 
     pub sound_reached : Reached F
     sound_reached = reached_of F (length l ∷ length m ∷ []) none
 
-    pub done_out : (x y : List ℕ) (k : ℕ) → x ≡ raw F → y ≡ blur F x → k ≡ greatest x → Answers (distance_outcome F l m) (Done k) x y
+    pub done_out : (x y : List ℕ) (k : ℕ) → x ≡ raw F → y ≡ blur F x → k ≡ greatest x → Answers (distance_outcome F l m) (Ok k) x y
     unfolding distance_outcome when◌then◌else◌
     done_out x y k p q g =
         let f : eqb (refusal F (length l ∷ length m ∷ [])) 0 ≡ true = eq-eqb (refusal F (length l ∷ length m ∷ [])) 0 none in
         record { refused = rw f; most = rw (f, ← p) g; raw = rw f p; blurred = rw (f, ← p) q }
 
 -- the lengths that a sound field has them
-module _ (w h : ℕ) (is ks ar cs l m : List ℕ) (v : Verdict) (e : verdict_number v ≡ refusal (lent w h is ks ar cs) (length l ∷ length m ∷ [])) (z : v ≡ verdict.Sound) where
+module _ (w h : ℕ) (is ks ar cs l m : List ℕ) (v : Result Unit Refusal) (e : verdict_number v ≡ refusal (lent w h is ks ar cs) (length l ∷ length m ∷ [])) (z : v ≡ Ok tt) where
   pub sound_raw : length l ≡ length ar
   sound_raw = (own_lengths (lent w h is ks ar cs) (length l) (length m) (sym e ∙ ap verdict_number z)).0
 
@@ -61,13 +58,13 @@ raw-sized w h is ks ar cs x p = rw p (raw-length (lent w h is ks ar cs))
 
 -- ---------------------------------------------------------------- one answer
 
-answer_same : (a b : DistanceAnswer) → refused_by a ≡ refused_by b → most_in a ≡ most_in b → a ≡ b
-answer_same (Refused r) (Refused s) e f = ap Refused (number_same r s e)
-answer_same (Refused r) (Done k) e f = absurd (omega (arith, number_pos r))
-answer_same (Done k) (Refused s) e f = absurd (omega (arith, number_pos s))
-answer_same (Done k) (Done j) e f = ap Done f
+answer_same : (a b : Result ℕ Refusal) → refused_by a ≡ refused_by b → most_in a ≡ most_in b → a ≡ b
+answer_same (Err r) (Err s) e f = ap Err (number_same r s e)
+answer_same (Err r) (Ok k) e f = absurd (omega (arith, number_pos r))
+answer_same (Ok k) (Err s) e f = absurd (omega (arith, number_pos s))
+answer_same (Ok k) (Ok j) e f = ap Ok f
 
 -- two results that satisfy the promise of `build_distance_field` coincide
-pub one_answer : (o : DistanceOutcome) (a b : DistanceAnswer) (l m x y : List ℕ) → Answers o a l m → Answers o b x y → (a ≡ b) × (l ≡ x) × (m ≡ y)
+pub one_answer : (o : DistanceOutcome) (a b : Result ℕ Refusal) (l m x y : List ℕ) → Answers o a l m → Answers o b x y → (a ≡ b) × (l ≡ x) × (m ≡ y)
 one_answer o a b l m x y p q =
     (answer_same a b (p.refused ∙ sym q.refused) (p.most ∙ sym q.most), p.raw ∙ sym q.raw, p.blurred ∙ sym q.blurred)

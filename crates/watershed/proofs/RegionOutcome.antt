@@ -23,12 +23,10 @@ use Rattle.rooms.proofs.Dense.{formed_is}
 use Rattle.rooms.proofs.Entry.{first_some}
 use Rattle.checker.specs.Answer.{number_of, verdict_number}
 use Rattle.checker.specs.declared.Refusal.{Refusal}
-use Rattle.checker.specs.declared.Verdict.{Verdict}
-use Rattle.checker.specs.declared.Verdict.TheVariants as verdict
+use Rattle.std.specs.Prelude.{Result, Ok, Err}
 use Rattle.field.proofs.Passed.{sound_of, own_lengths}
-use Rattle.watershed.specs.declared.regions.RegionAnswer.{RegionAnswer}
-use Rattle.watershed.specs.declared.regions.RegionAnswer.TheVariants.{Refused, Done}
-use Rattle.watershed.specs.Answer.{regions_refused_by, max_region_in, overlaps_in, cut_in, AnswersRegions}
+use Rattle.numbering.specs.declared.Regions as numbering
+use Rattle.watershed.specs.Answer.{regions_refused_by, regions_of, max_region_in, overlaps_in, cut_in, AnswersRegions}
 use Rattle.watershed.specs.Stages.{Admitted, Finds}
 use Rattle.watershed.proofs.FarLaws.{short_seven}
 use Rattle.checker.proofs.Numbers.{number_pos, number_same}
@@ -53,9 +51,9 @@ admitted_by F dist most ws ids none =
 
 -- ---------------------------------------------------------------- the two ways out
 
-module _ (F : Field) (dist : List ℕ) (most : ℕ) (ws ids : List ℕ) (v : Verdict)
+module _ (F : Field) (dist : List ℕ) (most : ℕ) (ws ids : List ℕ) (v : Result Unit Refusal)
     (e : verdict_number v ≡ region_refusal F (length dist ∷ length ids ∷ []) (length ws) dist most) where
-  pub regions_refused : (form : Form) (z : Sizes) (r : Refusal) → v ≡ verdict.Refused r → AnswersRegions (region_outcome form F dist most z ws ids) (Refused r) ws ids
+  pub regions_refused : (form : Form) (z : Sizes) (r : Refusal) → v ≡ Err r → AnswersRegions (region_outcome form F dist most z ws ids) (Err r) ws ids
   unfolding region_outcome when◌then◌else◌
   regions_refused form z r y =
       let n : number_of r ≡ region_refusal F (length dist ∷ length ids ∷ []) (length ws) dist most = ap verdict_number (sym y) ∙ e in
@@ -63,7 +61,7 @@ module _ (F : Field) (dist : List ℕ) (most : ℕ) (ws ids : List ℕ) (v : Ver
       = rw (ne_eqb (region_refusal F (length dist ∷ length ids ∷ []) (length ws) dist most) 0 (λ k. omega (arith, number_pos r))) refl in
       record { refused = rw f n; most = rw f; over = rw f; cut = rw f; workspace = rw f; ids = rw f }
 
-  module _ (y : v ≡ verdict.Sound) where
+  module _ (y : v ≡ Ok tt) where
     none : region_refusal F (length dist ∷ length ids ∷ []) (length ws) dist most ≡ 0
     none = sym e ∙ ap verdict_number y
 
@@ -75,11 +73,7 @@ module _ (F : Field) (dist : List ℕ) (most : ℕ) (ws ids : List ℕ) (v : Ver
 
     -- what the stages find, g, where growth is stopped
     module _ (z : Sizes) (stop : ℕ) (v₁ : Regions) (g : Finds F dist most z ids stop v₁) (ws' : List ℕ) (q : ws' ≡ replicate (length ws) 0) where
-      -- 12 or 13
-      pub stop_is : (stop ≡ 0 → ⊥) → (stop ≡ 12) ⊎ (stop ≡ 13)
-      stop_is o = rw g.stops (⊎_elim (λ (e : stops F dist most z.border ≡ 0). absurd (o (g.stops ∙ e))) (λ e. e) (stop_number F dist most z.border))
-
-      pub regions_stopped : (form : Form) (r : Refusal) → number_of r ≡ stop → (stop ≡ 0 → ⊥) → AnswersRegions (region_outcome form F dist most z ws ids) (Refused r) ws' v₁.ids
+      pub regions_stopped : (form : Form) (r : Refusal) → number_of r ≡ stop → (stop ≡ 0 → ⊥) → AnswersRegions (region_outcome form F dist most z ws ids) (Err r) ws' v₁.ids
       unfolding region_outcome when◌then◌else◌
       regions_stopped form r e o =
           let p : not (eqb (stops F dist most z.border) 0) ≡ true = rw (ne_eqb (stops F dist most z.border) 0 (λ k. o (g.stops ∙ k))) refl in
@@ -92,15 +86,25 @@ module _ (F : Field) (dist : List ℕ) (most : ℕ) (ws ids : List ℕ) (v : Ver
             ids = rw (passes, p) (g.back o);
           }
 
-      -- and what the form makes of it, s, where it is not
-      pub regions_done : (form : Form) (k o u : ℕ) (ids' : List ℕ) → stop ≡ 0 → Bytes F → record { ids = ids'; most = k; over = o; cut = u } ≡ shifted form (first_id z.border) v₁
-          → AnswersRegions (region_outcome form F dist most z ws ids) (Done k o u) ws' ids'
+    -- what they find, as a result x: a refusal is handed on
+    module _ (z : Sizes) (x : Result numbering.Regions Refusal) (ids₁ : List ℕ) (g : Finds F dist most z ids (regions_refused_by x) (regions_of x ids₁))
+        (ws' : List ℕ) (q : ws' ≡ replicate (length ws) 0) where
+      pub regions_handed : (form : Form) (r : Refusal) → x ≡ Err r → AnswersRegions (region_outcome form F dist most z ws ids) (Err r) ws' ids₁
+      regions_handed form r t =
+          let e : number_of r ≡ regions_refused_by x = ap regions_refused_by (sym t) in
+          regions_stopped z (regions_refused_by x) (regions_of x ids₁) g ws' q form r e (λ k. omega (arith, number_pos r, e, k))
+
+      -- and what the form makes of it, y, where it is not
+      pub regions_done : (form : Form) (v y : numbering.Regions) (ids' : List ℕ) → x ≡ Ok v → Bytes F
+          → record { ids = ids'; most = y.max_region; over = y.overlaps; cut = y.cut } ≡ shifted form (first_id z.border) (record { ids = ids₁; most = v.max_region; over = v.overlaps; cut = v.cut })
+          → AnswersRegions (region_outcome form F dist most z ws ids) (Ok y) ws' ids'
       unfolding region_outcome when◌then◌else◌
-      regions_done form k o u ids' y bytes s =
-          let goes : stops F dist most z.border ≡ 0 = sym g.stops ∙ y in
+      regions_done form v y ids' t bytes s =
+          let o : regions_refused_by x ≡ 0 = ap regions_refused_by t in
+          let goes : stops F dist most z.border ≡ 0 = sym g.stops ∙ o in
           let rooms = entry_rooms F (length dist ∷ length ids ∷ []) (length ws) dist most none bytes z.border z.least z.merge goes in
-          let p : record { ids = ids'; most = k; over = o; cut = u } ≡ formed form (regions F z.least z.merge (grown F dist most z.border).ids (grown F dist most z.border).next) =
-          s ∙ ap (shifted form (first_id z.border)) (g.done y) ∙ sym (formed_is form F (first_id z.border) _ rooms (first_some z.border)) in
+          let p : record { ids = ids'; most = y.max_region; over = y.overlaps; cut = y.cut } ≡ formed form (regions F z.least z.merge (grown F dist most z.border).ids (grown F dist most z.border).next) =
+          s ∙ ap (shifted form (first_id z.border)) (ap (λ (a : Result numbering.Regions Refusal). regions_of a ids₁) (sym t) ∙ g.done o) ∙ sym (formed_is form F (first_id z.border) _ rooms (first_some z.border)) in
           let f : not (eqb (stops F dist most z.border) 0) ≡ false = rw (eq-eqb (stops F dist most z.border) 0 goes) refl in
           record {
             refused = rw (passes, f);
@@ -111,19 +115,23 @@ module _ (F : Field) (dist : List ℕ) (most : ℕ) (ws ids : List ℕ) (v : Ver
             ids = rw (passes, f) (ap (λ (g : Regions). g.ids) p);
           }
 
-pub other_stop : (r : ℕ) → (r ≡ 12) ⊎ (r ≡ 13) → (r ≡ 12 → ⊥) → 13 ≡ r
-other_stop r h z = ⊎_elim (λ (e : r ≡ 12). absurd (z e)) (λ (e : r ≡ 13). sym e) h
+-- 12 or 13
+pub stop_is : (F : Field) (dist : List ℕ) (most border stop : ℕ) → stop ≡ stops F dist most border → (stop ≡ 0 → ⊥) → (stop ≡ 12) ⊎ (stop ≡ 13)
+stop_is F dist most border stop e o = rw e (⊎_elim (λ (k : stops F dist most border ≡ 0). absurd (o (e ∙ k))) (λ k. k) (stop_number F dist most border))
 
 -- ---------------------------------------------------------------- one answer
 
-answer_same : (a b : RegionAnswer) → regions_refused_by a ≡ regions_refused_by b → max_region_in a ≡ max_region_in b → overlaps_in a ≡ overlaps_in b → cut_in a ≡ cut_in b → a ≡ b
-answer_same (Refused r) (Refused s) e f g h = ap Refused (number_same r s e)
-answer_same (Refused r) (Done k o u) e f g h = absurd (omega (arith, number_pos r))
-answer_same (Done k o u) (Refused s) e f g h = absurd (omega (arith, number_pos s))
-answer_same (Done k o u) (Done j p v) e f g h = rw (f, g, h)
+answer_same : (a b : Result numbering.Regions Refusal) → regions_refused_by a ≡ regions_refused_by b → max_region_in a ≡ max_region_in b → overlaps_in a ≡ overlaps_in b → cut_in a ≡ cut_in b → a ≡ b
+answer_same (Err r) (Err s) e f g h = ap Err (number_same r s e)
+answer_same (Err r) (Ok v) e f g h = absurd (omega (arith, number_pos r))
+answer_same (Ok v) (Err s) e f g h = absurd (omega (arith, number_pos s))
+answer_same (Ok v) (Ok y) e f g h = ap Ok (numbers_same v y f g h)
+  where
+    numbers_same : (v y : numbering.Regions) → v.max_region ≡ y.max_region → v.overlaps ≡ y.overlaps → v.cut ≡ y.cut → v ≡ y
+    numbers_same v y f g h = rw (f, g, h)
 
 -- two results that satisfy the promise of `build_regions` coincide
-pub one_region_answer : (o : RegionOutcome) (a b : RegionAnswer) (l m x y : List ℕ) → AnswersRegions o a l m → AnswersRegions o b x y → (a ≡ b) × (l ≡ x) × (m ≡ y)
+pub one_region_answer : (o : RegionOutcome) (a b : Result numbering.Regions Refusal) (l m x y : List ℕ) → AnswersRegions o a l m → AnswersRegions o b x y → (a ≡ b) × (l ≡ x) × (m ≡ y)
 one_region_answer o a b l m x y p q = (
   answer_same a b (p.refused ∙ sym q.refused) (p.most ∙ sym q.most) (p.over ∙ sym q.over) (p.cut ∙ sym q.cut),
   p.workspace ∙ sym q.workspace,

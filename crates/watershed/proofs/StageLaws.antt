@@ -185,8 +185,8 @@ readied_none m n ws z h = record { clear = record { blank = λ x l u. z.blank x 
 -- what the stages find
 module _ (F : Field) (dist : List ℕ) (most table : ℕ) (z : Sizes) (ids : List ℕ) (next stop : ℕ) (ids₁ ws₁ : List ℕ)
     (g : Raised F dist most z.border table ids next stop ids₁ ws₁) where
-  pub finds_stop : (stop ≡ 0 → ⊥) → (v : Regions) → v.ids ≡ ids₁ → Finds F dist most z ids stop v
-  finds_stop o v e = record { stops = g.stops; done = λ q. absurd (o q); back = λ _. e ∙ g.back o }
+  pub finds_stop : (stop ≡ 0 → ⊥) → (k : ℕ) → k ≡ stop → (v : Regions) → v.ids ≡ ids₁ → Finds F dist most z ids k v
+  finds_stop o k s v e = record { stops = s ∙ g.stops; done = λ q. absurd (o (sym s ∙ q)); back = λ _. e ∙ g.back o }
 
   pub finds-regions : stop ≡ 0 → (v : Regions)
       → v ≡ regions F z.least z.merge (grown F dist most z.border).ids (grown F dist most z.border).next

@@ -9,13 +9,16 @@ ghost use Rattle.table.specs.Map.{records_end};
 ghost use Rattle.records.specs.Stock.{Given, Blank, Built};
 ghost use Rattle.trail.specs.Noted.{mergings_from};
 ghost use Rattle.reasons.specs.Why.{Means};
+ghost use Rattle.watershed.specs.Form.{sizes_of};
 ghost use Rattle.watershed.specs.Explain.{explained, without_room, with_room, room_reason, Grown, Living, Explains};
+ghost use Rattle.field.specs.Seen.{seen};
 
-use crate::form::{first_id, less, lower};
-use crate::regions::{MORE_RECORDS, check_regions, grow_regions, ready_records};
-use checker::{Verdict, refusal_number};
+use crate::form::{first_id, lower};
+use crate::regions::{
+    MORE_RECORDS, RegionSizes, check_regions, grow_regions, ready_records, stop_refusal,
+};
+use field::lent::Heightfield;
 use flood::story::{NOBODY, Story};
-use growth::turns::GOES_ON;
 use merge::merge_and_filter_told;
 use records::build::build_records;
 use records::map::{links_past, records_end};
@@ -25,7 +28,8 @@ use trail::write_trail;
 use wipe::wipe;
 
 // What is told of a span: 0 or the refusal number, and the reason. Numbers that a reason does not have are 0.
-#[derive(Clone, Copy)]
+// Numbers, not enums: C gets them so (`into`).
+#[derive(Clone, Copy, Default)]
 pub struct Explanation {
     pub refusal: u16,
     pub reason: u16,
@@ -57,26 +61,22 @@ const EXPANDED: u16 = 6;
 const NO_SUCH_SPAN: u16 = 14;
 
 // The first of refusals 1 to 8 and 14 that applies, 0 for none; work and own are the lengths of the workspace and of the trail's list.
+// A number, as an `Explanation` gives it: 14 is no refusal of a field.
 fn check_explain(
-    w: usize,
-    h: usize,
-    index: &[u32],
-    count: &[u8],
-    area: &[u8],
-    con: &[u8],
+    field: &Heightfield,
     dist: &[u16],
     max_distance: u16,
     work: usize,
     own: usize,
     span: usize,
 ) -> u16
-    ensures { let F = lent w h index.now count.now area.now con.now in
+    ensures { let F = seen field.now in
         result ≡ explain_refusal F own work dist.now max_distance span }
 {
-    match check_regions(w, h, index, count, area, con, dist, max_distance, work, own) {
-        Verdict::Refused(r) => refusal_number(r),
-        Verdict::Sound => {
-            if span < area.len() {
+    match check_regions(field, dist, max_distance, work, own) {
+        Err(r) => r.number(),
+        Ok(()) => {
+            if span < field.area.len() {
                 return 0;
             }
             NO_SUCH_SPAN
@@ -90,35 +90,23 @@ fn refused(refusal: u16) -> Explanation
 {
     Explanation {
         refusal,
-        reason: 0,
-        strip: 0,
-        group_count: 0,
-        least_area: 0,
-        grown_id: 0,
-        from_span: 0,
-        trail_length: 0,
-        number: 0,
-        gave_back_id: 0,
-        objecting_span: 0,
+        ..Explanation::default()
     }
 }
 
-// One of reasons 1 to 4.
-fn without_room(reason: u16, strip: u16, group: u16, least: u16, story: Story) -> Explanation
+// One of reasons 1 to 4. The group is under the least area.
+fn without_room(reason: u16, strip: u16, group: usize, least: u16, story: Story) -> Explanation
+    requires { group ≤ least }
     ensures { (l : List ℕ) → explained result [] l ≡ without_room reason strip group least (story_of story) l }
 {
     Explanation {
-        refusal: 0,
         reason,
         strip,
-        group_count: group,
+        group_count: group as u16,
         least_area: least,
-        grown_id: 0,
-        from_span: 0,
-        trail_length: 0,
-        number: 0,
         gave_back_id: story.gave,
         objecting_span: story.objecting,
+        ..Explanation::default()
     }
 }
 
@@ -128,17 +116,14 @@ fn with_room(reason: u16, from: u16, id: u16, long: usize, number: u16, story: S
     ensures { (l : List ℕ) → explained result [] l ≡ with_room reason from id long number (story_of story) l }
 {
     Explanation {
-        refusal: 0,
         reason,
-        strip: 0,
-        group_count: 0,
-        least_area: 0,
         grown_id: id,
         from_span: from,
         trail_length: long as u16,
         number,
         gave_back_id: story.gave,
         objecting_span: story.objecting,
+        ..Explanation::default()
     }
 }
 
@@ -155,37 +140,14 @@ fn in_room(id: u16, long: usize, number: u16, story: Story) -> Explanation
 }
 
 // The records, in the workspace before `end`.
-fn build_in(
-    w: usize,
-    h: usize,
-    index: &[u32],
-    count: &[u8],
-    area: &[u8],
-    con: &[u8],
-    ids: &[u16],
-    ws: &mut [u16],
-    end: usize,
-    table: usize,
-    next: usize,
-)
+fn build_in(field: &Heightfield, ids: &[u16], ws: &mut [u16], end: usize, table: usize, next: usize)
     requires { (end ≤ length ws.old)
-        × Given (lent w h index.now count.now area.now con.now) ids.now table (take end ws.old)
+        × Given (seen field.now) ids.now table (take end ws.old)
         × Blank ids.now (next + 1) (take end ws.old) × (records_end (next + 1) (length ids.now) ≤ table) }
-    ensures { let F = lent w h index.now count.now area.now con.now in
+    ensures { let F = seen field.now in
         Built F ids.now next (take end ws.old) (take end ws.new) }
 {
-    build_records(
-        w,
-        h,
-        index,
-        count,
-        area,
-        con,
-        ids,
-        &mut ws[..end],
-        table,
-        next,
-    );
+    build_records(field, ids, &mut ws[..end], table, next);
 }
 
 // The trail of an id from the merges noted from b on, zeros after it. Gives its length.
@@ -200,17 +162,10 @@ fn lay_trail(ws: &[u16], b: usize, merges: usize, id: u16, list: &mut [u16]) -> 
 
 // A span that growth gave an id: the filter removes it, or it is in a room. ids are the grown ids, and at the end the trail.
 fn explain_region(
-    w: usize,
-    h: usize,
-    index: &[u32],
-    count: &[u8],
-    area: &[u8],
-    con: &[u8],
+    field: &Heightfield,
     dist: &[u16],
     max_distance: u16,
-    border_size: u16,
-    min_region_area: u16,
-    merge_region_area: u16,
+    sizes: RegionSizes,
     ws: &mut [u16],
     ids: &mut [u16],
     table: usize,
@@ -218,52 +173,45 @@ fn explain_region(
     span: usize,
     story: Story,
 ) -> Explanation
-    requires { let F = lent w h index.now count.now area.now con.now in
-        Grown F dist.now max_distance border_size table span next (story_of story) ids.old ws.old
-        × Living area.now ids.old span }
-    ensures { (let F = lent w h index.now count.now area.now con.now in
-        let z : Sizes = record { border = border_size; least = min_region_area; merge = merge_region_area } in
+    requires { let F = seen field.now in
+        Grown F dist.now max_distance sizes.border table span next (story_of story) ids.old ws.old
+        × Living F.area ids.old span }
+    ensures { (let F = seen field.now in
+        let z = sizes_of sizes in
         explained result [] ids.new
-        ≡ explains (length area.now) (reason_of F dist.now max_distance z span) (story_of story) 0) }
+        ≡ explains (length F.area) (reason_of F dist.now max_distance z span) (story_of story) 0) }
 {
-    let n = area.len();
+    let n = field.area.len();
     // The part before `end` is all that the records and their links can take. The table of neighbours lies in it too: the links come when it has been read.
     let end = links_past(n + MORE_RECORDS, n);
     let r = ids[span];
     ready_records(ws, next + 1, n);
-    build_in(w, h, index, count, area, con, ids, ws, end, table, next);
+    build_in(field, ids, ws, end, table, next);
     let t = merge_and_filter_told(
         ws,
         ids,
         end,
         next + 1,
         n,
-        min_region_area,
-        merge_region_area,
+        sizes.least,
+        sizes.merge,
         r as usize,
     );
     if t.id == 0 {
         clear(ids);
-        return without_room(FILTERED_OUT, 0, t.group as u16, min_region_area, story);
+        return without_room(FILTERED_OUT, 0, t.group, sizes.least, story);
     }
-    let number = lower(ids[span], less(first_id(border_size), 1));
+    let number = lower(ids[span], first_id(sizes.border) - 1);
     let long = lay_trail(ws, end, t.merges, r, ids);
     in_room(r, long, number, story)
 }
 
 // A span of a field that growth is done with. ids are the grown ids, and at the end the trail.
 fn explain_grown(
-    w: usize,
-    h: usize,
-    index: &[u32],
-    count: &[u8],
-    area: &[u8],
-    con: &[u8],
+    field: &Heightfield,
     dist: &[u16],
     max_distance: u16,
-    border_size: u16,
-    min_region_area: u16,
-    merge_region_area: u16,
+    sizes: RegionSizes,
     ws: &mut [u16],
     ids: &mut [u16],
     table: usize,
@@ -271,15 +219,15 @@ fn explain_grown(
     span: usize,
     story: Story,
 ) -> Explanation
-    requires { let F = lent w h index.now count.now area.now con.now in
-        Grown F dist.now max_distance border_size table span next (story_of story) ids.old ws.old }
-    ensures { (let F = lent w h index.now count.now area.now con.now in
-        let z : Sizes = record { border = border_size; least = min_region_area; merge = merge_region_area } in
+    requires { let F = seen field.now in
+        Grown F dist.now max_distance sizes.border table span next (story_of story) ids.old ws.old }
+    ensures { (let F = seen field.now in
+        let z = sizes_of sizes in
         explained result [] ids.new
-        ≡ explains (length area.now) (reason_of F dist.now max_distance z span) (story_of story) 0) }
+        ≡ explains (length F.area) (reason_of F dist.now max_distance z span) (story_of story) 0) }
 {
     let r = ids[span];
-    if area[span] == 0 {
+    if field.area[span] == 0 {
         clear(ids);
         return without_room(NOT_WALKABLE, 0, 0, 0, story);
     }
@@ -292,17 +240,10 @@ fn explain_grown(
         return without_room(NEVER_REACHED, 0, 0, 0, story);
     }
     explain_region(
-        w,
-        h,
-        index,
-        count,
-        area,
-        con,
+        field,
         dist,
         max_distance,
-        border_size,
-        min_region_area,
-        merge_region_area,
+        sizes,
         ws,
         ids,
         table,
@@ -314,63 +255,46 @@ fn explain_grown(
 
 // A span of a field that is not refused. The build's ids stand in the trail's list until the trail is written there.
 fn explain_found(
-    w: usize,
-    h: usize,
-    index: &[u32],
-    count: &[u8],
-    area: &[u8],
-    con: &[u8],
+    field: &Heightfield,
     dist: &[u16],
     max_distance: u16,
-    border_size: u16,
-    min_region_area: u16,
-    merge_region_area: u16,
+    sizes: RegionSizes,
     ws: &mut [u16],
     span: usize,
     trail: &mut [u16],
 ) -> Explanation
-    requires { let F = lent w h index.now count.now area.now con.now in
+    requires { let F = seen field.now in
         (region_refusal F (length dist.now ∷ length trail.old ∷ []) (length ws.old) dist.now max_distance ≡ 0)
-        × (span < length area.now) }
-    ensures { (let F = lent w h index.now count.now area.now con.now in
-        let z : Sizes = record { border = border_size; least = min_region_area; merge = merge_region_area } in
+        × (span < length F.area) }
+    ensures { (let F = seen field.now in
+        let z = sizes_of sizes in
         Explains F dist.now max_distance z span (length ws.old) trail.old
         (explained result ws.new trail.new)) }
 {
-    let n = area.len();
+    let n = field.area.len();
     let table = records_end(n + MORE_RECORDS, n);
-    let g = grow_regions(
-        w,
-        h,
-        index,
-        count,
-        area,
-        con,
+    let g = match grow_regions(
+        field,
         dist,
         max_distance,
-        border_size,
+        sizes.border,
         ws,
         trail,
         table,
         span as u16,
-    );
-    if g.stop != GOES_ON {
-        wipe(ws);
-        return refused(g.stop);
-    }
+    ) {
+        Ok(g) => g,
+        Err(stop) => {
+            wipe(ws);
+            return refused(stop_refusal(stop).number());
+        }
+    };
     let story = g.story;
     let r = explain_grown(
-        w,
-        h,
-        index,
-        count,
-        area,
-        con,
+        field,
         dist,
         max_distance,
-        border_size,
-        min_region_area,
-        merge_region_area,
+        sizes,
         ws,
         trail,
         table,
@@ -384,12 +308,7 @@ fn explain_found(
 
 // Why a span of any lists has its number, or none: a call that is refused by 1 to 8 or 14 leaves trail and workspace as they were.
 pub fn explain_span(
-    w: u16,
-    h: u16,
-    index: &[u32],
-    count: &[u8],
-    area: &[u8],
-    con: &[u8],
+    field: &Heightfield,
     dist: &[u16],
     max_distance: u16,
     border_size: u16,
@@ -399,23 +318,16 @@ pub fn explain_span(
     span: u32,
     trail: &mut [u16],
 ) -> Explanation
-    ensures trail_after { (let F = lent w h index.now count.now area.now con.now in
+    ensures trail_after { (let F = seen field.now in
         let z : Sizes = record { border = border_size; least = min_region_area; merge = merge_region_area } in
         explained result workspace.new trail.new
         ≡ explain_outcome F dist.now max_distance z span workspace.old trail.old) }
-    ensures means { (let F = lent w h index.now count.now area.now con.now in
+    ensures means { (let F = seen field.now in
         let z : Sizes = record { border = border_size; least = min_region_area; merge = merge_region_area } in
         result.refusal ≡ 0 → Means F dist.now max_distance z span (explained result workspace.new trail.new)) }
 {
-    let width = w as usize;
-    let height = h as usize;
     let refusal = check_explain(
-        width,
-        height,
-        index,
-        count,
-        area,
-        con,
+        field,
         dist,
         max_distance,
         workspace.len(),
@@ -426,17 +338,14 @@ pub fn explain_span(
         return refused(refusal);
     }
     explain_found(
-        width,
-        height,
-        index,
-        count,
-        area,
-        con,
+        field,
         dist,
         max_distance,
-        border_size,
-        min_region_area,
-        merge_region_area,
+        RegionSizes {
+            border: border_size,
+            least: min_region_area,
+            merge: merge_region_area,
+        },
         workspace,
         span as usize,
         trail,

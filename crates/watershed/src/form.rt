@@ -28,16 +28,6 @@ pub(crate) fn first_id(border_size: u16) -> u16
     FIRST_PAST_BORDER
 }
 
-// a less b, 0 where b is more.
-pub(crate) fn less(a: u16, b: u16) -> u16
-    ensures { result ≡ a - b }
-{
-    if a < b {
-        return 0;
-    }
-    a - b
-}
-
 // An id less d; a flagged one stays.
 pub(crate) fn lower(r: u16, d: u16) -> u16
     ensures { result ≡ lower d r }
@@ -45,28 +35,19 @@ pub(crate) fn lower(r: u16, d: u16) -> u16
     if RegionId::BORDER_REGION.0 <= r {
         return r;
     }
-    less(r, d)
+    r.saturating_sub(d)
 }
 
-// All ids.
-fn lower_all(ids: &mut [u16], d: u16)
-    ensures { ids.new ≡ map (lower d) ids.old }
-{
-    let mut s = 0;
-    while s < ids.len() {
-        ids[s] = lower(ids[s], d);
-        s += 1;
-    }
-}
-
-// The same; less 0 they are as they were.
+// All ids; less 0 they are as they were, and none is read.
 fn lower_ids(ids: &mut [u16], d: u16)
     ensures { ids.new ≡ map (lower d) ids.old }
 {
     if d == 0 {
         return;
     }
-    lower_all(ids, d);
+    for r in ids.iter_mut() {
+        *r = lower(*r, d);
+    }
 }
 
 // Numbers of the compared form, in the form that is asked for. The ids in use are those from the first on, all up to the last but one number
@@ -80,11 +61,10 @@ pub(crate) fn give_form(form: Form, border_size: u16, ids: &mut [u16], r: Region
     match form {
         Form::Compared => r,
         Form::Dense => {
-            lower_ids(ids, less(first, 1));
+            lower_ids(ids, first - 1);
             Regions {
-                max_region: less(r.max_region, first),
-                overlaps: r.overlaps,
-                cut: r.cut,
+                max_region: r.max_region.saturating_sub(first),
+                ..r
             }
         }
     }

@@ -4,9 +4,11 @@ ghost use Rattle.rules.specs.Outcomes.{Sizes};
 ghost use Rattle.field.specs.Lent.{lent};
 ghost use Rattle.watershed.specs.Explain.{explained};
 ghost use Rattle.watershed.specs.Into.{numbers_of, ExplainsInto, ExplainsMeant};
+ghost use Rattle.field.specs.Seen.{seen};
 
 use crate::explain::{Explanation, explain_span};
 use checker::wrong_length;
+use field::lent::Heightfield;
 use space::copy;
 
 // How many numbers are told.
@@ -34,12 +36,7 @@ fn write(to: &mut [u16], e: Explanation)
 
 // As `explain_span`, with the numbers in a list of eleven; gives the refusal.
 pub fn explain_into(
-    w: u16,
-    h: u16,
-    index: &[u32],
-    count: &[u8],
-    area: &[u8],
-    con: &[u8],
+    field: &Heightfield,
     dist: &[u16],
     max_distance: u16,
     border_size: u16,
@@ -50,24 +47,19 @@ pub fn explain_into(
     trail: &mut [u16],
     answer: &mut [u16],
 ) -> u16
-    ensures into { (let F = lent w h index.now count.now area.now con.now in
+    ensures into { (let F = seen field.now in
         let z : Sizes = record { border = border_size; least = min_region_area; merge = merge_region_area } in
         ExplainsInto F dist.now max_distance z span workspace.old trail.old answer.old
         result workspace.new trail.new answer.new) }
-    ensures meant { (let F = lent w h index.now count.now area.now con.now in
+    ensures meant { (let F = seen field.now in
         let z : Sizes = record { border = border_size; least = min_region_area; merge = merge_region_area } in
         ExplainsMeant F dist.now max_distance z span workspace.old trail.old answer.old result) }
 {
     if answer.len() != NUMBERS {
-        return wrong_length(w as usize, h as usize, index, count, area, con);
+        return wrong_length(field);
     }
     let e = explain_span(
-        w,
-        h,
-        index,
-        count,
-        area,
-        con,
+        field,
         dist,
         max_distance,
         border_size,

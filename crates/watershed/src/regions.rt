@@ -1,27 +1,28 @@
 // The region entry, in its two forms.
-ghost use Rattle.std.specs.Prelude.{◌≡◌, ◌⊎◌, [], ◌∷◌, ◌+◌, ◌≤◌, length, replicate};
+ghost use Rattle.std.specs.Prelude.{◌≡◌, [], ◌∷◌, ◌+◌, ◌≤◌, length, replicate};
 ghost use Rattle.rules.specs.Base.{any};
 ghost use Rattle.rules.specs.Field.{Bytes};
 ghost use Rattle.rules.specs.Refusals.{most_spans, too_far, region_refusal};
 ghost use Rattle.rules.specs.Numbering.{dense, compared};
-ghost use Rattle.rules.specs.Numbering as rules;
 ghost use Rattle.rules.specs.Outcomes.{Sizes, region_outcome};
-ghost use Rattle.rules.specs.Reasons.{story};
+ghost use Rattle.rules.specs.Reasons.{begins, story};
 ghost use Rattle.space.specs.Space.{sec, Clear};
 ghost use Rattle.field.specs.Lent.{lent};
-ghost use Rattle.flood.specs.Stories.{story_of};
 ghost use Rattle.growth.specs.Grow.{growth_room};
+ghost use Rattle.growth.specs.Stops.{stop_number, stop_of, next_of, story_in};
 ghost use Rattle.table.specs.Map.{floors_from};
 ghost use Rattle.checker.specs.Answer.{number_of, verdict_number};
-ghost use Rattle.watershed.specs.Answer.{AnswersRegions, GivesRooms};
-ghost use Rattle.watershed.specs.Form.{form_of};
-ghost use Rattle.watershed.specs.Stages.{Admitted, Raised, Readied, Finds, own_refusal, table_at};
+ghost use Rattle.watershed.specs.Answer.{regions_refused_by, regions_of, AnswersRegions, GivesRooms};
+ghost use Rattle.watershed.specs.Form.{form_of, sizes_of};
+ghost use Rattle.watershed.specs.Stages.{Admitted, Raised, Readied, Finds, table_at};
+ghost use Rattle.field.specs.Seen.{seen};
 
 use crate::form::{Form, give_form};
-use checker::{Refusal, Verdict, check};
+use checker::{Refusal, check};
+use field::lent::Heightfield;
 use flood::story::NOBODY;
 use growth::grow::{GROWTH_ROOM, grow};
-use growth::turns::{GOES_ON, Growth, IDS_RUN_OUT};
+use growth::turns::{Growth, Stop};
 use merge::merge_and_filter_regions;
 use numbering::Regions;
 use records::build::build_records;
@@ -30,60 +31,43 @@ use space::{clear, clear_part, copy, copy_part};
 use table::any_above;
 use wipe::wipe;
 
-// What the region entry gives: the refusal, or max_region, the overlap count, and the number of records cut short.
+// The sizes that a caller gives: the border's, the least area that a room keeps, and the greatest that is merged away. C gives the entries three numbers.
 #[derive(Clone, Copy)]
-pub enum RegionAnswer {
-    Refused(Refusal),
-    Done(u16, u16, u16),
+pub struct RegionSizes {
+    pub border: u16,
+    pub least: u16,
+    pub merge: u16,
 }
+
+// The greatest max_distance that is taken.
+const FARTHEST: u16 = 510;
 
 // Refusal 8.
 fn too_far(dist: &[u16], max_distance: u16) -> bool
     ensures { result ≡ too_far dist.now max_distance }
 {
-    if 510 < max_distance {
-        return true;
-    }
-    any_above(dist, max_distance)
-}
-
-// Refusal 7 or 8: the workspace is too short, or a distance is too far.
-fn own_refusal(short: bool, far: bool) -> Verdict
-    ensures { verdict_number result ≡ own_refusal short far }
-{
-    if short {
-        return Verdict::Refused(Refusal::TooShort);
-    }
-    if far {
-        return Verdict::Refused(Refusal::TooFar);
-    }
-    Verdict::Sound
+    FARTHEST < max_distance || any_above(dist, max_distance)
 }
 
 // The first of refusals 1 to 8 that applies; work and own are the lengths of the workspace and of the list of ids.
 pub(crate) fn check_regions(
-    w: usize,
-    h: usize,
-    index: &[u32],
-    count: &[u8],
-    area: &[u8],
-    con: &[u8],
+    field: &Heightfield,
     dist: &[u16],
     max_distance: u16,
     work: usize,
     own: usize,
-) -> Verdict
-    ensures { let F = lent w h index.now count.now area.now con.now in
+) -> Result<(), Refusal>
+    ensures { let F = seen field.now in
         verdict_number result ≡ region_refusal F (length dist.now ∷ own ∷ []) work dist.now max_distance }
 {
-    match check(w, h, index, count, area, con, dist.len(), own) {
-        Verdict::Refused(r) => Verdict::Refused(r),
-        Verdict::Sound => {
-            let short = work < 128 * area.len() + 4096;
-            let far = too_far(dist, max_distance);
-            own_refusal(short, far)
-        }
+    check(field, dist.len(), own)?;
+    if work < 128 * field.area.len() + 4096 {
+        return Err(Refusal::TooShort);
     }
+    if too_far(dist, max_distance) {
+        return Err(Refusal::TooFar);
+    }
+    Ok(())
 }
 
 // "Records run from 0 to the next id, both included", and the next id is at most n + 5: so many more than there are spans.
@@ -101,12 +85,7 @@ fn put_back(ws: &[u16], kept: usize, ids: &mut [u16])
 // Growth from the ids of a field that is not refused. They stand past the table of neighbours until it is done, and are put back where it is stopped.
 // With the story of the watched span, if there is one (NOBODY where not).
 pub(crate) fn grow_regions(
-    w: usize,
-    h: usize,
-    index: &[u32],
-    count: &[u8],
-    area: &[u8],
-    con: &[u8],
+    field: &Heightfield,
     dist: &[u16],
     max_distance: u16,
     border_size: u16,
@@ -114,27 +93,23 @@ pub(crate) fn grow_regions(
     ids: &mut [u16],
     table: usize,
     watched: u16,
-) -> Growth
-    requires { Admitted (lent w h index.now count.now area.now con.now) dist.now ws.old ids.old
-        × (table ≡ table_at (length area.now)) }
-    ensures fact { let F = lent w h index.now count.now area.now con.now in
+) -> Result<Growth, Stop>
+    requires { let F = seen field.now in
+        Admitted F dist.now ws.old ids.old
+        × (table ≡ table_at (length F.area)) }
+    ensures fact { let F = seen field.now in
         let ids₀ = ids.old in
-        Raised F dist.now max_distance border_size table ids₀ result.next result.stop ids.new ws.new }
-    ensures story_value { let F = lent w h index.now count.now area.now con.now in
-        result.stop ≡ 0 → story_of result.story ≡ story F dist.now max_distance border_size watched }
+        Raised F dist.now max_distance border_size table ids₀ (next_of result) (stop_of result) ids.new ws.new }
+    ensures story_value { let F = seen field.now in
+        stop_of result ≡ 0 → story_in (begins watched) result ≡ story F dist.now max_distance border_size watched }
 {
-    let n = area.len();
+    let n = field.area.len();
     let kept = table + 4 * n;
     copy_part(ids, ws, kept);
     clear(ids);
     clear_part(ws, 0, GROWTH_ROOM * n);
     let g = grow(
-        w,
-        h,
-        index,
-        count,
-        area,
-        con,
+        field,
         dist,
         ids,
         ws,
@@ -143,21 +118,20 @@ pub(crate) fn grow_regions(
         border_size,
         watched,
     );
-    if g.stop != GOES_ON {
+    if g.is_err() {
         put_back(ws, kept, ids);
     }
     g
 }
 
-// The refusal that stops growth.
-fn stop_refusal(stop: u16) -> Refusal
-    requires { (stop ≡ 12) ⊎ (stop ≡ 13) }
-    ensures { number_of result ≡ stop }
+// The refusal that what stops growth gives.
+pub(crate) fn stop_refusal(stop: Stop) -> Refusal
+    ensures { number_of result ≡ stop_number stop }
 {
-    if stop == IDS_RUN_OUT {
-        return Refusal::NoIds;
+    match stop {
+        Stop::NoIds => Refusal::NoIds,
+        Stop::NoSum => Refusal::NoSum,
     }
-    Refusal::NoSum
 }
 
 // The workspace is made ready for m records: growth left zeros where it worked, and no more is zeroed than the records and the lists need.
@@ -173,149 +147,73 @@ pub(crate) fn ready_records(ws: &mut [u16], m: usize, n: usize)
     }
 }
 
-// What growth and the stages after it find: the refusal that stops growth, and the regions.
-#[derive(Clone, Copy)]
-pub struct Found {
-    pub stop: u16,
-    pub regions: Regions,
-}
-
-// The regions of a field that is not refused. The table of neighbours stands past the most that the records take.
+// The regions of a field that 1 to 8 let pass, or what stops growth. The table of neighbours stands past the most that the records take.
 fn find_regions(
-    w: usize,
-    h: usize,
-    index: &[u32],
-    count: &[u8],
-    area: &[u8],
-    con: &[u8],
+    field: &Heightfield,
     dist: &[u16],
     max_distance: u16,
-    border_size: u16,
-    min_region_area: u16,
-    merge_region_area: u16,
+    sizes: RegionSizes,
     ws: &mut [u16],
     ids: &mut [u16],
-) -> Found
-    requires { Admitted (lent w h index.now count.now area.now con.now) dist.now ws.old ids.old }
-    ensures fact { (let F = lent w h index.now count.now area.now con.now in
-        let z : Sizes = record { border = border_size; least = min_region_area; merge = merge_region_area } in
-        let v = result.regions in
-        let found : rules.Regions = record { ids = ids.new; most = v.max_region; over = v.overlaps; cut = v.cut } in
-        Finds F dist.now max_distance z ids.old result.stop found) }
+) -> Result<Regions, Refusal>
+    requires { Admitted (seen field.now) dist.now ws.old ids.old }
+    ensures fact { (let F = seen field.now in
+        let z = sizes_of sizes in
+        Finds F dist.now max_distance z ids.old (regions_refused_by result) (regions_of result ids.new)) }
     ensures ws_after { ws.new ≡ replicate (length ws.old) 0 }
-    ensures bytes { Bytes (lent w h index.now count.now area.now con.now) }
+    ensures bytes { Bytes (seen field.now) }
 {
-    let n = area.len();
+    let n = field.area.len();
     let table = records_end(n + MORE_RECORDS, n);
-    let g = grow_regions(
-        w,
-        h,
-        index,
-        count,
-        area,
-        con,
+    let g = match grow_regions(
+        field,
         dist,
         max_distance,
-        border_size,
+        sizes.border,
         ws,
         ids,
         table,
         NOBODY,
-    );
-    if g.stop != GOES_ON {
-        wipe(ws);
-        return Found {
-            stop: g.stop,
-            regions: Regions {
-                max_region: 0,
-                overlaps: 0,
-                cut: 0,
-            },
-        };
-    }
+    ) {
+        Ok(g) => g,
+        Err(stop) => {
+            wipe(ws);
+            return Err(stop_refusal(stop));
+        }
+    };
     let next = g.next as usize;
     ready_records(ws, next + 1, n);
-    build_records(w, h, index, count, area, con, ids, ws, table, next);
-    let r = merge_and_filter_regions(ws, ids, next + 1, n, min_region_area, merge_region_area);
+    build_records(field, ids, ws, table, next);
+    let r = merge_and_filter_regions(ws, ids, next + 1, n, sizes.least, sizes.merge);
     wipe(ws);
-    Found {
-        stop: GOES_ON,
-        regions: r,
-    }
+    Ok(r)
 }
 
 // Ids of the regions of any lists, in either form: a field that is refused leaves ids and workspace as they were.
 fn build_form(
     form: Form,
-    w: u16,
-    h: u16,
-    index: &[u32],
-    count: &[u8],
-    area: &[u8],
-    con: &[u8],
+    field: &Heightfield,
     dist: &[u16],
     max_distance: u16,
-    border_size: u16,
-    min_region_area: u16,
-    merge_region_area: u16,
+    sizes: RegionSizes,
     workspace: &mut [u16],
     ids: &mut [u16],
-) -> RegionAnswer
-    ensures fact { (let F = lent w h index.now count.now area.now con.now in
-        let z : Sizes = record { border = border_size; least = min_region_area; merge = merge_region_area } in
+) -> Result<Regions, Refusal>
+    ensures fact { (let F = seen field.now in
+        let z = sizes_of sizes in
         let o = region_outcome (form_of form) F dist.now max_distance z workspace.old ids.old in
         AnswersRegions o result workspace.new ids.new) }
-    ensures rooms { let F = lent w h index.now count.now area.now con.now in
-        GivesRooms (form_of form) F border_size result ids.new }
+    ensures rooms { let F = seen field.now in
+        GivesRooms (form_of form) F sizes.border result ids.new }
 {
-    let width = w as usize;
-    let height = h as usize;
-    match check_regions(
-        width,
-        height,
-        index,
-        count,
-        area,
-        con,
-        dist,
-        max_distance,
-        workspace.len(),
-        ids.len(),
-    ) {
-        Verdict::Refused(r) => RegionAnswer::Refused(r),
-        Verdict::Sound => {
-            let f = find_regions(
-                width,
-                height,
-                index,
-                count,
-                area,
-                con,
-                dist,
-                max_distance,
-                border_size,
-                min_region_area,
-                merge_region_area,
-                workspace,
-                ids,
-            );
-            if f.stop != GOES_ON {
-                return RegionAnswer::Refused(stop_refusal(f.stop));
-            }
-            let x = give_form(form, border_size, ids, f.regions);
-            RegionAnswer::Done(x.max_region, x.overlaps, x.cut)
-        }
-    }
+    check_regions(field, dist, max_distance, workspace.len(), ids.len())?;
+    let r = find_regions(field, dist, max_distance, sizes, workspace, ids)?;
+    Ok(give_form(form, sizes.border, ids, r))
 }
 
-// The dense form: the ids in use are 1 to max_region.
+// The dense form: the ids in use are 1 to max_region. Each form has an entry of its own, as C has.
 pub fn build_regions(
-    w: u16,
-    h: u16,
-    index: &[u32],
-    count: &[u8],
-    area: &[u8],
-    con: &[u8],
+    field: &Heightfield,
     dist: &[u16],
     max_distance: u16,
     border_size: u16,
@@ -323,27 +221,24 @@ pub fn build_regions(
     merge_region_area: u16,
     workspace: &mut [u16],
     ids: &mut [u16],
-) -> RegionAnswer
-    ensures fact { (let F = lent w h index.now count.now area.now con.now in
+) -> Result<Regions, Refusal>
+    ensures fact { (let F = seen field.now in
         let z : Sizes = record { border = border_size; least = min_region_area; merge = merge_region_area } in
         let o = region_outcome dense F dist.now max_distance z workspace.old ids.old in
         AnswersRegions o result workspace.new ids.new) }
-    ensures rooms { let F = lent w h index.now count.now area.now con.now in
+    ensures rooms { let F = seen field.now in
         GivesRooms dense F border_size result ids.new }
 {
     build_form(
         Form::Dense,
-        w,
-        h,
-        index,
-        count,
-        area,
-        con,
+        field,
         dist,
         max_distance,
-        border_size,
-        min_region_area,
-        merge_region_area,
+        RegionSizes {
+            border: border_size,
+            least: min_region_area,
+            merge: merge_region_area,
+        },
         workspace,
         ids,
     )
@@ -351,12 +246,7 @@ pub fn build_regions(
 
 // The compared form: the numbers of the Rust.
 pub fn build_regions_compared(
-    w: u16,
-    h: u16,
-    index: &[u32],
-    count: &[u8],
-    area: &[u8],
-    con: &[u8],
+    field: &Heightfield,
     dist: &[u16],
     max_distance: u16,
     border_size: u16,
@@ -364,27 +254,24 @@ pub fn build_regions_compared(
     merge_region_area: u16,
     workspace: &mut [u16],
     ids: &mut [u16],
-) -> RegionAnswer
-    ensures fact { (let F = lent w h index.now count.now area.now con.now in
+) -> Result<Regions, Refusal>
+    ensures fact { (let F = seen field.now in
         let z : Sizes = record { border = border_size; least = min_region_area; merge = merge_region_area } in
         let o = region_outcome compared F dist.now max_distance z workspace.old ids.old in
         AnswersRegions o result workspace.new ids.new) }
-    ensures rooms { let F = lent w h index.now count.now area.now con.now in
+    ensures rooms { let F = seen field.now in
         GivesRooms compared F border_size result ids.new }
 {
     build_form(
         Form::Compared,
-        w,
-        h,
-        index,
-        count,
-        area,
-        con,
+        field,
         dist,
         max_distance,
-        border_size,
-        min_region_area,
-        merge_region_area,
+        RegionSizes {
+            border: border_size,
+            least: min_region_area,
+            merge: merge_region_area,
+        },
         workspace,
         ids,
     )

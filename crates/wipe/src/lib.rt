@@ -11,13 +11,7 @@ use space::clear;
 fn bits(l: &[u16]) -> u16
     ensures { result ≡ 0 → l.now ≡ replicate (length l.now) 0 }
 {
-    let mut all: u16 = 0;
-    let mut i: usize = 0;
-    while i < l.len() {
-        all = all | l[i];
-        i += 1;
-    }
-    all
+    l.iter().fold(0, |all, x| all | *x)
 }
 
 // Zeros, where there are others.
@@ -29,26 +23,17 @@ fn wipe_block(l: &mut [u16])
     }
 }
 
-// Zeros at from .. to.
-fn wipe_part(ws: &mut [u16], from: usize, to: usize)
-    requires { (from ≤ to) × (to ≤ length ws.old) }
-    ensures { Clear from to ws.new × Frame from to ws.old ws.new }
-{
-    wipe_block(&mut ws[from..to]);
-}
-
 // So many numbers are looked at, and then zeroed together: a page of memory, as most systems have it.
 const BLOCK: usize = 2048;
 
-// Zeros everywhere.
+// Zeros everywhere. The loop strides by hand: of a slice's elements after `chunks_mut` the kit says nothing.
 pub fn wipe(ws: &mut [u16])
     ensures { ws.new ≡ replicate (length ws.old) 0 }
 {
-    let mut i: usize = 0;
+    let mut i = 0;
     while BLOCK <= ws.len() - i {
-        wipe_part(ws, i, i + BLOCK);
+        wipe_block(&mut ws[i..i + BLOCK]);
         i += BLOCK;
     }
-    let end = ws.len();
-    wipe_part(ws, i, end);
+    wipe_block(&mut ws[i..]);
 }

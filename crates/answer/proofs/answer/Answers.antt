@@ -1,6 +1,7 @@
 -- `answer::answer` meets its contract: the two arms are the two cases of the rule's reading.
 use native.Mathlib.Omega.{arith}
-use Rattle.answer.proofs.Printed.{file_refused, file_few, file_described}
+use Rattle.file.proofs.Told.{few_of}
+use Rattle.answer.proofs.Printed.{file_refused, file_described}
 use borrow.Author.Rules.{rules}
 use Rattle.answer.proofs.answer.Goals as goal
 
@@ -13,11 +14,11 @@ print_first-requires c = (
     spans₂ = omega (arith, c.read_file.auto.con, c.requires.0.spans₂);
   },
   c.requires.1,
-  file_few _ c.read_file.ensures.few _ _ c.in-Described.is,
+  few_of _ c.read_file.ensures.few _ c.in-Ok.is,
 )
 
-pub returns-in-Refused : goal.returns-in-Refused
-returns-in-Refused c = search (rules, file_refused)
+pub returns-in-Err : goal.returns-in-Err
+returns-in-Err c = search (rules, file_refused)
 
-pub returns-in-Described : goal.returns-in-Described
-returns-in-Described c = search (rules, file_described)
+pub returns-in-Ok : goal.returns-in-Ok
+returns-in-Ok c = search (rules, file_described)

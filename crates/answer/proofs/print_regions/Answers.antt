@@ -4,10 +4,10 @@ use borrow.Author.Rules.{rules}
 use Rattle.answer.proofs.print_regions.Goals as goal
 
 pub write_listing-requires : goal.write_listing-requires
-write_listing-requires c = listable _ _ _ _ _ _ _ _ _ _ _ _ _ _ c.build_regions.result _ _ _ c.requires c.build_regions.ensures.fact c.in-Done.is c.build_regions.auto.ids
+write_listing-requires c = listable _ _ _ _ _ _ _ _ _ _ _ _ _ _ c.build_regions.result _ c.requires c.build_regions.ensures.fact c.in-Ok.is c.build_regions.auto.ids
 
-pub returns-in-Refused : goal.returns-in-Refused
-returns-in-Refused c = search (rules, second_refused)
+pub returns-in-Err : goal.returns-in-Err
+returns-in-Err c = search (rules, second_refused)
 
-pub returns-in-Done : goal.returns-in-Done
-returns-in-Done c = search (rules, second_done)
+pub returns-in-Ok : goal.returns-in-Ok
+returns-in-Ok c = search (rules, second_done)

@@ -1,32 +1,32 @@
--- `lengths_ok` is the rule's conjunction, test by test; w and h of at most 256 have a product that fits.
-use Rattle.checker.proofs.Checks.{not-not}
+-- `lengths_ok` is the rule's conjunction, one test after the other.
+use Rattle.std.proofs.Common.{rules, ◌≡◌, ◌*◌, length}
 use borrow.Author.Tests.{eq-eqb, ne_eqb}
+use lib.Dec.{eqb}
 use Rattle.rules.specs.Base.{◌and◌, every}
 use Rattle.rules.specs.Refusals.{wrong_length}
-use Rattle.field.proofs.Loops.{product_small}
-use native.Mathlib.Omega.{arith}
-use borrow.Author.Rules.{rules}
 use Rattle.checker.proofs.lengths_ok.Goals as goal
+use Rattle.checker.proofs.lengths_ok.Goals.{then-field-cells, else-field-cells, then-field-cells-2, else-field-cells-2, then-field-spans, else-field-spans}
 
-pub overflow_mul-w : goal.overflow_mul-w
-overflow_mul-w c = omega (arith, product_small c.args.w c.args.h (omega arith) (omega arith))
-
-pub returns-then-index-w : goal.returns-then-index-w
+pub returns-then-a-spans : goal.returns-then-a-spans
 unfolding wrong_length ◌and◌ every
-returns-then-index-w c = search (rules, ne_eqb)
+returns-then-a-spans c =
+    let F = c.args.field.now in
+    let v : c.if-field-cells.value ≡ (eqb (length F.index.now) (F.w * F.h) and eqb (length F.count.now) (F.w * F.h)) =
+    elim c.if-field-cells.branch [ then-field-cells u ↦ search (rules, eq-eqb) | else-field-cells u ↦ search (rules, ne_eqb) ] in
+    let v2 : c.if-field-cells-2.value ≡ (c.if-field-cells.value and eqb (length F.con.now) (4 * length F.area.now)) =
+    elim c.if-field-cells-2.branch [ then-field-cells-2 u ↦ search rules | else-field-cells-2 u ↦ search rules ] in
+    let v3 : c.if-field-spans.value ≡ (c.if-field-cells-2.value and eqb c.args.a (length F.area.now)) =
+    elim c.if-field-spans.branch [ then-field-spans u ↦ search rules | else-field-spans u ↦ search rules ] in
+    search rules
 
-pub returns-then-count-w : goal.returns-then-count-w
+pub returns-else-a-spans : goal.returns-else-a-spans
 unfolding wrong_length ◌and◌ every
-returns-then-count-w c = search (rules, eq-eqb, ne_eqb)
-
-pub returns-then-con-area : goal.returns-then-con-area
-unfolding wrong_length ◌and◌ every
-returns-then-con-area c = search (rules, eq-eqb, ne_eqb)
-
-pub returns-then-a-area : goal.returns-then-a-area
-unfolding wrong_length ◌and◌ every
-returns-then-a-area c = search (rules, eq-eqb, ne_eqb)
-
-pub returns : goal.returns
-unfolding wrong_length ◌and◌ every
-returns c = search (rules, eq-eqb, not-not)
+returns-else-a-spans c =
+    let F = c.args.field.now in
+    let v : c.if-field-cells.value ≡ (eqb (length F.index.now) (F.w * F.h) and eqb (length F.count.now) (F.w * F.h)) =
+    elim c.if-field-cells.branch [ then-field-cells u ↦ search (rules, eq-eqb) | else-field-cells u ↦ search (rules, ne_eqb) ] in
+    let v2 : c.if-field-cells-2.value ≡ (c.if-field-cells.value and eqb (length F.con.now) (4 * length F.area.now)) =
+    elim c.if-field-cells-2.branch [ then-field-cells-2 u ↦ search rules | else-field-cells-2 u ↦ search rules ] in
+    let v3 : c.if-field-spans.value ≡ (c.if-field-cells-2.value and eqb c.args.a (length F.area.now)) =
+    elim c.if-field-spans.branch [ then-field-spans u ↦ search rules | else-field-spans u ↦ search rules ] in
+    search rules

@@ -5,5 +5,5 @@ use Rattle.load.proofs.load_end.Goals as goal
 pub returns-then-is_going : goal.returns-then-is_going
 returns-then-is_going c = search end-going
 
-pub returns : goal.returns
-returns c = search end-over
+pub returns-else-is_going : goal.returns-else-is_going
+returns-else-is_going c = search end-over

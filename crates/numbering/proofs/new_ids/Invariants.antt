@@ -1,13 +1,9 @@
 -- `numbering::new_ids` meets its contract. The loop's invariant: the first s ids are renumbered, the others as they were.
 use mathlib.Core.Path.{◌≡◌}
-use Prim.Native.Nat.{◌≤◌, ◌-◌}
-use lib.ListN.{length, take}
+use lib.ListN.{take}
 use Rattle.pool.specs.Lists.{map_to}
 use Rattle.numbering.specs.Number.{renumber}
 use Rattle.numbering.proofs.new_ids.Given as goal
 
-abbrev pub invariant-loop-s : goal.invariant-loop-s
-invariant-loop-s l = (l.s ≤ length l.initial.ids) × (length l.ids ≡ length l.initial.ids) × (l.ids ≡ map_to (renumber (take l.m l.ws)) l.s l.initial.ids)
-
-abbrev pub decreases-loop-s : goal.decreases-loop-s
-decreases-loop-s l = length l.initial.ids - l.s
+abbrev pub invariant-loop-id : goal.invariant-loop-id
+invariant-loop-id l = l.ids ≡ map_to (renumber (take l.m l.ws)) l.id-index l.initial.ids

@@ -1,18 +1,17 @@
 -- The answers that the check does not find alone.
-use mathlib.Core.Path.{refl}
 use Rattle.space.proofs.Laws.{frame_none, frame_then}
 use Rattle.numbering.proofs.NumberLaws.{numbers_start, column_kept, numbers_go, numbers_end}
 use borrow.Author.Rules.{rules}
 use Rattle.numbering.proofs.number_all.Goals as goal
 
 pub loop-i-init : goal.loop-i-init
-loop-i-init c = (search rules, search rules, refl, search (rules, frame_none), search (rules, numbers_start))
+loop-i-init c = (search rules, search (rules, frame_none), search (rules, numbers_start))
 
 pub number_one-k-requires : goal.number_one-k-requires
 number_one-k-requires c = (search (rules, column_kept), search rules, search rules)
 
 pub loop-i-preserved : goal.loop-i-preserved
-loop-i-preserved c = (search rules, search rules, search rules, search (rules, frame_then), search (rules, numbers_go))
+loop-i-preserved c = (search rules, search (rules, frame_then), search (rules, numbers_go))
 
 pub returns : goal.returns
 returns c = record {

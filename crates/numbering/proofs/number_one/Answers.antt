@@ -1,29 +1,14 @@
 -- `numbering::number_one` meets its contract. By cases: id 0, an id that has its number, a new one.
-use Rattle.space.proofs.Laws.{frame_none}
-use Rattle.numbering.proofs.NumberLaws.{numbers_none, numbers_old, numbers_new, number_frame, column_in}
+use Rattle.numbering.proofs.NumberLaws.{numbers_none, numbers_old, numbers_new}
 use borrow.Author.Rules.{rules}
 use Rattle.numbering.proofs.number_one.Goals as goal
+use Rattle.numbering.proofs.number_one.Goals.{then-r-eq0-via-then-r-eq0, then-r-eq0-via-else-r-eq0+then-ws-numbers-ne0}
 
-pub returns-then-r-eq0 : goal.returns-then-r-eq0
-returns-then-r-eq0 c = record {
-  by_index = search (rules, numbers_none);
-  frame = (search (rules, frame_none), search rules);
-}
+pub returns-then-r-eq0-clause-by_index : goal.returns-then-r-eq0-clause-by_index
+returns-then-r-eq0-clause-by_index c = elim c.then-r-eq0.branch [
+  | then-r-eq0-via-then-r-eq0 w ↦ search (rules, numbers_none)
+  | then-r-eq0-via-else-r-eq0+then-ws-numbers-ne0 w ↦ search (rules, numbers_old)
+]
 
-pub bounds-ws-numbers : goal.bounds-ws-numbers
-bounds-ws-numbers c = search (rules, column_in)
-
-pub returns-then-ws-numbers-ne0 : goal.returns-then-ws-numbers-ne0
-returns-then-ws-numbers-ne0 c = record {
-  by_index = search (rules, numbers_old);
-  frame = (search (rules, frame_none), search rules);
-}
-
-pub bounds-ws-numbers-2 : goal.bounds-ws-numbers-2
-bounds-ws-numbers-2 c = search column_in
-
-pub returns : goal.returns
-returns c = record {
-  by_index = search (rules, numbers_new);
-  frame = (search (rules, number_frame), search rules);
-}
+pub returns-clause-by_index : goal.returns-clause-by_index
+returns-clause-by_index c = search (rules, numbers_new)

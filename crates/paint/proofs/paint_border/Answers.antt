@@ -1,6 +1,7 @@
 -- Four rectangles painted one over the other, clipped to the field, are the rule's painting.
 -- Without a border the ids stay 0.
 use Rattle.paint.proofs.BorderLaws.{border_done, border-none, first-none, first_some, rows_all, rows_within}
+use mathlib.Core.Path.{refl}
 use native.Mathlib.Omega.{arith}
 use borrow.Author.Rules.{rules}
 use Rattle.paint.proofs.paint_border.Goals as goal
@@ -19,7 +20,7 @@ paint_rect_region-requires-2 c = (search rules, search rules, search rules, sear
 
 pub paint_rect_region-requires-3 : goal.paint_rect_region-requires-3
 paint_rect_region-requires-3 c = let p = c.requires in
-    (search rules, search rules, search rules, rows_within _ _ _ _ _ p.0 c.smaller-border_height.ensures, search rules, p.3)
+    (search rules, search rules, search rules, rows_within _ _ _ _ _ p.0 c.min-border_height.ensures, search rules, p.3)
 
 pub paint_rect_region-requires-4 : goal.paint_rect_region-requires-4
 paint_rect_region-requires-4 c = let p = c.requires in
@@ -28,6 +29,6 @@ paint_rect_region-requires-4 c = let p = c.requires in
 pub returns : goal.returns
 returns c = let p = c.requires in
     record {
-      ids_after = border_done _ _ _ _ _ _ p.3 p.0 _ c.wide16-b.ensures.0 _ _ c.smaller-border_width.ensures c.smaller-border_height.ensures _ _ _ _ _ p.2 c.paint_rect_region.ensures c.paint_rect_region-2.ensures c.paint_rect_region-3.ensures c.paint_rect_region-4.ensures c.if-border_size-eq0.false;
+      ids_after = border_done _ _ _ _ _ _ p.3 p.0 _ refl _ _ c.min-border_width.ensures c.min-border_height.ensures _ _ _ _ _ p.2 c.paint_rect_region.ensures c.paint_rect_region-2.ensures c.paint_rect_region-3.ensures c.paint_rect_region-4.ensures c.if-border_size-eq0.false;
       value = first_some _ c.if-border_size-eq0.false;
     }

@@ -3,8 +3,8 @@
 use Rattle.paint.proofs.PutLaws.{span_none, span_set}
 use Rattle.paint.proofs.paint_span.Goals as goal
 
-pub returns-then-area-i-eq0 : goal.returns-then-area-i-eq0
-returns-then-area-i-eq0 c = search span_none
+pub returns-else-area-i-ne0 : goal.returns-else-area-i-ne0
+returns-else-area-i-ne0 c = search span_none
 
-pub returns : goal.returns
-returns c = search span_set
+pub returns-then-area-i-ne0 : goal.returns-then-area-i-ne0
+returns-then-area-i-ne0 c = search span_set

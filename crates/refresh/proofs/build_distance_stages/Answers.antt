@@ -1,14 +1,13 @@
--- The two arms are the two cases of the outcome. A sound verdict gives what the stages require; a refusal is given before anything is written.
-use Rattle.refresh.proofs.Entries.{stages_pass1, stages_raw, stages_blurred}
-use Rattle.refresh.proofs.Entries.{stages_refused, stages_sound, stages_done}
-use borrow.Author.Rules.{rules}
+-- A sound verdict gives what the stages require; a refusal is given before anything is written.
+use Rattle.std.proofs.lemmas.Result.{err_from_is_err_and}
+use Rattle.refresh.proofs.Entries.{stages_refused, stages_sound, stages_sizes, stages_done}
 use Rattle.refresh.proofs.build_distance_stages.Goals as goal
 
-pub build_stages-m-requires : goal.build_stages-m-requires
-build_stages-m-requires c = (search (rules, stages_sound), search (rules, stages_pass1), search (rules, stages_raw), search (rules, stages_blurred))
+pub build_stages-requires : goal.build_stages-requires
+build_stages-requires c = let s = stages_sizes _ _ _ _ c.in_ok-check_three.ensures in (stages_sound _ _ _ _ c.in_ok-check_three.ensures, s.0, s.1, s.2)
 
-pub returns-in-Refused : goal.returns-in-Refused
-returns-in-Refused c = search (rules, stages_refused)
+pub returns-in_err-check_three : goal.returns-in_err-check_three
+returns-in_err-check_three c = let p = err_from_is_err_and c.from_residual.result c.from_residual.ensures.1 in rw (p.1, p.2) (stages_refused _ _ _ _ _ c.in_err-check_three.ensures)
 
-pub returns-in-Sound : goal.returns-in-Sound
-returns-in-Sound c = search (rules, stages_done)
+pub returns : goal.returns
+returns c = stages_done _ _ _ _ c.in_ok-check_three.ensures _ _ _ _ c.build_stages.ensures.0 c.build_stages.ensures.1 c.build_stages.ensures.2 c.build_stages.ensures.3

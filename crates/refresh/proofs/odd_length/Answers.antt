@@ -6,5 +6,5 @@ use Rattle.refresh.proofs.odd_length.Goals as goal
 pub returns-then-a-n : goal.returns-then-a-n
 returns-then-a-n c = search (rules, odd_same)
 
-pub returns : goal.returns
-returns c = search (rules, odd_other)
+pub returns-else-a-n : goal.returns-else-a-n
+returns-else-a-n c = search (rules, odd_other)

@@ -1,16 +1,12 @@
 -- Each branch is one of the four tests.
-use Rattle.refresh.proofs.Entries.{rect_1, rect_2, rect_3, rect_4}
-use borrow.Author.Rules.{rules}
+use Rattle.refresh.proofs.Entries.{rect_empty, rect_wide, rect_deep}
 use Rattle.refresh.proofs.wrong_rect.Goals as goal
 
 pub returns-then-x1-x0 : goal.returns-then-x1-x0
-returns-then-x1-x0 c = search (rules, rect_1)
+returns-then-x1-x0 c = rect_empty _ _ _ _ _ c.then-x1-x0.either
 
-pub returns-then-z1-z0 : goal.returns-then-z1-z0
-returns-then-z1-z0 c = search (rules, rect_2)
+pub returns-then-field-x1 : goal.returns-then-field-x1
+returns-then-field-x1 c = rect_wide _ _ _ _ _ c.if-x1-x0.false c.if-z1-z0.false c.if-field-x1.true
 
-pub returns-then-w-x1 : goal.returns-then-w-x1
-returns-then-w-x1 c = search (rules, rect_3)
-
-pub returns : goal.returns
-returns c = search (rules, rect_4)
+pub returns-else-field-x1 : goal.returns-else-field-x1
+returns-else-field-x1 c = rect_deep _ _ _ _ _ c.if-x1-x0.false c.if-z1-z0.false c.if-field-x1.false

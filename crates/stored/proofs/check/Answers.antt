@@ -3,20 +3,20 @@ use Rattle.stored.proofs.Ends.{test_true, check_malformed, check_shorter, check_
 use borrow.Author.Rules.{rules}
 use Rattle.stored.proofs.check.Goals as goal
 
-pub returns-else-new_fine : goal.returns-else-new_fine
-returns-else-new_fine c = search (rules, check_malformed)
+pub returns-then-not-new_fine : goal.returns-then-not-new_fine
+returns-then-not-new_fine c = search (rules, check_malformed)
 
 pub longest_runs-requires : goal.longest_runs-requires
 longest_runs-requires c = search (rules, test_true)
 
-pub returns-else-longest_runs : goal.returns-else-longest_runs
-returns-else-longest_runs c = search (rules, check_shorter)
+pub returns-then-not-longest_runs : goal.returns-then-not-longest_runs
+returns-then-not-longest_runs c = search (rules, check_shorter)
 
 pub numbers_right-requires : goal.numbers_right-requires
 numbers_right-requires c = search (rules, test_true)
 
-pub returns-else-numbers_right : goal.returns-else-numbers_right
-returns-else-numbers_right c = search (rules, check_wrong)
+pub returns-then-not-numbers_right : goal.returns-then-not-numbers_right
+returns-then-not-numbers_right c = search (rules, check_wrong)
 
 pub returns : goal.returns
 returns c = search (rules, check_fine)

@@ -3,17 +3,17 @@ use Rattle.stored.proofs.Ends.{fits_room, unpack_refused, unpack_fine, unpack_fu
 use borrow.Author.Rules.{rules}
 use Rattle.stored.proofs.unpack.Goals as goal
 
+pub returns-in_err-check : goal.returns-in_err-check
+returns-in_err-check c = search (rules, unpack_refused)
+
 pub unpack_fits-requires : goal.unpack_fits-requires
 unpack_fits-requires c = search (rules, unpack_fine)
 
-pub returns-else-unpack_fits : goal.returns-else-unpack_fits
-returns-else-unpack_fits c = search (rules, unpack_refused, unpack_full, unpack_done)
+pub returns-then-not-unpack_fits : goal.returns-then-not-unpack_fits
+returns-then-not-unpack_fits c = search (rules, unpack_full)
 
-pub write_spans-end-requires : goal.write_spans-end-requires
-write_spans-end-requires c = (search (rules, unpack_fine), search (rules, fits_room))
+pub write_spans-requires : goal.write_spans-requires
+write_spans-requires c = (search (rules, unpack_fine), search (rules, fits_room))
 
-pub returns-in-Refused : goal.returns-in-Refused
-returns-in-Refused c = search (rules, unpack_refused, unpack_full, unpack_done)
-
-pub returns-then-unpack_fits : goal.returns-then-unpack_fits
-returns-then-unpack_fits c = search (rules, unpack_done)
+pub returns : goal.returns
+returns c = unpack_done _ _ _ c.check.ensures _ _ _ c.in_ok-check.was c.unpack_fits.ensures c.if-not-unpack_fits.false c.write_spans.ensures

@@ -6,8 +6,8 @@ use Rattle.trail.proofs.follow_one.Goals as goal
 pub returns-then-ws-b : goal.returns-then-ws-b
 returns-then-ws-b c = search (rules, follow_miss)
 
-pub bounds-list-k : goal.bounds-list-k
-bounds-list-k c = search (rules, hit_room)
+pub bounds-list-s : goal.bounds-list-s
+bounds-list-s c = search (rules, hit_room)
 
 pub returns : goal.returns
 returns c = search (rules, follow_hit, hit_room)

@@ -1,9 +1,6 @@
--- The two arms are the two cases of the outcome. A sound verdict gives what the stages require; a refusal is given before anything is written.
+-- The two ways out are the two cases of the outcome. A field that is not refused gives what the stages require; a refusal is given before anything is written.
 use Rattle.watershed.proofs.Outcome.{refused_out, sound_reached, sound_raw, sound_blurred, raw-sized, done_out}
 use Rattle.watershed.proofs.Meant.{refused_no_meaning, done_means}
-use Prim.Native.Nat.{ℕ, ◌<◌}
-use native.Mathlib.Omega.{arith}
-use lib.ListN.{get_or}
 use borrow.Author.Rules.{rules}
 use Rattle.watershed.proofs.build_distance_field.Goals as goal
 
@@ -13,15 +10,14 @@ calculate_distance_field-requires c = (search (rules, sound_reached), search (ru
 pub box_blur-requires : goal.box_blur-requires
 box_blur-requires c = (search (rules, sound_reached), raw-sized _ _ _ _ _ _ _ c.calculate_distance_field.ensures.0, search rules)
 
-pub returns-in-Refused : goal.returns-in-Refused
-returns-in-Refused c = record {
+pub returns-in_err-check : goal.returns-in_err-check
+returns-in_err-check c = record {
   fact = search (rules, refused_out);
-  meaning = refused_no_meaning _ _ _ _;
+  meaning = search (rules, refused_no_meaning);
 }
 
-pub returns-in-Sound : goal.returns-in-Sound
-returns-in-Sound c = let bytes : (i : ℕ) → get_or c.args.area.now i 0 < 256 = λ i. omega (arith, c.type_inv.area i) in
-    record {
-      fact = search (rules, done_out);
-      meaning = search (rules, done_means, bytes);
-    }
+pub returns : goal.returns
+returns c = record {
+  fact = search (rules, done_out);
+  meaning = search (rules, done_means, c.args.field.now.codes);
+}

@@ -1,13 +1,7 @@
--- The answers that the check does not find alone.
+-- Bits put together are 0 only where each entry is (Wiped).
 use borrow.Author.Rules.{rules}
-use Rattle.wipe.proofs.Wiped.{joined-start, joined_next, joined_all}
+use Rattle.wipe.proofs.Wiped.{folded}
 use Rattle.wipe.proofs.bits.Goals as goal
 
-pub loop-i-init : goal.loop-i-init
-loop-i-init c = joined-start _
-
-pub loop-i-preserved : goal.loop-i-preserved
-loop-i-preserved c = search (rules, joined_next)
-
 pub returns : goal.returns
-returns c = search (rules, joined_all)
+returns c = folded _ _ (search rules)

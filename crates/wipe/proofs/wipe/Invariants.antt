@@ -8,4 +8,4 @@ abbrev pub invariant-loop-ws : goal.invariant-loop-ws
 invariant-loop-ws l = Wiped l.initial.ws l.ws l.i
 
 abbrev pub decreases-loop-ws : goal.decreases-loop-ws
-decreases-loop-ws l = length l.ws - l.i
+decreases-loop-ws l = length l.fn.ws - l.i

@@ -6,8 +6,8 @@ use Rattle.checker.proofs.cells.cells_ok.Goals as goal
 pub loop-i-preserved : goal.loop-i-preserved
 loop-i-preserved c = (search rules, search rules, search (rules, cells_turn))
 
-pub returns-else-cell_ok : goal.returns-else-cell_ok
-returns-else-cell_ok c = search (rules, cells_stop)
+pub returns-then-not-cell_ok : goal.returns-then-not-cell_ok
+returns-then-not-cell_ok c = search (rules, cells_stop)
 
 pub returns : goal.returns
 returns c = search (rules, cells_done)

@@ -3,11 +3,11 @@ use Rattle.checker.proofs.Answered.{block_row_fits, block_fits, block_in, column
 use borrow.Author.Rules.{rules}
 use Rattle.checker.proofs.links.block_ok.Goals as goal
 
-pub overflow_mul-w : goal.overflow_mul-w
-overflow_mul-w c = search (rules, block_row_fits)
+pub overflow_mul-field : goal.overflow_mul-field
+overflow_mul-field c = search (rules, block_row_fits)
 
-pub overflow_add-w : goal.overflow_add-w
-overflow_add-w c = search (rules, block_fits)
+pub overflow_add-field : goal.overflow_add-field
+overflow_add-field c = search (rules, block_fits)
 
 pub is_empty-requires : goal.is_empty-requires
 is_empty-requires c = search (rules, block_in)

@@ -3,11 +3,11 @@ use Rattle.checker.proofs.Answered.{column_in, row_fits, column_fits}
 use borrow.Author.Rules.{rules}
 use Rattle.checker.proofs.links.column_ok.Goals as goal
 
-pub overflow_mul-w : goal.overflow_mul-w
-overflow_mul-w c = search (rules, row_fits)
+pub overflow_mul-field : goal.overflow_mul-field
+overflow_mul-field c = search (rules, row_fits)
 
-pub overflow_add-w : goal.overflow_add-w
-overflow_add-w c = search (rules, column_fits)
+pub overflow_add-field : goal.overflow_add-field
+overflow_add-field c = search (rules, column_fits)
 
 pub cell_ok-requires : goal.cell_ok-requires
 cell_ok-requires c = (search rules, search rules, search rules, search (rules, column_in))

@@ -9,8 +9,8 @@ pub loop-j-init : goal.loop-j-init
 unfolding in_columns every
 loop-j-init c = search rules
 
-pub returns-else-column_ok : goal.returns-else-column_ok
-returns-else-column_ok c = search (rules, columns_halt)
+pub returns-then-not-column_ok : goal.returns-then-not-column_ok
+returns-then-not-column_ok c = search (rules, columns_halt)
 
 pub loop-j-preserved : goal.loop-j-preserved
 loop-j-preserved c = (search rules, search (rules, columns_go))

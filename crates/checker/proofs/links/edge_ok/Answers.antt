@@ -9,8 +9,8 @@ side_ok-requires c = ((search rules, search rules), search (rules, span_con), se
 pub returns-else-side_ok : goal.returns-else-side_ok
 returns-else-side_ok c = search (rules, span_halt)
 
-pub side_ok-requires-2 : goal.side_ok-requires-2
-side_ok-requires-2 c = ((search rules, search rules), search (rules, span_con), search rules, search (rules, side_down))
+pub side_ok-requires-then-side_ok : goal.side_ok-requires-then-side_ok
+side_ok-requires-then-side_ok c = ((search rules, search rules), search (rules, span_con), search rules, search (rules, side_down))
 
-pub returns : goal.returns
-returns c = search (rules, span-end)
+pub returns-then-side_ok : goal.returns-then-side_ok
+returns-then-side_ok c = search (rules, span-end)

@@ -9,8 +9,8 @@ link_ok-requires c = ((search rules, search rules), search (rules, span_con), se
 pub returns-else-link_ok : goal.returns-else-link_ok
 returns-else-link_ok c = search (rules, span_halt)
 
-pub link_ok-requires-2 : goal.link_ok-requires-2
-link_ok-requires-2 c = ((search rules, search rules), search (rules, span_con), search rules, search rules)
+pub link_ok-requires-then-link_ok : goal.link_ok-requires-then-link_ok
+link_ok-requires-then-link_ok c = ((search rules, search rules), search (rules, span_con), search rules, search rules)
 
-pub returns : goal.returns
-returns c = search (rules, span-end)
+pub returns-then-link_ok : goal.returns-then-link_ok
+returns-then-link_ok c = search (rules, span-end)

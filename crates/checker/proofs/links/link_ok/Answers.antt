@@ -11,11 +11,11 @@ returns-then-k-eq-NO_LAYER c = search (rules, link_none)
 pub cell_across-a-requires : goal.cell_across-a-requires
 cell_across-a-requires c = search (rules, link_small, room_left, room_up)
 
-pub bounds-count-a : goal.bounds-count-a
-bounds-count-a c = search (rules, link_counted)
+pub bounds-field-a : goal.bounds-field-a
+bounds-field-a c = search (rules, link_counted)
 
-pub returns-then-count-a : goal.returns-then-count-a
-returns-then-count-a c = search (rules, link_over)
+pub returns-then-field-a : goal.returns-then-field-a
+returns-then-field-a c = search (rules, link_over)
 
 pub span_at-t-requires : goal.span_at-t-requires
 span_at-t-requires c = search (rules, link_indexed)
@@ -26,8 +26,8 @@ overflow_mul-result c = search (rules, link_four)
 pub overflow_add-result-2 : goal.overflow_add-result-2
 overflow_add-result-2 c = search (rules, link_fits)
 
-pub bounds-con-t : goal.bounds-con-t
-bounds-con-t c = search (rules, link_room)
+pub bounds-field-t : goal.bounds-field-t
+bounds-field-t c = search (rules, link_room)
 
 pub returns : goal.returns
 returns c = search (rules, link_back)

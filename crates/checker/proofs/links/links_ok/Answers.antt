@@ -6,5 +6,5 @@ use Rattle.checker.proofs.links.links_ok.Goals as goal
 pub returns-else-rows_ok : goal.returns-else-rows_ok
 returns-else-rows_ok c = search (rules, halves_halt)
 
-pub returns : goal.returns
-returns c = search (rules, halves-end)
+pub returns-then-rows_ok : goal.returns-then-rows_ok
+returns-then-rows_ok c = search (rules, halves-end)

@@ -12,8 +12,8 @@ loop-x-init c = search rules
 pub loop-x-preserved : goal.loop-x-preserved
 loop-x-preserved c = (search rules, search (rules, blocks_go))
 
-pub returns-else-block_ok : goal.returns-else-block_ok
-returns-else-block_ok c = search (rules, blocks_halt)
+pub returns-then-not-block_ok : goal.returns-then-not-block_ok
+returns-then-not-block_ok c = search (rules, blocks_halt)
 
 pub returns : goal.returns
 returns c = search (rules, blocks_end)

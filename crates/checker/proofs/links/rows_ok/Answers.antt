@@ -1,19 +1,16 @@
--- The answers that the check does not find alone.
-use Rattle.rules.specs.Base.{every}
-use Rattle.field.proofs.Loops.{every_go}
-use Rattle.checker.proofs.Answered.{rows_halt, rows_end}
-use borrow.Author.Rules.{rules}
+-- Every row is asked; the rows in order are all cells in order, and their spans all spans.
+use Rattle.std.proofs.Common.{rules, ◌≡◌, ◌∙◌, true, false, refl, tests, arith}
+use Rattle.std.proofs.lemmas.Iterator.{cases_from_all, YieldsList-from_range}
+use Rattle.field.specs.Seen.{seen}
+use Rattle.checker.specs.Links.{half_at, in_row}
+use Rattle.checker.proofs.Answered.{all_rows}
+use Rattle.checker.proofs.Ranges.{every_of_all}
 use Rattle.checker.proofs.links.rows_ok.Goals as goal
 
-pub loop-z-init : goal.loop-z-init
-unfolding every
-loop-z-init c = search rules
-
-pub returns-else-row_ok : goal.returns-else-row_ok
-returns-else-row_ok c = search (rules, rows_halt)
-
-pub loop-z-preserved : goal.loop-z-preserved
-loop-z-preserved c = (search rules, search (rules, every_go))
-
 pub returns : goal.returns
-returns c = search (rules, rows_end)
+returns c =
+    let F = seen c.args.field.now in
+    every_of_all F.h (in_row F (half_at F)) _
+    (cases_from_all _ _ _ (λ z. in_row F (half_at F) z ≡ true) (λ z. in_row F (half_at F) z ≡ false) c.all.ensures.ran
+    (YieldsList-from_range 0 F.h F.h refl (omega arith)) (λ x q k. search (rules, tests)) (λ x q k. search (rules, tests)))
+    ∙ all_rows F c.requires

@@ -5,20 +5,20 @@ use native.Mathlib.Omega.{arith}
 use borrow.Author.Rules.{rules}
 use Rattle.checker.proofs.reach.leaves_grid.Goals as goal
 
-pub returns-then-d-eq0 : goal.returns-then-d-eq0
-returns-then-d-eq0 c = search (rules, leaves_0)
+pub returns-in-0 : goal.returns-in-0
+returns-in-0 c = search (rules, leaves_0)
 
 pub overflow_add-result : goal.overflow_add-result
 overflow_add-result c = omega (arith, div-le_self c.args.c c.args.w)
 
-pub returns-then-d-eq1 : goal.returns-then-d-eq1
-returns-then-d-eq1 c = search (rules, leaves_1)
+pub returns-in-1 : goal.returns-in-1
+returns-in-1 c = search (rules, leaves_1)
 
-pub overflow_add-result-then-d-eq2 : goal.overflow_add-result-then-d-eq2
-overflow_add-result-then-d-eq2 c = omega (arith, mod-le c.args.c c.args.w)
+pub overflow_add-result-in-2 : goal.overflow_add-result-in-2
+overflow_add-result-in-2 c = omega (arith, mod-le c.args.c c.args.w)
 
-pub returns-then-d-eq2 : goal.returns-then-d-eq2
-returns-then-d-eq2 c = search (rules, leaves_2)
+pub returns-in-2 : goal.returns-in-2
+returns-in-2 c = search (rules, leaves_2)
 
-pub returns : goal.returns
-returns c = search (rules, leaves_3)
+pub returns-in_default : goal.returns-in_default
+returns-in_default c = search (rules, leaves_3)

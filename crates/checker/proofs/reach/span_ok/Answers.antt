@@ -1,21 +1,14 @@
--- The answers that the check does not find alone.
-use Rattle.rules.specs.Base.{every}
+-- Every direction is asked.
+use Rattle.std.proofs.Common.{rules, ◌≡◌, true, false, refl, tests}
+use Rattle.std.proofs.lemmas.Iterator.{cases_from_all, YieldsList-from_range}
 use Rattle.checker.specs.Links.{names_at}
-use Rattle.field.proofs.Loops.{every_go, every_halt, every-end}
-use borrow.Author.Rules.{rules}
+use Rattle.checker.proofs.Ranges.{every_of_all}
 use Rattle.checker.proofs.reach.span_ok.Goals as goal
 
-pub loop-d-init : goal.loop-d-init
-unfolding every
-loop-d-init c = search rules
-
-pub returns-else-con_ok : goal.returns-else-con_ok
-unfolding names_at
-returns-else-con_ok c = search (rules, every_halt)
-
-pub loop-d-preserved : goal.loop-d-preserved
-unfolding names_at
-loop-d-preserved c = (search rules, search (rules, every_go))
-
 pub returns : goal.returns
-returns c = search (rules, every-end)
+unfolding names_at
+returns c =
+    let a = c.args in
+    every_of_all 4 (names_at a.w a.h a.count.now a.c a.cons) _
+    (cases_from_all _ _ _ (λ d. names_at a.w a.h a.count.now a.c a.cons d ≡ true) (λ d. names_at a.w a.h a.count.now a.c a.cons d ≡ false) c.all.ensures.ran
+    (YieldsList-from_range 0 4 4 refl refl) (λ x q k. search (rules, tests)) (λ x q k. search (rules, tests)))

@@ -6,5 +6,5 @@ use Rattle.checker.proofs.tally.at_most.Goals as goal
 pub returns-then-n-lt224 : goal.returns-then-n-lt224
 returns-then-n-lt224 c = search (rules, most_few)
 
-pub returns : goal.returns
-returns c = search (rules, most_many)
+pub returns-else-n-lt224 : goal.returns-else-n-lt224
+returns-else-n-lt224 c = search (rules, most_many)

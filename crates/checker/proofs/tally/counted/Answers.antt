@@ -6,5 +6,5 @@ use Rattle.checker.proofs.tally.counted.Goals as goal
 pub returns-then-x-eq-NO_LAYER : goal.returns-then-x-eq-NO_LAYER
 returns-then-x-eq-NO_LAYER c = search (rules, counted_none)
 
-pub returns : goal.returns
-returns c = search (rules, counted_some)
+pub returns-else-x-eq-NO_LAYER : goal.returns-else-x-eq-NO_LAYER
+returns-else-x-eq-NO_LAYER c = search (rules, counted_some)

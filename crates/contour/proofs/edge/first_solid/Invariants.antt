@@ -1,5 +1,4 @@
 -- Before each test the first solid direction of the four is that of those from d on: none before d was solid.
--- A solid one at d is then the first; with d at 4 there is none.
 use Prim.Native.Nat.{◌-◌, ◌≤◌}
 use mathlib.Core.Path.{◌≡◌}
 use Rattle.rules.specs.Contour.{first_solid}

@@ -1,12 +1,7 @@
 -- The invariant `Going`: after k strides the walker has not been back, and the rest of the rule's walk from here is the whole walk.
--- It starts with the rule's first walker, and each stride is the rule's; the measure is what is left of 40,000.
-use Prim.Native.Nat.{◌-◌}
-use Rattle.contour.specs.Walks.{most_strides}
+-- It starts with the rule's first walker, and each stride is the rule's.
 use Rattle.contour.proofs.WalkLaws.{Going}
 use Rattle.contour.proofs.walk.walk.Given as goal
 
 abbrev pub invariant-loop-k : goal.invariant-loop-k
 invariant-loop-k l = Going l.pool l.ids l.initial.ws l.span.0 l.d l.start l.ws l.v l.k
-
-abbrev pub decreases-loop-k : goal.decreases-loop-k
-decreases-loop-k l = most_strides - l.k

@@ -3,11 +3,11 @@ use Rattle.distance.proofs.Walks.{row_fits, block_fits, block_in, columns_none}
 use borrow.Author.Rules.{rules}
 use Rattle.distance.proofs.blur.blur_block.Goals as goal
 
-pub overflow_mul-w : goal.overflow_mul-w
-overflow_mul-w c = search (rules, row_fits)
+pub overflow_mul-field : goal.overflow_mul-field
+overflow_mul-field c = search (rules, row_fits)
 
-pub overflow_add-w : goal.overflow_add-w
-overflow_add-w c = search (rules, block_fits)
+pub overflow_add-field : goal.overflow_add-field
+overflow_add-field c = search (rules, block_fits)
 
 pub is_empty-requires : goal.is_empty-requires
 is_empty-requires c = search (rules, block_in)

@@ -1,7 +1,9 @@
 -- The answers that the check does not find alone.
+use mathlib.Core.Path.{refl}
+use native.Mathlib.Omega.{arith}
 use Rattle.rules.specs.Base.{upto}
 use Rattle.distance.proofs.Walks.{cell-end}
-use Rattle.distance.proofs.Values.{layer_sized, layer_in}
+use Rattle.distance.proofs.Bounds.{layer_stood}
 use Rattle.distance.proofs.Blurs.{blur_go}
 use borrow.Author.Rules.{rules}
 use Rattle.distance.proofs.blur.blur_cell.Goals as goal
@@ -11,13 +13,13 @@ unfolding upto
 loop-j-init c = search rules
 
 pub blur_span-requires : goal.blur_span-requires
-blur_span-requires c = search (rules, layer_sized)
+blur_span-requires c = (search rules, search (rules, layer_stood), search rules)
 
 pub bounds-blurred-s : goal.bounds-blurred-s
-bounds-blurred-s c = search (rules, layer_in)
+bounds-blurred-s c = let u = layer_stood _ _ _ _ _ _ _ _ _ _ c.args.raw.now c.requires.0 refl refl c.loop-j-test.true in omega (arith, u.span)
 
 pub loop-j-preserved : goal.loop-j-preserved
-loop-j-preserved c = (search rules, search rules, blur_go _ _ _ _ _ _ _ _ _ _ _ _ _ _ c.requires.0 c.at32-i.ensures.0 c.at8-k.ensures.0 c.loop-j-test.true c.loop-j.invariant.2 c.blur_span.ensures)
+loop-j-preserved c = (search rules, search rules, blur_go _ _ _ _ _ _ _ c.loop-j.invariant.2 c.blur_span.ensures)
 
 pub returns : goal.returns
-returns c = search (rules, cell-end)
+returns c = cell-end _ _ _ _ _ _ _ _ refl refl c.loop-j.invariant.2 c.loop-j.invariant.0 (omega arith)

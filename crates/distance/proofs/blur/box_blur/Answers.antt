@@ -1,7 +1,8 @@
 -- The answers that the check does not find alone.
+use mathlib.Core.Path.{refl}
 use Rattle.rules.specs.Base.{upto}
 use Rattle.distance.proofs.Walks.{blur_stands, cells_sized, blur-end}
-use Rattle.distance.proofs.Blurs.{blur-sized, blur_next}
+use Rattle.distance.proofs.Blurs.{blur_next}
 use borrow.Author.Rules.{rules}
 use Rattle.distance.proofs.blur.box_blur.Goals as goal
 
@@ -10,10 +11,10 @@ unfolding upto
 loop-s-init c = (search rules, search rules, search (rules, cells_sized), search rules, search rules)
 
 pub blur_span-requires : goal.blur_span-requires
-blur_span-requires c = blur-sized _ _ _ _ c.requires.0 c.requires.1 (blur_stands _ _ _ _ _ _ _ c.requires.2 c.loop-s.invariant.3 c.loop-s-test.true c.loop-s.invariant.1 c.at16.ensures.0)
+blur_span-requires c = (search rules, blur_stands _ _ _ _ _ _ _ c.requires.2 c.loop-s.invariant.3 c.loop-s-test.true c.loop-s.invariant.1 refl, search rules)
 
 pub loop-s-preserved : goal.loop-s-preserved
-loop-s-preserved c = (search rules, search rules, search rules, blur_next _ _ _ _ _ _ _ c.requires.0 (blur_stands _ _ _ _ _ _ _ c.requires.2 c.loop-s.invariant.3 c.loop-s-test.true c.loop-s.invariant.1 c.at16.ensures.0) c.loop-s.invariant.3 c.blur_span.ensures, search rules)
+loop-s-preserved c = (search rules, search rules, search rules, blur_next _ _ _ _ _ _ c.loop-s.invariant.3 c.blur_span.ensures, search rules)
 
 pub returns : goal.returns
 returns c = search (rules, blur-end)

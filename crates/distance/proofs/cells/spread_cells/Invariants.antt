@@ -2,12 +2,12 @@
 use Prim.Native.Nat.{◌≤◌, ◌-◌}
 use mathlib.Core.Path.{◌≡◌}
 use lib.ListN.{length}
-use Rattle.field.specs.Lent.{lent}
+use Rattle.field.specs.Seen.{seen}
 use Rattle.distance.specs.Walk.{note_cell, cells_up}
 use Rattle.distance.proofs.cells.spread_cells.Given as goal
 
 abbrev pub invariant-loop-j : goal.invariant-loop-j
-invariant-loop-j l = (l.j ≤ l.k) × (length l.cells ≡ length l.area) × (l.cells ≡ cells_up (lent l.w l.h l.index l.count l.area l.con) (note_cell (lent l.w l.h l.index l.count l.area l.con)) l.c l.j l.initial.cells)
+invariant-loop-j l = (l.j ≤ l.k) × (length l.cells ≡ length l.field.area.now) × (l.cells ≡ cells_up (seen l.field) (note_cell (seen l.field)) l.c l.j l.initial.cells)
 
 abbrev pub decreases-loop-j : goal.decreases-loop-j
 decreases-loop-j l = l.k - l.j

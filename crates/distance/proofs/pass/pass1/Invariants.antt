@@ -1,16 +1,16 @@
--- Invariant: pass 1 has gone through the spans below r .at, the first of them before the loop, each of which came to at most twice its column, that is 510; the span
--- there, if there is one, has four neighbours. What a span reads is earlier in the order of spans.
-use Prim.Native.Nat.{◌≤◌, ◌-◌}
+-- Invariant: pass 1 has gone through the spans before the next that has four neighbours, or through all, each of which came to at most twice its column,
+-- that is 510. What a span reads is earlier in the order of spans.
+use Prim.Native.Nat.{◌-◌}
 use mathlib.Core.Path.{◌≡◌}
 use lib.ListN.{length}
 use Rattle.rules.specs.Rows.{from_start}
-use Rattle.field.specs.Lent.{lent}
-use Rattle.distance.specs.Value.{Goes, PassedTo}
+use Rattle.field.specs.Seen.{seen}
+use Rattle.distance.specs.Value.{run_end, Goes, PassedTo}
 use Rattle.distance.specs.Walk.{spans_up}
 use Rattle.distance.proofs.pass.pass1.Given as goal
 
-abbrev pub invariant-loop-r : goal.invariant-loop-r
-invariant-loop-r l = (l.initial.r.at ≤ l.r.at) × (l.raw ≡ spans_up (from_start (lent l.w l.h l.index l.count l.area l.con)) l.initial.r.at (l.r.at - l.initial.r.at) l.initial.raw) × PassedTo (lent l.w l.h l.index l.count l.area l.con) l.r.at l.raw × Goes (length l.area) l.con l.r.at l.r.more
+abbrev pub invariant-loop-next : goal.invariant-loop-next
+invariant-loop-next l = (l.raw ≡ spans_up (from_start (seen l.field)) 0 (run_end (length l.field.area.now) l.next - 0) l.fn.raw) × PassedTo (seen l.field) (run_end (length l.field.area.now) l.next) l.raw × Goes (length l.field.area.now) l.field.con.now l.next
 
-abbrev pub decreases-loop-r : goal.decreases-loop-r
-decreases-loop-r l = length l.area - l.r.at
+abbrev pub decreases-loop-next : goal.decreases-loop-next
+decreases-loop-next l = length l.field.area.now - run_end (length l.field.area.now) l.next

@@ -5,12 +5,12 @@ use mathlib.Core.Path.{◌≡◌}
 use Rattle.rules.specs.Base.{upto}
 use Rattle.rules.specs.Distance.{far}
 use Rattle.rules.specs.Rows.{from_start}
-use Rattle.field.specs.Lent.{lent}
+use Rattle.field.specs.Seen.{seen}
 use Rattle.distance.specs.Value.{Passing}
 use Rattle.distance.proofs.pass.pass1_cell.Given as goal
 
 abbrev pub invariant-loop-j : goal.invariant-loop-j
-invariant-loop-j l = (l.j ≤ l.k) × (l.c ≡ l.w * l.y + l.x) × (l.raw ≡ upto l.j (λ t. from_start (lent l.w l.h l.index l.count l.area l.con) (l.i + t)) l.initial.raw) × Passing (lent l.w l.h l.index l.count l.area l.con) l.y l.x l.raw × ((t : ℕ) → t < l.j → far l.raw (l.i + t) ≤ 2 * l.x)
+invariant-loop-j l = (l.j ≤ l.k) × (l.c ≡ l.field.w * l.y + l.x) × (l.raw ≡ upto l.j (λ t. from_start (seen l.field) (l.i + t)) l.initial.raw) × Passing (seen l.field) l.y l.x l.raw × ((t : ℕ) → t < l.j → far l.raw (l.i + t) ≤ 2 * l.x)
 
 abbrev pub decreases-loop-j : goal.decreases-loop-j
 decreases-loop-j l = l.k - l.j

@@ -2,13 +2,13 @@
 use Prim.Native.Nat.{◌≤◌, ◌-◌, ◌+◌}
 use mathlib.Core.Path.{◌≡◌}
 use Rattle.rules.specs.Rows.{from_start}
-use Rattle.field.specs.Lent.{lent}
+use Rattle.field.specs.Seen.{seen}
 use Rattle.distance.specs.Value.{Passing}
 use Rattle.distance.specs.Walk.{columns_up}
 use Rattle.distance.proofs.pass.pass1_columns.Given as goal
 
 abbrev pub invariant-loop-j : goal.invariant-loop-j
-invariant-loop-j l = (l.j ≤ l.k) × (l.raw ≡ columns_up (lent l.w l.h l.index l.count l.area l.con) (from_start (lent l.w l.h l.index l.count l.area l.con)) l.y l.x l.j l.initial.raw) × Passing (lent l.w l.h l.index l.count l.area l.con) l.y (l.x + l.j) l.raw
+invariant-loop-j l = (l.j ≤ l.k) × (l.raw ≡ columns_up (seen l.field) (from_start (seen l.field)) l.y l.x l.j l.initial.raw) × Passing (seen l.field) l.y (l.x + l.j) l.raw
 
 abbrev pub decreases-loop-j : goal.decreases-loop-j
 decreases-loop-j l = l.k - l.j

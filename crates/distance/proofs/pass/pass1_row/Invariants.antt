@@ -3,12 +3,12 @@ use Prim.Native.Nat.{◌≤◌, ◌-◌}
 use mathlib.Core.Path.{◌≡◌}
 use Rattle.rules.specs.Base.{upto}
 use Rattle.rules.specs.Rows.{column, from_start}
-use Rattle.field.specs.Lent.{lent}
+use Rattle.field.specs.Seen.{seen}
 use Rattle.distance.specs.Value.{Passing}
 use Rattle.distance.proofs.pass.pass1_row.Given as goal
 
 abbrev pub invariant-loop-x : goal.invariant-loop-x
-invariant-loop-x l = (l.x ≤ l.w) × (l.raw ≡ upto l.x (column (lent l.w l.h l.index l.count l.area l.con) (from_start (lent l.w l.h l.index l.count l.area l.con)) l.y) l.initial.raw) × Passing (lent l.w l.h l.index l.count l.area l.con) l.y l.x l.raw
+invariant-loop-x l = (l.x ≤ l.field.w) × (l.raw ≡ upto l.x (column (seen l.field) (from_start (seen l.field)) l.y) l.initial.raw) × Passing (seen l.field) l.y l.x l.raw
 
 abbrev pub decreases-loop-x : goal.decreases-loop-x
-decreases-loop-x l = l.w - l.x
+decreases-loop-x l = l.field.w - l.x

@@ -5,12 +5,12 @@ use mathlib.Core.Path.{◌≡◌}
 use lib.ListN.{length}
 use Rattle.rules.specs.Distance.{lower}
 use Rattle.rules.specs.Rows.{downto}
-use Rattle.field.specs.Lent.{lent}
+use Rattle.field.specs.Seen.{seen}
 use Rattle.distance.specs.Value.{Low}
 use Rattle.distance.proofs.pass.pass2.Given as goal
 
 abbrev pub invariant-loop-s : goal.invariant-loop-s
-invariant-loop-s l = (l.s ≤ length l.area) × (downto (length l.area) (lower (lent l.w l.h l.index l.count l.area l.con) 2 1 1 0) l.initial.raw ≡ downto l.s (lower (lent l.w l.h l.index l.count l.area l.con) 2 1 1 0) l.raw) × Low (lent l.w l.h l.index l.count l.area l.con) l.raw
+invariant-loop-s l = (l.s ≤ length l.field.area.now) × (downto (length l.field.area.now) (lower (seen l.field) 2 1 1 0) l.initial.raw ≡ downto l.s (lower (seen l.field) 2 1 1 0) l.raw) × Low (seen l.field) l.raw
 
 abbrev pub decreases-loop-s : goal.decreases-loop-s
 decreases-loop-s l = l.s

@@ -16,7 +16,7 @@ pub pass2_cell-requires : goal.pass2_cell-requires
 pass2_cell-requires c = (search rules, search (rules, last_in), search rules)
 
 pub loop-j-preserved : goal.loop-j-preserved
-loop-j-preserved c = (search rules, search rules, search (rules, columns_down_lem), search rules)
+loop-j-preserved c = (search rules, search (rules, columns_down_lem), search rules)
 
 pub returns : goal.returns
 returns c = (search (rules, columns_bottom), search rules)

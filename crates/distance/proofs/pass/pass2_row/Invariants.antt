@@ -3,12 +3,12 @@ use Prim.Native.Nat.{◌≤◌}
 use mathlib.Core.Path.{◌≡◌}
 use Rattle.rules.specs.Distance.{lower}
 use Rattle.rules.specs.Rows.{column, downto}
-use Rattle.field.specs.Lent.{lent}
+use Rattle.field.specs.Seen.{seen}
 use Rattle.distance.specs.Value.{Low}
 use Rattle.distance.proofs.pass.pass2_row.Given as goal
 
 abbrev pub invariant-loop-x : goal.invariant-loop-x
-invariant-loop-x l = (l.x ≤ l.w) × (downto l.w (column (lent l.w l.h l.index l.count l.area l.con) (lower (lent l.w l.h l.index l.count l.area l.con) 2 1 1 0) l.y) l.initial.raw ≡ downto l.x (column (lent l.w l.h l.index l.count l.area l.con) (lower (lent l.w l.h l.index l.count l.area l.con) 2 1 1 0) l.y) l.raw) × Low (lent l.w l.h l.index l.count l.area l.con) l.raw
+invariant-loop-x l = (l.x ≤ l.field.w) × (downto l.field.w (column (seen l.field) (lower (seen l.field) 2 1 1 0) l.y) l.initial.raw ≡ downto l.x (column (seen l.field) (lower (seen l.field) 2 1 1 0) l.y) l.raw) × Low (seen l.field) l.raw
 
 abbrev pub decreases-loop-x : goal.decreases-loop-x
 decreases-loop-x l = l.x

@@ -6,5 +6,5 @@ use Rattle.expand.proofs.expand.most_rounds.Goals as goal
 pub returns-then-level-eq0 : goal.returns-then-level-eq0
 returns-then-level-eq0 c = search (rules, most_free)
 
-pub returns : goal.returns
-returns c = search (rules, most_eight)
+pub returns-else-level-eq0 : goal.returns-else-level-eq0
+returns-else-level-eq0 c = search (rules, most_eight)

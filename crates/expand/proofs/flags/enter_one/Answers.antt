@@ -7,14 +7,14 @@ use Rattle.expand.proofs.flags.enter_one.Goals as goal
 pub returns-then-s-eq-NO_SPAN : goal.returns-then-s-eq-NO_SPAN
 returns-then-s-eq-NO_SPAN c = search (rules, enter_used)
 
-pub at16-requires : goal.at16-requires
-at16-requires c = search (rules, entry_in)
+pub bounds-ids-s : goal.bounds-ids-s
+bounds-ids-s c = search (rules, entry_in)
 
 pub bounds-ws-flags : goal.bounds-ws-flags
 bounds-ws-flags c = search (rules, flag_in)
 
-pub returns-then-at16-eq0 : goal.returns-then-at16-eq0
-returns-then-at16-eq0 c = search (rules, enter_free)
+pub returns-then-ids-s-eq0 : goal.returns-then-ids-s-eq0
+returns-then-ids-s-eq0 c = search (rules, enter_free)
 
-pub returns : goal.returns
-returns c = search (rules, enter_held)
+pub returns-else-ids-s-eq0 : goal.returns-else-ids-s-eq0
+returns-else-ids-s-eq0 c = search (rules, enter_held)

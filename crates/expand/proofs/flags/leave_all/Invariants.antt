@@ -1,10 +1,6 @@
--- The loop's invariant: the flags of the entries before j are down, and those with an id are marked (`Leaving`). The measure is the entries left.
-use Prim.Native.Nat.{◌-◌}
+-- The loop's invariant: the flags of the entries before j are down, and those with an id are marked (`Leaving`).
 use Rattle.expand.specs.Front.{Leaving}
 use Rattle.expand.proofs.flags.leave_all.Given as goal
 
 abbrev pub invariant-loop-j : goal.invariant-loop-j
 invariant-loop-j l = Leaving l.stack.at l.flags l.stack.fill l.ids l.initial.ws l.ws l.j
-
-abbrev pub decreases-loop-j : goal.decreases-loop-j
-decreases-loop-j l = l.stack.fill - l.j

@@ -12,14 +12,14 @@ returns-then-s-eq-NO_SPAN c = search (rules, leave_used)
 pub bounds-ws-flags : goal.bounds-ws-flags
 bounds-ws-flags c = search (rules, flag_in)
 
-pub at16-requires : goal.at16-requires
-at16-requires c = search (rules, entry_in)
+pub bounds-ids-s : goal.bounds-ids-s
+bounds-ids-s c = search (rules, entry_in)
 
-pub returns-then-at16-eq0 : goal.returns-then-at16-eq0
-returns-then-at16-eq0 c = search (rules, leave_free)
+pub returns-else-ids-s-ne0 : goal.returns-else-ids-s-ne0
+returns-else-ids-s-ne0 c = search (rules, leave_free)
 
-pub bounds-ws-i : goal.bounds-ws-i
-bounds-ws-i c = simp length-set (omega (arith, c.requires.i_lt_flags.0, c.requires.ids_in_bounds.0))
+pub bounds-ws-i-then-ids-s-ne0 : goal.bounds-ws-i-then-ids-s-ne0
+bounds-ws-i-then-ids-s-ne0 c = simp length-set (omega (arith, c.requires.i_lt_flags.0, c.requires.ids_in_bounds.0))
 
-pub returns : goal.returns
-returns c = search (rules, leave_held)
+pub returns-then-ids-s-ne0 : goal.returns-then-ids-s-ne0
+returns-then-ids-s-ne0 c = search (rules, leave_held)

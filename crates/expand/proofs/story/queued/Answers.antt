@@ -1,16 +1,14 @@
--- The answers that the check does not find alone.
+-- What `find` says of the numbers lo .. hi (`sought_first`).
 use borrow.Author.Rules.{rules}
-use Rattle.expand.proofs.Tellings.{seeking_start, seeking_next, seeking_found, seeking_end}
+use lib.ListN.{get_or}
+use Prim.Native.Nat.{ℕ, ◌+◌, ◌*◌}
+use mathlib.Core.Path.{◌≡◌}
+use Rattle.std.proofs.Common.{tests}
+use Rattle.std.proofs.lemmas.Iterator.{first_from_Range}
+use Rattle.expand.proofs.Tellings.{sought_first}
 use Rattle.expand.proofs.story.queued.Goals as goal
 
-pub loop-i-init : goal.loop-i-init
-loop-i-init c = search (rules, seeking_start)
-
-pub returns-then-at16-s : goal.returns-then-at16-s
-returns-then-at16-s c = search (rules, seeking_found)
-
-pub loop-i-preserved : goal.loop-i-preserved
-loop-i-preserved c = search (rules, seeking_next)
-
 pub returns : goal.returns
-returns c = search (rules, seeking_end)
+returns c = sought_first _ _ _ _ _ _ (first_from_Range _ _ _ _
+    (λ (i : ℕ). get_or c.args.ws.now (c.args.changes + 3 * i) 0 ≡ c.args.s) (λ (i : ℕ). get_or c.args.ws.now (c.args.changes + 3 * i) 0 ≡ c.args.s → ⊥)
+    c.find.ensures.ran (λ x q k. search (rules, tests)) (λ x q k. (search rules, search (rules, tests))))

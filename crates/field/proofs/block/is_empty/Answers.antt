@@ -13,7 +13,7 @@ unfolding empty_to every
 loop-j-init c = search rules
 
 pub loop-j-preserved : goal.loop-j-preserved
-loop-j-preserved c = (search rules, block_go _ _ _ _ c.loop-j.invariant.1 _ c.both-empty.ensures)
+loop-j-preserved c = (search rules, block_go _ _ _ _ c.loop-j.invariant.1)
 
 pub returns : goal.returns
 returns c = search (rules, block_end)

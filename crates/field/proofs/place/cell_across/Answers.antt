@@ -6,19 +6,19 @@ use borrow.Author.Rules.{rules}
 use Rattle.field.proofs.place.cell_across.Goals as goal
 
 pub overflow_sub-result : goal.overflow_sub-result
-overflow_sub-result c = omega (arith, c.requires.3 c.if-d-eq0.true)
+overflow_sub-result c = omega (arith, c.requires.3 c.in-0.is)
 
-pub returns-then-d-eq0 : goal.returns-then-d-eq0
-returns-then-d-eq0 c = search (rules, across_0)
+pub returns-in-0 : goal.returns-in-0
+returns-in-0 c = search (rules, across_0)
 
-pub returns-then-d-eq1 : goal.returns-then-d-eq1
-returns-then-d-eq1 c = search (rules, across_1)
+pub returns-in-1 : goal.returns-in-1
+returns-in-1 c = search (rules, across_1)
 
-pub returns-then-d-eq2 : goal.returns-then-d-eq2
-returns-then-d-eq2 c = search (rules, across_2)
+pub returns-in-2 : goal.returns-in-2
+returns-in-2 c = search (rules, across_2)
 
-pub overflow_sub-result-2 : goal.overflow_sub-result-2
-overflow_sub-result-2 c = omega (arith, c.requires.4 (omega arith))
+pub overflow_sub-result-in_default : goal.overflow_sub-result-in_default
+overflow_sub-result-in_default c = omega (arith, c.requires.4 (omega arith))
 
-pub returns : goal.returns
-returns c = search (rules, across_3)
+pub returns-in_default : goal.returns-in_default
+returns-in_default c = search (rules, across_3)

@@ -1,14 +1,7 @@
--- The answers that the check does not find alone.
-use mathlib.Core.Path.{refl}
-use Rattle.file.proofs.Writing.{byte_first, byte_next, byte_last}
-use borrow.Author.Rules.{rules}
+-- `put::put_all` meets its contract: a text copied over a part of its length is written there.
+use native.Mathlib.Omega.{arith}
+use Rattle.file.proofs.Writing.{copied}
 use Rattle.file.proofs.put.put_all.Goals as goal
 
-pub loop-i-init : goal.loop-i-init
-loop-i-init c = (search rules, refl, search byte_first)
-
-pub loop-i-preserved : goal.loop-i-preserved
-loop-i-preserved c = (search rules, search rules, search byte_next)
-
 pub returns : goal.returns
-returns c = search byte_last
+returns c = copied _ _ _ _ _ c.copy_from_slice.ensures.after (omega arith)

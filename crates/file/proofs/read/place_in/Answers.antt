@@ -5,5 +5,5 @@ use Rattle.file.proofs.read.place_in.Goals as goal
 pub returns-then-l-eq0 : goal.returns-then-l-eq0
 returns-then-l-eq0 c = search place_none
 
-pub returns : goal.returns
-returns c = search place_some
+pub returns-else-l-eq0 : goal.returns-else-l-eq0
+returns-else-l-eq0 c = search place_some

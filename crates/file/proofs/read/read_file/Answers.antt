@@ -5,7 +5,7 @@ use native.Mathlib.Omega.{arith}
 use Rattle.file.proofs.read.read_file.Goals as goal
 
 pub reading-requires : goal.reading-requires
-reading-requires c = whole_short _ _ _ _ _ _ _ _ _ _ c.load_whole-l.ensures c.requires (λ i. omega (arith, c.type_inv.bytes i))
+reading-requires c = whole_short _ _ _ _ _ _ _ _ _ _ c.load_whole.ensures c.requires (λ i. omega (arith, c.type_inv.bytes i))
 
 pub returns : goal.returns
-returns c = whole_reads _ _ _ _ _ _ _ _ _ _ c.load_whole-l.ensures c.requires (λ i. omega (arith, c.type_inv.bytes i)) _ c.reading.ensures
+returns c = whole_reads _ _ _ _ _ _ _ _ _ _ c.load_whole.ensures c.requires (λ i. omega (arith, c.type_inv.bytes i)) _ c.reading.ensures

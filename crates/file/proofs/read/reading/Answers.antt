@@ -5,11 +5,11 @@ use Rattle.file.proofs.read.reading.Goals as goal
 pub header_of-requires : goal.header_of-requires
 header_of-requires c = search header_short
 
-pub returns-then-l-eq0 : goal.returns-then-l-eq0
-returns-then-l-eq0 c = search reading_loaded
+pub returns-in-0 : goal.returns-in-0
+returns-in-0 c = search reading_loaded
 
-pub returns-then-l-eq21 : goal.returns-then-l-eq21
-returns-then-l-eq21 c = search reading_large
+pub returns-in-21 : goal.returns-in-21
+returns-in-21 c = search reading_large
 
-pub returns : goal.returns
-returns c = search reading_bad
+pub returns-in_default : goal.returns-in_default
+returns-in_default c = search reading_bad

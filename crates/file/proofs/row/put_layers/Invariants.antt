@@ -2,11 +2,9 @@
 -- Each turn writes the first of those that are left.
 use Rattle.file.specs.Shown.{layers_text, leds, layer_text}
 use Rattle.file.proofs.Joins.{Underway}
-use Prim.Native.Nat.{◌≤◌, ◌-◌}
+use Prim.Native.Nat.{◌-◌}
+use lib.ListN.{length}
 use Rattle.file.proofs.row.put_layers.Given as goal
 
 abbrev pub invariant-loop-j : goal.invariant-loop-j
-invariant-loop-j l = (l.j ≤ l.k) × Underway l.initial.out l.at (layers_text l.ids l.i l.k) l.out l.next (leds 47 (l.k - l.j) l.j (layer_text l.ids l.i))
-
-abbrev pub decreases-loop-j : goal.decreases-loop-j
-decreases-loop-j l = l.k - l.j
+invariant-loop-j l = Underway l.initial.out l.at (layers_text l.layers 0 (length l.layers)) l.out l.next (leds 47 (length l.layers - l.j) l.j (layer_text l.layers 0))

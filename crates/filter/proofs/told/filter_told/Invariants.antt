@@ -1,5 +1,5 @@
 -- The loop's invariant: the records are the rule's after i turns, and the count told is the rule's.
-use Prim.Native.Nat.{◌*◌, ◌-◌, ◌≤◌}
+use Prim.Native.Nat.{◌*◌, ◌≤◌}
 use mathlib.Core.Path.{◌≡◌}
 use lib.ListN.{length}
 use Rattle.rules.specs.Base.{upto}
@@ -13,6 +13,3 @@ use Rattle.filter.proofs.told.filter_told.Given as goal
 abbrev pub invariant-loop-i : goal.invariant-loop-i
 invariant-loop-i l = (l.i ≤ l.m) × (length l.ws ≡ length l.initial.ws) × Calm l.m l.ws × Frame 0 (5 * l.m) l.initial.ws l.ws × (recs_of l.ws l.m ≡ upto l.i (filter_one l.least) (recs_of l.initial.ws l.m))
     × (l.told ≡ gone_with l.least l.r l.i (recs_of l.initial.ws l.m))
-
-abbrev pub decreases-loop-i : goal.decreases-loop-i
-decreases-loop-i l = l.m - l.i

@@ -84,10 +84,10 @@ returns c = let room : c.args.at.stack + length c.args.area.now ≤ length c.arg
     let net : net_at c.args.at.table c.args.area.now (begun c.args.ws.now c.args.at.stack c.args.from.0) ≡ net_at c.args.at.table c.args.area.now c.args.ws.now = net_kept _ c.requires.lent.1 c.requires.lent.0.room (kept) in
     let z : c.loop-height.height.top ≡ 0 = omega (arith, c.loop-height-test.false) in
     record {
-      count_after = flooded_is _ _ c.args.at _ _ _ _ _ _ _ c.requires.lent.1.idents c.requires.lent.1.low room c.requires.begins.0 c.below.ensures net (running_done _ _ _ _ _ _ _ _ _ _ c.loop-height.invariant.running z);
+      count_after = flooded_is _ _ c.args.at _ _ _ _ _ _ _ c.requires.lent.1.idents c.requires.lent.1.low room c.requires.begins.0 c.saturating_sub.ensures net (running_done _ _ _ _ _ _ _ _ _ _ c.loop-height.invariant.running z);
       fact = (
         flooded_past _ _ _ _ c.requires.lent.1.low (kept_then kept c.loop-height.invariant.running.kept) c.requires.begins.1 (rw z at c.loop-height.invariant.running.flooding.blank),
         omega (arith, (good-held _ _ _ _ _ _ c.loop-height.invariant.running.flooding.good).0),
       );
-      story_value = told_is _ _ c.args.at _ _ _ _ _ _ _ _ c.requires.lent.1.idents c.requires.lent.1.low room c.requires.begins.0 c.below.ensures net (telling_done _ _ _ _ _ _ _ _ _ _ _ _ c.loop-height.invariant z);
+      story_value = told_is _ _ c.args.at _ _ _ _ _ _ _ _ c.requires.lent.1.idents c.requires.lent.1.low room c.requires.begins.0 c.saturating_sub.ensures net (telling_done _ _ _ _ _ _ _ _ _ _ _ _ c.loop-height.invariant z);
     }

@@ -7,6 +7,7 @@ use Rattle.rules.specs.Refusals.{most_spans}
 use Rattle.net.proofs.Tables.{slot_in, leads_inside, net_few}
 use Rattle.flood.proofs.Pushes.{skip_none, skip_area, skip_id, skip_shallow, push_flow, skipped, stack_in, push_fits, push_pushed}
 use Rattle.flood.proofs.flow.push_one.Goals as goal
+use Rattle.flood.proofs.flow.push_one.Goals.{then-area-t-via-then-area-t, then-area-t-via-else-area-t+then-ids-t-ne0, then-area-t-via-else-area-t+else-ids-t-ne0+then-dist-t}
 
 pub returns-then-cons-d : goal.returns-then-cons-d
 returns-then-cons-d c = record {
@@ -24,7 +25,11 @@ bounds-area-t c = let inside : c.neighbour-t.result.0 < length c.args.area.now =
 pub returns-then-area-t : goal.returns-then-area-t
 returns-then-area-t c = let inside : c.neighbour-t.result.0 < length c.args.area.now = leads_inside _ _ _ _ _ _ _ c.requires.at_span.0 c.requires.d_bound.0 c.neighbour-t.ensures c.if-cons-d.false in
     record {
-      result_after = skip_area _ _ _ _ _ _ _ _ _ _ _ c.requires.at_span.0 c.requires.d_bound.0 _ c.neighbour-t.ensures inside c.if-area-t.true;
+      result_after = elim c.then-area-t.branch [
+        | then-area-t-via-then-area-t w ↦ skip_area _ _ _ _ _ _ _ _ _ _ _ c.requires.at_span.0 c.requires.d_bound.0 _ c.neighbour-t.ensures inside w.if-area-t.true
+        | then-area-t-via-else-area-t+then-ids-t-ne0 w ↦ skip_id _ _ _ _ _ _ _ _ _ _ _ c.requires.at_span.0 c.requires.d_bound.0 _ c.neighbour-t.ensures inside w.if-area-t.false w.if-ids-t-ne0.true
+        | then-area-t-via-else-area-t+else-ids-t-ne0+then-dist-t w ↦ skip_shallow _ _ _ _ _ _ _ _ _ _ _ c.requires.at_span.0 c.requires.d_bound.0 _ c.neighbour-t.ensures inside w.if-area-t.false w.if-ids-t-ne0.false w.if-dist-t.true
+      ];
       fact = skipped _ _ _ _ _ _ c.requires.d_bound.3;
     }
 
@@ -37,13 +42,6 @@ pub bounds-ids-t : goal.bounds-ids-t
 bounds-ids-t c = let inside : c.neighbour-t.result.0 < length c.args.area.now = leads_inside _ _ _ _ _ _ _ c.requires.at_span.0 c.requires.d_bound.0 c.neighbour-t.ensures c.if-cons-d.false in
     omega (arith, inside, c.requires.at_span.1.idents)
 
-pub returns-then-ids-t-ne0 : goal.returns-then-ids-t-ne0
-returns-then-ids-t-ne0 c = let inside : c.neighbour-t.result.0 < length c.args.area.now = leads_inside _ _ _ _ _ _ _ c.requires.at_span.0 c.requires.d_bound.0 c.neighbour-t.ensures c.if-cons-d.false in
-    record {
-      result_after = skip_id _ _ _ _ _ _ _ _ _ _ _ c.requires.at_span.0 c.requires.d_bound.0 _ c.neighbour-t.ensures inside c.if-area-t.false c.if-ids-t-ne0.true;
-      fact = skipped _ _ _ _ _ _ c.requires.d_bound.3;
-    }
-
 pub offset_bounds-dist-t : goal.offset_bounds-dist-t
 offset_bounds-dist-t c = let inside : c.neighbour-t.result.0 < length c.args.area.now = leads_inside _ _ _ _ _ _ _ c.requires.at_span.0 c.requires.d_bound.0 c.neighbour-t.ensures c.if-cons-d.false in
     let small : c.neighbour-t.result.0 < most_spans = omega (arith, inside, net_few _ _ _ c.requires.at_span.0.closed) in
@@ -52,13 +50,6 @@ offset_bounds-dist-t c = let inside : c.neighbour-t.result.0 < length c.args.are
 pub bounds-dist-t : goal.bounds-dist-t
 bounds-dist-t c = let inside : c.neighbour-t.result.0 < length c.args.area.now = leads_inside _ _ _ _ _ _ _ c.requires.at_span.0 c.requires.d_bound.0 c.neighbour-t.ensures c.if-cons-d.false in
     omega (arith, inside, c.requires.at_span.1.dists)
-
-pub returns-then-dist-t : goal.returns-then-dist-t
-returns-then-dist-t c = let inside : c.neighbour-t.result.0 < length c.args.area.now = leads_inside _ _ _ _ _ _ _ c.requires.at_span.0 c.requires.d_bound.0 c.neighbour-t.ensures c.if-cons-d.false in
-    record {
-      result_after = skip_shallow _ _ _ _ _ _ _ _ _ _ _ c.requires.at_span.0 c.requires.d_bound.0 _ c.neighbour-t.ensures inside c.if-area-t.false c.if-ids-t-ne0.false c.if-dist-t.true;
-      fact = skipped _ _ _ _ _ _ c.requires.d_bound.3;
-    }
 
 pub offset_bounds-ids-t-2 : goal.offset_bounds-ids-t-2
 offset_bounds-ids-t-2 c = let inside : c.neighbour-t.result.0 < length c.args.area.now = leads_inside _ _ _ _ _ _ _ c.requires.at_span.0 c.requires.d_bound.0 c.neighbour-t.ensures c.if-cons-d.false in

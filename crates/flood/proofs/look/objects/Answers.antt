@@ -8,11 +8,11 @@ use Rattle.flood.proofs.look.objects.Goals as goal
 pub loop-d-init : goal.loop-d-init
 loop-d-init c = record { few = omega arith; same = refl }
 
-pub returns-then-look-eq-THE_END : goal.returns-then-look-eq-THE_END
-returns-then-look-eq-THE_END c = search (rules, looking_stops)
+pub returns-in-TheEnd : goal.returns-in-TheEnd
+returns-in-TheEnd c = search (rules, looking_stops)
 
-pub returns-then-look-eq-OBJECTION : goal.returns-then-look-eq-OBJECTION
-returns-then-look-eq-OBJECTION c = search (rules, looking_objects)
+pub returns-in-Objection : goal.returns-in-Objection
+returns-in-Objection c = search (rules, looking_objects)
 
 pub loop-d-preserved : goal.loop-d-preserved
 loop-d-preserved c = search (rules, looking_on)

@@ -5,8 +5,8 @@ use Rattle.flood.proofs.look.other.Goals as goal
 
 pub returns-then-region : goal.returns-then-region
 unfolding ◌and◌
-returns-then-region c = rw (eq-eqb _ _ c.if-region.true)
+returns-then-region c = rw (ne_eqb _ _ c.if-region.true)
 
-pub returns : goal.returns
+pub returns-else-region : goal.returns-else-region
 unfolding ◌and◌
-returns c = rw (ne_eqb _ _ c.if-region.false)
+returns-else-region c = rw (eq-eqb _ _ c.if-region.false)

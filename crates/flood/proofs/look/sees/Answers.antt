@@ -5,10 +5,12 @@ use lib.ListN.{length}
 use Prim.Native.Nat.{◌<◌}
 use Rattle.field.proofs.Places.{turned}
 use Rattle.net.proofs.Tables.{slot_in, leads_inside, net_few, net_inside}
+use Rattle.flood.specs.Looks.{view_number}
 use Rattle.flood.proofs.Sight.{sees-none, sees-other_area, sees-flagged, sees-other_id, sees-corner, sees-nothing}
 use Rattle.flood.proofs.look.sees.Goals as goal
 
 pub returns-then-cons-d : goal.returns-then-cons-d
+unfolding view_number
 returns-then-cons-d c = search (rules, sees-none)
 
 pub neighbour-t-requires : goal.neighbour-t-requires
@@ -19,6 +21,7 @@ bounds-area-t c = let inside : c.neighbour-t.result.0 < length c.args.area.now =
     inside
 
 pub returns-then-area-t : goal.returns-then-area-t
+unfolding view_number
 returns-then-area-t c = let inside : c.neighbour-t.result.0 < length c.args.area.now = leads_inside _ _ _ _ _ _ _ c.requires.0 c.requires.2 c.neighbour-t.ensures c.if-cons-d.false in
     sees-other_area _ _ _ _ _ _ _ _ c.requires.0 c.requires.2 _ c.neighbour-t.ensures inside c.if-area-t.true
 
@@ -31,10 +34,12 @@ bounds-ids-t c = let inside : c.neighbour-t.result.0 < length c.args.area.now = 
     omega (arith, inside)
 
 pub returns-then-is_border : goal.returns-then-is_border
+unfolding view_number
 returns-then-is_border c = let inside : c.neighbour-t.result.0 < length c.args.area.now = leads_inside _ _ _ _ _ _ _ c.requires.0 c.requires.2 c.neighbour-t.ensures c.if-cons-d.false in
     sees-flagged _ _ _ _ _ _ _ _ c.requires.0 c.requires.2 _ c.neighbour-t.ensures inside c.if-area-t.false _ c.is_border.ensures c.if-is_border.true
 
 pub returns-then-other : goal.returns-then-other
+unfolding view_number
 returns-then-other c = let inside : c.neighbour-t.result.0 < length c.args.area.now = leads_inside _ _ _ _ _ _ _ c.requires.0 c.requires.2 c.neighbour-t.ensures c.if-cons-d.false in
     sees-other_id _ _ _ _ _ _ _ _ c.requires.0 c.requires.2 _ c.neighbour-t.ensures inside c.if-area-t.false _ c.is_border.ensures c.if-is_border.false
     _ c.other.ensures c.if-other.true
@@ -51,11 +56,13 @@ bears-requires c = let inside : c.neighbour-t.result.0 < length c.args.area.now 
     }
 
 pub returns-then-bears : goal.returns-then-bears
+unfolding view_number
 returns-then-bears c = let inside : c.neighbour-t.result.0 < length c.args.area.now = leads_inside _ _ _ _ _ _ _ c.requires.0 c.requires.2 c.neighbour-t.ensures c.if-cons-d.false in
     sees-corner _ _ _ _ _ _ _ _ c.requires.0 c.requires.2 _ c.neighbour-t.ensures inside c.if-area-t.false _ c.is_border.ensures c.if-is_border.false
     _ c.other.ensures c.if-other.false _ c.neighbour-corner.ensures _ c.bears.ensures c.if-bears.true
 
 pub returns : goal.returns
+unfolding view_number
 returns c = let inside : c.neighbour-t.result.0 < length c.args.area.now = leads_inside _ _ _ _ _ _ _ c.requires.0 c.requires.2 c.neighbour-t.ensures c.if-cons-d.false in
     sees-nothing _ _ _ _ _ _ _ _ c.requires.0 c.requires.2 _ c.neighbour-t.ensures inside c.if-area-t.false _ c.is_border.ensures c.if-is_border.false
     _ c.other.ensures c.if-other.false _ c.neighbour-corner.ensures _ c.bears.ensures c.if-bears.false

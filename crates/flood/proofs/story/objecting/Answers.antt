@@ -1,15 +1,15 @@
-use Rattle.flood.proofs.Stories.{objecting_0, objecting_1, objecting_2, objecting_3}
+use Rattle.flood.proofs.Stories.{objecting_start, objecting_here, objecting_on, objecting_last}
 use borrow.Author.Rules.{rules}
 use Rattle.flood.proofs.story.objecting.Goals as goal
 
-pub returns-then-objects_at : goal.returns-then-objects_at
-returns-then-objects_at c = search (rules, objecting_0)
+pub loop-d-init : goal.loop-d-init
+loop-d-init c = search (rules, objecting_start)
 
-pub returns-then-objects_at-2 : goal.returns-then-objects_at-2
-returns-then-objects_at-2 c = search (rules, objecting_1)
+pub returns-in-Objection : goal.returns-in-Objection
+returns-in-Objection c = search (rules, objecting_here)
 
-pub returns-then-objects_at-3 : goal.returns-then-objects_at-3
-returns-then-objects_at-3 c = search (rules, objecting_2)
+pub loop-d-preserved : goal.loop-d-preserved
+loop-d-preserved c = search (rules, objecting_on)
 
 pub returns : goal.returns
-returns c = search (rules, objecting_3)
+returns c = search (rules, objecting_last)

@@ -1,5 +1,5 @@
 -- Painting and the table of neighbours give what the turns ask; what they leave, with the source distances zeroed, is the rule's growth (FirstLaws).
-use mathlib.Core.Path.{sym, ◌∙◌}
+use mathlib.Core.Path.{refl, sym, ◌∙◌}
 use native.Mathlib.Omega.{arith}
 use Rattle.growth.proofs.FirstLaws.{reached-first, cells_first, few_first, size_first, plot_first, between_first, rule_story, full_settled, whole}
 use Rattle.growth.proofs.grow.grow.Goals as goal
@@ -39,13 +39,14 @@ pub shape_of-ids : goal.shape_of-ids
 shape_of-ids c = c.settle.auto.ids ∙ c.grow_painted-g.auto.ids ∙ c.paint_border-first.auto.ids
 
 pub returns : goal.returns
-returns c = record {
-  fact = full_settled _ _ _ _ _ _ _ _ _ _ _ _ c.requires.0 _ c.paint_border-first.ensures.value _ c.paint_border-first.ensures.ids_after _ c.fill_neighbours.ensures.ws_after c.fill_neighbours.ensures.frame c.fill_neighbours.auto.ws
-      _ _ _ _ _ c.sections.ensures.1 c.grow_painted-g.ensures.fact c.grow_painted-g.auto.ws c.grow_painted-g.auto.ids _ _ _ _ _ _ _ c.settle.auto.ws c.settle.ensures;
-  story_value = λ z. c.settle.ensures.told (sym c.settle.ensures.same ∙ z) ∙ c.grow_painted-g.ensures.story_value (sym c.settle.ensures.same ∙ z)
-      ∙ rule_story _ _ _ _ _ _ _ _ _ _ _ _ c.requires.0 _ c.paint_border-first.ensures.value _ c.paint_border-first.ensures.ids_after _ c.fill_neighbours.ensures.ws_after c.fill_neighbours.ensures.frame c.fill_neighbours.auto.ws
-      _ _ c.begins.ensures _ c.sections.ensures.1;
-  whole = whole _ _ _ _ _ _ _ _ _ _ _ _ c.requires.0 _ c.paint_border-first.ensures.value _ c.paint_border-first.ensures.ids_after _ c.fill_neighbours.ensures.ws_after c.fill_neighbours.ensures.frame c.fill_neighbours.auto.ws
-      _ _ _ _ _ c.sections.ensures.1 c.grow_painted-g.ensures.fact c.grow_painted-g.auto.ws c.grow_painted-g.auto.ids _ _ _ _ _ _ _ c.settle.auto.ws c.settle.ensures;
-  untold = λ z. c.settle.ensures.untold (λ q. z (c.settle.ensures.same ∙ q));
-}
+returns c = let settled = c.settle.ensures c.args.watched in
+    record {
+      fact = full_settled _ _ _ _ _ _ _ _ _ _ _ _ c.requires.0 _ c.paint_border-first.ensures.value _ c.paint_border-first.ensures.ids_after _ c.fill_neighbours.ensures.ws_after c.fill_neighbours.ensures.frame c.fill_neighbours.auto.ws
+          _ _ _ _ _ c.sections.ensures.1 c.grow_painted-g.ensures.fact c.grow_painted-g.auto.ws c.grow_painted-g.auto.ids _ _ _ _ _ _ _ c.settle.auto.ws settled;
+      story_value = λ z. settled.told (sym settled.same ∙ z) ∙ rw c.begins.ensures at (c.grow_painted-g.ensures.story_value (sym settled.same ∙ z))
+          ∙ rule_story _ _ _ _ _ _ _ _ _ _ _ _ c.requires.0 _ c.paint_border-first.ensures.value _ c.paint_border-first.ensures.ids_after _ c.fill_neighbours.ensures.ws_after c.fill_neighbours.ensures.frame c.fill_neighbours.auto.ws
+          _ _ refl _ c.sections.ensures.1;
+      whole = whole _ _ _ _ _ _ _ _ _ _ _ _ c.requires.0 _ c.paint_border-first.ensures.value _ c.paint_border-first.ensures.ids_after _ c.fill_neighbours.ensures.ws_after c.fill_neighbours.ensures.frame c.fill_neighbours.auto.ws
+          _ _ _ _ _ c.sections.ensures.1 c.grow_painted-g.ensures.fact c.grow_painted-g.auto.ws c.grow_painted-g.auto.ids _ _ _ _ _ _ _ c.settle.auto.ws settled;
+      untold = λ z. settled.untold (λ q. z (settled.same ∙ q));
+    }

@@ -38,7 +38,7 @@ pub returns-then-e : goal.returns-then-e
 returns-then-e c = let r = ready_turn _ _ _ _ _ _ _ _ _ _ c.requires.0 _ _ _ c.load-stacks.auto.ws c.load-stacks.ensures in
     record {
       fact = turn_strayed _ _ _ _ _ _ _ _ _ _ c.requires.0 _ _ _ c.load-stacks.auto.ws c.load-stacks.ensures _ _ (expanded_as _ _ _ _ _ _ _ _ r _ _ c.turn_stack-stack.ensures.0 c.turn_stack-stack.ensures.1 _ _ _ c.expand_regions-e.ensures.ws_after c.expand_regions-e.ensures.kept)
-          _ (strays_as _ _ _ _ _ _ _ _ r _ _ c.turn_stack-stack.ensures.0 c.turn_stack-stack.ensures.1 _ _ c.expand_regions-e.ensures.strays_value) c.if-e.true;
+          _ (strays_as _ _ _ _ _ _ _ _ r _ _ c.turn_stack-stack.ensures.0 c.turn_stack-stack.ensures.1 _ _ c.expand_regions-e.ensures.strays_value) c.if-e.true _ _ _;
       fact_2 = stopped_told _ _ _ _ _ _ _ _ _ _ _ _ (omega arith);
     }
 
@@ -51,7 +51,7 @@ returns-then-f c = let r = ready_turn _ _ _ _ _ _ _ _ _ _ c.requires.0 _ _ _ c.l
     let e = expanded_as _ _ _ _ _ _ _ _ r _ _ c.turn_stack-stack.ensures.0 c.turn_stack-stack.ensures.1 _ _ _ c.expand_regions-e.ensures.ws_after c.expand_regions-e.ensures.kept in
     record {
       fact = turn_out _ _ _ _ _ _ _ _ _ _ c.requires.0 _ _ _ c.load-stacks.auto.ws c.load-stacks.ensures _ _ e _ (strays_as _ _ _ _ _ _ _ _ r _ _ c.turn_stack-stack.ensures.0 c.turn_stack-stack.ensures.1 _ _ c.expand_regions-e.ensures.strays_value) c.if-e.false
-          _ _ _ (flooded _ _ _ _ _ _ _ _ _ e.ready _ _ c.turn_stack-stack.ensures.0 c.turn_stack-stack.ensures.1 _ _ _ _ c.flood_all-f.ensures.fact c.flood_all-f.auto.ws) c.if-f.true;
+          _ _ _ (flooded _ _ _ _ _ _ _ _ _ e.ready _ _ c.turn_stack-stack.ensures.0 c.turn_stack-stack.ensures.1 _ _ _ _ c.flood_all-f.ensures.fact c.flood_all-f.auto.ws) c.if-f.true _ _ _;
       fact_2 = stopped_told _ _ _ _ _ _ _ _ _ _ _ _ (omega arith);
     }
 

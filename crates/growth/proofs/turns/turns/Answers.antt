@@ -1,7 +1,9 @@
 -- The answers that the check does not find alone.
-use mathlib.Core.Path.{◌≡◌, ◌∙◌}
+use mathlib.Core.Path.{◌≡◌, refl, ◌∙◌}
 use Prim.Native.Nat.{suc, ◌-◌}
 use native.Mathlib.Omega.{arith}
+use Rattle.std.proofs.lemmas.Result.{err_from_is_err_and}
+use Rattle.growth.proofs.Stopped.{some_stop}
 use Rattle.growth.proofs.TurnsLaws.{told-first, turns_start, turns_next, turns_told, turns_stopped, turns_end}
 use Rattle.growth.proofs.turns.turns.Goals as goal
 
@@ -12,31 +14,29 @@ loop-left-init c = let e : c.args.count - c.args.count ≡ 0 = omega arith in
 pub overflow_mul-left : goal.overflow_mul-left
 overflow_mul-left c = omega (arith, c.loop-left.invariant.0, c.requires.count_bound, c.loop-left-test.true)
 
-pub turn-t-requires : goal.turn-t-requires
-turn-t-requires c = (c.loop-left.invariant.1.between, c.requires.between.1)
+pub turn-requires : goal.turn-requires
+turn-requires c = (c.loop-left.invariant.1.between, c.requires.between.1)
 
-pub shape_of-ids-then-t-ne-GOES_ON : goal.shape_of-ids-then-t-ne-GOES_ON
-shape_of-ids-then-t-ne-GOES_ON c = omega (arith, c.turn-t.auto.ids, c.loop-left.invariant.1.between.ids_below.size, c.requires.between.0.ids_below.size)
+pub shape_of-ids-in_err-t : goal.shape_of-ids-in_err-t
+shape_of-ids-in_err-t c = omega (arith, c.turn.auto.ids, c.loop-left.invariant.1.between.ids_below.size, c.requires.between.0.ids_below.size)
 
-pub shape_of-ws-then-t-ne-GOES_ON : goal.shape_of-ws-then-t-ne-GOES_ON
-shape_of-ws-then-t-ne-GOES_ON c = c.turn-t.auto.ws ∙ c.loop-left.invariant.1.size
+pub shape_of-ws-in_err-t : goal.shape_of-ws-in_err-t
+shape_of-ws-in_err-t c = c.turn.auto.ws ∙ c.loop-left.invariant.1.size
 
-pub returns-then-t-ne-GOES_ON : goal.returns-then-t-ne-GOES_ON
-returns-then-t-ne-GOES_ON c = record {
-  fact = turns_stopped _ _ _ _ _ _ _ _ c.requires.between.0 _ _ _ _ _ _ c.loop-left.invariant.1 _ (omega (arith, c.loop-left-test.true, c.loop-left.invariant.0)) _ _ _ _ _ _ c.turn-t.ensures.fact
-      (omega (arith, c.loop-left-test.true, c.loop-left.invariant.0)) c.if-t-ne-GOES_ON.true _;
-  story_value = λ z. absurd (c.if-t-ne-GOES_ON.true z);
-}
-
-pub loop-left-smaller : goal.loop-left-smaller
-loop-left-smaller c = omega (arith, c.loop-left-test.true)
+pub returns-in_err-t : goal.returns-in_err-t
+returns-in_err-t c = let p = err_from_is_err_and c.from_residual.result c.from_residual.ensures.1 in
+    rw (p.1, p.2) (record {
+      fact = turns_stopped _ _ _ _ _ _ _ _ c.requires.between.0 _ _ _ _ _ _ c.loop-left.invariant.1 _ (omega (arith, c.loop-left-test.true, c.loop-left.invariant.0)) _ _ _ _ _ _ c.in_err-t.ensures.fact
+          (omega (arith, c.loop-left-test.true, c.loop-left.invariant.0)) (some_stop _) _;
+      story_value = λ z. absurd (some_stop _ z);
+    })
 
 pub loop-left-preserved : goal.loop-left-preserved
 loop-left-preserved c = let e : c.args.count - (c.loop-left.left - 1) ≡ suc (c.args.count - c.loop-left.left) = omega (arith, c.loop-left-test.true, c.loop-left.invariant.0) in (
   omega (arith, c.loop-left.invariant.0),
-  rw e (turns_next _ _ _ _ _ _ _ _ c.requires.between.0 _ _ _ _ _ _ c.loop-left.invariant.1 _ (omega (arith, c.loop-left-test.true, c.loop-left.invariant.0)) _ _ _ _ _ _ c.turn-t.ensures.fact c.if-t-ne-GOES_ON.false),
-  rw e (turns_told _ _ _ _ _ _ _ _ c.requires.between.0 _ _ _ _ _ _ c.loop-left.invariant.1 _ (omega (arith, c.loop-left-test.true, c.loop-left.invariant.0)) _ _ _ _ _ _ c.turn-t.ensures.fact c.if-t-ne-GOES_ON.false
-      _ _ _ c.loop-left.invariant.2 c.turn-t.ensures.fact_2),
+  rw e (turns_next _ _ _ _ _ _ _ _ c.requires.between.0 _ _ _ _ _ _ c.loop-left.invariant.1 _ (omega (arith, c.loop-left-test.true, c.loop-left.invariant.0)) _ _ _ _ _ _ c.in_ok-t.ensures.fact refl),
+  rw e (turns_told _ _ _ _ _ _ _ _ c.requires.between.0 _ _ _ _ _ _ c.loop-left.invariant.1 _ (omega (arith, c.loop-left-test.true, c.loop-left.invariant.0)) _ _ _ _ _ _ c.in_ok-t.ensures.fact refl
+      _ _ _ c.loop-left.invariant.2 c.in_ok-t.ensures.fact_2),
 )
 
 pub shape_of-ids : goal.shape_of-ids

@@ -1,5 +1,4 @@
--- The loop's invariant: what is there is what the turns so far leave (`SomeTurns`), count - left of them; each turn adds one (TurnsLaws). The measure
--- is the turns left.
+-- The loop's invariant: what is there is what the turns so far leave (`SomeTurns`), count - left of them; each turn adds one (TurnsLaws).
 use mathlib.Core.Path.{◌≡◌}
 use Prim.Native.Nat.{◌-◌, ◌*◌, ◌≤◌}
 use lib.ListN.{length}
@@ -12,6 +11,3 @@ use Rattle.growth.proofs.turns.turns.Given as goal
 abbrev pub invariant-loop-left : goal.invariant-loop-left
 invariant-loop-left l = (l.left ≤ l.count) × SomeTurns l.area l.con l.dist l.at l.count l.next l.initial.ids l.initial.ws (l.count - l.left) l.id l.l.fills l.l.turn l.ids l.ws
     × (story_of l.told ≡ turns_tell (net_at l.at.table l.area l.initial.ws) l.dist (2 * l.count) (l.count - l.left) (begun (length l.area) l.initial.ids l.initial.ws l.next) (story_of l.initial.told))
-
-abbrev pub decreases-loop-left : goal.decreases-loop-left
-decreases-loop-left l = l.left

@@ -9,5 +9,5 @@ returns-then-got-i c = search number_low
 pub returns-then-got-i-2 : goal.returns-then-got-i-2
 returns-then-got-i-2 c = search number_high
 
-pub returns : goal.returns
-returns c = search number_other
+pub returns-else-got-i-2 : goal.returns-else-got-i-2
+returns-else-got-i-2 c = search number_other

@@ -3,14 +3,14 @@ use Rattle.mending.proofs.Spots.{cell-start, layer_start, cell_found, layer_foun
 use borrow.Author.Rules.{rules}
 use Rattle.mending.proofs.patch.spot_of.Goals as goal
 
-pub loop-c-init : goal.loop-c-init
-loop-c-init c = (search rules, search (rules, cell-start), search (rules, layer_start))
+pub loop-cell-init : goal.loop-cell-init
+loop-cell-init c = (search (rules, cell-start), search (rules, layer_start))
+
+pub loop-cell-preserved : goal.loop-cell-preserved
+loop-cell-preserved c = (search (rules, cell_on_lem), search (rules, layer_on))
 
 pub returns-then-left-k : goal.returns-then-left-k
 returns-then-left-k c = (search (rules, cell_found), search (rules, layer_found), search rules)
-
-pub loop-c-preserved : goal.loop-c-preserved
-loop-c-preserved c = (search rules, search (rules, cell_on_lem), search (rules, layer_on))
 
 pub returns : goal.returns
 returns c = (search (rules, cell-end), search (rules, layer_end), search rules)

@@ -1,21 +1,19 @@
--- `merge::merge::may_merge` meets its contract. Straight line: the rule's four tests, in its order.
-use Rattle.merge.proofs.TurnLaws.{may_dead, may_over, may_empty, may_small, may_border, may_inner}
+-- `merge::merge::may_merge` meets its contract: the rule's four tests, in its order.
+use native.Mathlib.Omega.{arith}
+use Rattle.std.proofs.lemmas.Grind.{common_steps}
+use Rattle.pool.specs.Fixed.{may_merge}
+use Rattle.table.specs.View.{rec_at}
+use Rattle.rules.specs.Base.{◌or◌, ◌and◌}
 use Rattle.merge.proofs.merge.may_merge.Goals as goal
 
-pub returns-then-ws-i-eq0 : goal.returns-then-ws-i-eq0
-returns-then-ws-i-eq0 c = search may_dead
-
-pub returns-then-ws-m-ne0 : goal.returns-then-ws-m-ne0
-returns-then-ws-m-ne0 c = search may_over
-
-pub returns-then-ws-m-eq0 : goal.returns-then-ws-m-eq0
-returns-then-ws-m-eq0 c = search may_empty
-
 pub returns-then-ws-m : goal.returns-then-ws-m
-returns-then-ws-m c = search may_small
+unfolding may_merge rec_at ◌or◌ ◌and◌
+returns-then-ws-m c = grind (arith, common_steps)
 
-pub returns-then-is_region_connected_to_border : goal.returns-then-is_region_connected_to_border
-returns-then-is_region_connected_to_border c = search may_border
+pub returns-else-ws-m : goal.returns-else-ws-m
+unfolding may_merge rec_at ◌or◌ ◌and◌
+returns-else-ws-m c = grind (arith, common_steps)
 
-pub returns : goal.returns
-returns c = search may_inner
+pub returns-else-ws-m-ne0 : goal.returns-else-ws-m-ne0
+unfolding may_merge rec_at ◌or◌ ◌and◌
+returns-else-ws-m-ne0 c = grind (arith, common_steps)

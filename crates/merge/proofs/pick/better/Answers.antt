@@ -1,18 +1,15 @@
--- `merge::pick::better` meets its contract. Straight line: the rule's tests, in its order.
-use Rattle.merge.proofs.PickLaws.{better_dead, better-over, better_large, better_fit, better_unfit}
+-- `merge::pick::better` meets its contract: the rule's tests, in its order.
+use native.Mathlib.Omega.{arith}
+use Rattle.std.proofs.lemmas.Grind.{common_steps}
+use Rattle.pool.specs.Fixed.{better}
+use Rattle.table.specs.View.{rec_at}
+use Rattle.rules.specs.Base.{◌and◌}
 use Rattle.merge.proofs.pick.better.Goals as goal
 
-pub returns-then-ws-j-eq0 : goal.returns-then-ws-j-eq0
-returns-then-ws-j-eq0 c = search better_dead
-
-pub returns-then-ws-m-ne0 : goal.returns-then-ws-m-ne0
-returns-then-ws-m-ne0 c = search better-over
-
-pub returns-then-size-count : goal.returns-then-size-count
-returns-then-size-count c = search better_large
-
 pub returns-then-can_merge_with : goal.returns-then-can_merge_with
-returns-then-can_merge_with c = search better_fit
+unfolding better rec_at ◌and◌
+returns-then-can_merge_with c = grind (arith, common_steps)
 
-pub returns : goal.returns
-returns c = search better_unfit
+pub returns-else-can_merge_with : goal.returns-else-can_merge_with
+unfolding better rec_at ◌and◌
+returns-else-can_merge_with c = grind (arith, common_steps)

@@ -4,8 +4,8 @@ use mathlib.Core.Path.{refl}
 use borrow.Author.Rules.{rules}
 use Rattle.merge.proofs.pick.pick.Goals as goal
 
-pub loop-k-init : goal.loop-k-init
-loop-k-init c = (search rules, search own_id, refl)
+pub loop-r-init : goal.loop-r-init
+loop-r-init c = (search own_id, refl)
 
 pub pick_one-best-requires : goal.pick_one-best-requires
 pick_one-best-requires c = record {
@@ -13,8 +13,8 @@ pick_one-best-requires c = record {
   names = (search pick-listed, search rules);
 }
 
-pub loop-k-preserved : goal.loop-k-preserved
-loop-k-preserved c = (search rules, search rules, search picked_go)
+pub loop-r-preserved : goal.loop-r-preserved
+loop-r-preserved c = (search rules, search picked_go)
 
 pub returns : goal.returns
 returns c = record {

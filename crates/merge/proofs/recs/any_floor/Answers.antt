@@ -3,14 +3,14 @@ use Rattle.merge.proofs.SuitLaws.{any-end, floor_here, floor_next, floor_in_lem}
 use borrow.Author.Rules.{rules}
 use Rattle.merge.proofs.recs.any_floor.Goals as goal
 
-pub bounds-ws-at : goal.bounds-ws-at
-bounds-ws-at c = search (rules, floor_in_lem)
+pub bounds-ws-f : goal.bounds-ws-f
+bounds-ws-f c = search (rules, floor_in_lem)
 
-pub returns-then-ws-at : goal.returns-then-ws-at
-returns-then-ws-at c = search (rules, floor_here)
+pub returns-then-ws-f : goal.returns-then-ws-f
+returns-then-ws-f c = search (rules, floor_here)
 
-pub loop-i-preserved : goal.loop-i-preserved
-loop-i-preserved c = (search rules, search (rules, floor_next))
+pub loop-f-preserved : goal.loop-f-preserved
+loop-f-preserved c = search (rules, floor_next)
 
 pub returns : goal.returns
 returns c = search (rules, any-end)

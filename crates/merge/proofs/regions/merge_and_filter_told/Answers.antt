@@ -1,26 +1,32 @@
--- Three stages in a row, over the records before `end`: the filter leaves the pool in order, the merge the numbering's column, and what was noted stays (ToldLaws).
+-- Three stages in a row, over the records before `end`, which come back in the part that is lent (`filtered_in`): the filter leaves the pool in order, the merge
+-- the numbering's column, and what was noted stays (ToldLaws).
 use native.Mathlib.Omega.{arith}
+use Prim.Native.Nat.{◌≤◌}
 use mathlib.Core.Path.{refl}
-use Rattle.merge.proofs.TopLaws.{rest_column, rest_blank}
-use Rattle.merge.proofs.ToldLaws.{told_pool, told_laid, told-joined, told_mid, told-regions}
+use mathlib.Core.List.{◌++◌}
+use lib.ListN.{length, drop}
+use Rattle.merge.specs.Told.{FilteredIn}
+use Rattle.merge.proofs.ToldLaws.{part_size, filtered_in, number_past, told_pool, told_laid, told-joined, told-regions}
 use Rattle.merge.proofs.regions.merge_and_filter_told.Goals as goal
 
-pub merge_all_noted-merges-requires : goal.merge_all_noted-merges-requires
-merge_all_noted-merges-requires c = (
-  omega (arith, c.filter_in-group.auto.ws, c.requires.0),
-  told_pool _ c.args.merge_region_size _ _ _ _ _ _ c.requires.0 c.requires.1 c.requires.2 _ _ c.filter_in-group.ensures c.filter_in-group.auto.ws,
-  told_laid _ c.args.merge_region_size _ _ _ _ _ _ c.requires.0 c.requires.1 c.requires.2 _ _ c.filter_in-group.ensures c.filter_in-group.auto.ws,
-  told-joined _ c.args.merge_region_size _ _ _ _ _ _ c.requires.0 c.requires.1 c.requires.2 _ _ c.filter_in-group.ensures c.filter_in-group.auto.ws,
-)
-
-pub number_in-regions-requires : goal.number_in-regions-requires
-number_in-regions-requires c = (
-  omega (arith, c.filter_in-group.auto.ws, c.merge_all_noted-merges.auto.ws, c.requires.0),
-  rest_column _ _ c.merge_all_noted-merges.ensures.rest,
-  rest_blank _ _ c.merge_all_noted-merges.ensures.rest,
-  c.requires.1.named,
-  told_mid _ c.args.merge_region_size _ _ _ _ _ _ c.requires.0 c.requires.1 c.requires.2 _ _ c.filter_in-group.ensures c.filter_in-group.auto.ws,
-)
+pub merge_all-merges-requires : goal.merge_all-merges-requires
+merge_all-merges-requires c =
+    let h : c.args.end ≤ length c.args.ws.now = omega (arith, c.requires.0) in
+    let F : FilteredIn c.args.min_region_area c.args.r c.args.m c.args.end c.args.ws.now (c.filter_told-group.new.ws ++ drop c.args.end c.args.ws.now) c.filter_told-group.result =
+    filtered_in _ _ _ _ _ _ _ h c.filter_told-group.auto.ws c.filter_told-group.ensures.m_after c.filter_told-group.ensures.calm.0 c.filter_told-group.ensures.calm.1 c.filter_told-group.ensures.value in
+    let size = part_size _ _ _ h c.filter_told-group.auto.ws in (
+      omega (arith, size, h),
+      told_pool _ c.args.merge_region_size _ _ _ _ _ _ c.requires.0 c.requires.1 c.requires.2 _ _ F size,
+      told_laid _ c.args.merge_region_size _ _ _ _ _ _ c.requires.0 c.requires.1 c.requires.2 _ _ F size,
+      told-joined _ c.args.merge_region_size _ _ _ _ _ _ c.requires.0 c.requires.1 c.requires.2 _ _ F size,
+    )
 
 pub returns : goal.returns
-returns c = told-regions _ _ _ _ _ _ _ _ c.requires.0 c.requires.1 c.requires.2 _ _ c.filter_in-group.ensures c.filter_in-group.auto.ws _ _ c.merge_all_noted-merges.ensures _ c.number_in-regions.ensures.ws_unchanged _ _ _ _ c.number_in-regions.ensures.cut_value _ refl
+returns c =
+    let h : c.args.end ≤ length c.args.ws.now = omega (arith, c.requires.0) in
+    let F : FilteredIn c.args.min_region_area c.args.r c.args.m c.args.end c.args.ws.now (c.filter_told-group.new.ws ++ drop c.args.end c.args.ws.now) c.filter_told-group.result =
+    filtered_in _ _ _ _ _ _ _ h c.filter_told-group.auto.ws c.filter_told-group.ensures.m_after c.filter_told-group.ensures.calm.0 c.filter_told-group.ensures.calm.1 c.filter_told-group.ensures.value in
+    let size = part_size _ _ _ h c.filter_told-group.auto.ws in
+    let k : c.args.end ≤ length c.merge_all-merges.new.ws = omega (arith, size, h, c.merge_all-merges.auto.ws) in
+    told-regions _ _ _ _ _ _ _ _ c.requires.0 c.requires.1 c.requires.2 _ _ F size _ _ c.merge_all-merges.ensures _
+    (number_past c.args.end c.merge_all-merges.new.ws c.number-regions.new.ws k c.number-regions.auto.ws) _ _ _ _ c.number-regions.ensures.cut_value _ refl

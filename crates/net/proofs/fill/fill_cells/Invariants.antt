@@ -1,12 +1,12 @@
 -- Invariant: the spans of the cells from c to c + j - 1 are filled.
 use Prim.Native.Nat.{◌≤◌, ◌-◌}
 use mathlib.Core.Path.{◌≡◌}
-use Rattle.field.specs.Lent.{lent}
+use Rattle.field.specs.Seen.{seen}
 use Rattle.net.specs.Fill.{filled_cells}
 use Rattle.net.proofs.fill.fill_cells.Given as goal
 
 abbrev pub invariant-loop-j : goal.invariant-loop-j
-invariant-loop-j l = (l.j ≤ l.k) × (l.ws ≡ filled_cells (lent l.w l.h l.index l.count l.area l.con) l.table l.c l.j l.initial.ws)
+invariant-loop-j l = (l.j ≤ l.k) × (l.ws ≡ filled_cells (seen l.field) l.table l.c l.j l.initial.ws)
 
 abbrev pub decreases-loop-j : goal.decreases-loop-j
 decreases-loop-j l = l.k - l.j

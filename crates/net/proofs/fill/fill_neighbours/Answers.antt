@@ -1,6 +1,6 @@
 -- The answers that the check does not find alone.
 use Prim.Native.Nat.{◌≤◌, ◌*◌}
-use Rattle.field.specs.Lent.{lent}
+use Rattle.field.specs.Seen.{seen}
 use Rattle.field.proofs.Places.{first_of}
 use Rattle.net.specs.Fill.{filled}
 use Rattle.net.proofs.Fills.{block_more, filled_size, filled_room, table_filled, rest_kept}
@@ -26,7 +26,7 @@ shape_of-ws c = search (rules, filled_size)
 
 pub returns : goal.returns
 returns c = let a = c.args in
-    let F = lent a.w a.h a.index.now a.count.now a.area.now a.con.now in
+    let F = seen a.field.now in
     let v = c.loop-c.invariant in
     let all : F.w * F.h ≤ c.loop-c.c = omega (arith, v.1, c.loop-c-test.false) in
     record {

@@ -1,5 +1,5 @@
 -- The answers that the check does not find alone.
-use mathlib.Core.Path.{◌≡◌, ◌∙◌}
+use mathlib.Core.Path.{◌≡◌, ◌∙◌, refl}
 use Prim.Native.Nat.{◌≤◌, ◌<◌}
 use native.Mathlib.Omega.{arith}
 use lib.ListN.{length, get_or, length-set}
@@ -28,23 +28,26 @@ loop-top-init c = let room : length c.args.area.now ≤ length c.args.ws.now = o
     running_start _ _ _ _ _ _ (held_kept _ _ _ _ c.requires.0 (simp length-set) (start_past _ c.args.ws.now _ _ _ c.requires.1 c.requires.2 room))
     (start_filling _ c.args.ws.now _ _ _ c.requires.1 c.requires.2 room)
 
-pub at16-c-requires : goal.at16-c-requires
-at16-c-requires c = omega (arith, c.loop-top-test.true, top_in _ _ _ _ _ _ _ _ _ c.loop-top.invariant, c.loop-top.invariant.held.past, c.loop-top.invariant.held.room)
+pub offset_bounds-ws-top : goal.offset_bounds-ws-top
+offset_bounds-ws-top c = omega (arith, top_in _ _ _ _ _ _ _ _ _ c.loop-top.invariant, few _ _ _ c.requires.0)
+
+pub bounds-ws-top : goal.bounds-ws-top
+bounds-ws-top c = omega (arith, c.loop-top-test.true, top_in _ _ _ _ _ _ _ _ _ c.loop-top.invariant, c.loop-top.invariant.held.past, c.loop-top.invariant.held.room)
 
 pub join_all-top-requires : goal.join_all-top-requires
 join_all-top-requires c = let byte : get_or c.args.area.now c.args.from.0 0 < 256 = omega (arith, c.type_inv.area c.args.from.0) in
     record {
-      held = (c.loop-top.invariant.held, span_in_lem _ _ _ _ _ _ _ _ _ c.loop-top.invariant c.loop-top-test.true _ c.at16-c.ensures.0, byte);
-      filling = (rest_held _ _ _ _ _ _ _ _ _ c.loop-top.invariant c.loop-top-test.true _ c.at16-c.ensures.0, c.requires.2);
+      held = (c.loop-top.invariant.held, span_in_lem _ _ _ _ _ _ _ _ _ c.loop-top.invariant c.loop-top-test.true _ refl, byte);
+      filling = (rest_held _ _ _ _ _ _ _ _ _ c.loop-top.invariant c.loop-top-test.true _ refl, c.requires.2);
     }
 
 pub loop-top-smaller : goal.loop-top-smaller
 loop-top-smaller c = let byte : get_or c.args.area.now c.args.from.0 0 < 256 = omega (arith, c.type_inv.area c.args.from.0) in
-    running_falls _ _ _ _ _ _ _ _ _ c.loop-top.invariant c.loop-top-test.true _ c.at16-c.ensures.0 byte c.requires.2 _ _ _ c.join_all-top.ensures.result_after
+    running_falls _ _ _ _ _ _ _ _ _ c.loop-top.invariant c.loop-top-test.true _ refl byte c.requires.2 _ _ _ c.join_all-top.ensures.result_after
 
 pub loop-top-preserved : goal.loop-top-preserved
 loop-top-preserved c = let byte : get_or c.args.area.now c.args.from.0 0 < 256 = omega (arith, c.type_inv.area c.args.from.0) in
-    running_on _ _ _ _ _ _ _ _ _ c.loop-top.invariant c.loop-top-test.true _ c.at16-c.ensures.0 byte c.requires.2 _ _ _ c.join_all-top.ensures.result_after
+    running_on _ _ _ _ _ _ _ _ _ c.loop-top.invariant c.loop-top-test.true _ refl byte c.requires.2 _ _ _ c.join_all-top.ensures.result_after
     c.join_all-top.auto.ids c.join_all-top.auto.ws c.join_all-top.ensures.ws_unchanged
 
 pub shape_of-ids : goal.shape_of-ids

@@ -1,21 +1,6 @@
 -- `pool::absorb::absorb` meets its contract. The joined list is in place, and two entries of the table are written: `absorbed_is`.
-use Rattle.pool.proofs.AbsorbLaws.{absorb_table, absorb_fits, absorbed_is}
-use borrow.Author.Rules.{rules}
+use Rattle.pool.proofs.AbsorbLaws.{absorbed_is}
 use Rattle.pool.proofs.absorb.absorb.Goals as goal
-
-pub set_part-requires : goal.set_part-requires
-set_part-requires c = record {
-  m_in_bounds = search absorb_table;
-  r_lt_m = search rules;
-  a_lt_wide_end = (search rules, search absorb_fits);
-}
-
-pub set_part-requires-2 : goal.set_part-requires-2
-set_part-requires-2 c = record {
-  m_in_bounds = search rules;
-  r_lt_m = search rules;
-  a_lt_wide_end = (search absorb_fits, search absorb_fits);
-}
 
 pub returns : goal.returns
 returns c = absorbed_is _ _ _ _ _ _ _ _ c.requires.0 c.requires.1 _ _ _ _ _ _ c.join_lists-e.ensures.ws_after c.join_lists-e.ensures.lower_bound c.join_lists-e.ensures.frame c.set_part.ensures c.set_part-2.ensures

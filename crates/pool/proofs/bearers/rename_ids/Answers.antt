@@ -1,13 +1,10 @@
 -- The answers that the check does not find alone.
-use Rattle.pool.proofs.BearerLaws.{hand_start, hand_room, hand_inside, hand_next, hand_falls, hand_done}
+use Rattle.pool.proofs.BearerLaws.{hand_start, hand_inside, hand_next, hand_falls, hand_done}
 use borrow.Author.Rules.{rules}
 use Rattle.pool.proofs.bearers.rename_ids.Goals as goal
 
 pub loop-m-init : goal.loop-m-init
 loop-m-init c = (search rules, search rules, search hand_start)
-
-pub next_of-next-requires : goal.next_of-next-requires
-next_of-next-requires c = (search hand_room, search rules)
 
 pub returns-then-next-eq0 : goal.returns-then-next-eq0
 returns-then-next-eq0 c = search hand_done

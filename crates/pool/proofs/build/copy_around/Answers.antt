@@ -1,13 +1,7 @@
 -- `pool::build::copy_around` meets its contract. Two copies, one after the other: `around_3`.
-use Rattle.pool.proofs.PartLaws.{around_1, around_2, around_3, around_4}
+use Rattle.pool.proofs.PartLaws.{around_3, around_4}
 use borrow.Author.Rules.{rules}
 use Rattle.pool.proofs.build.copy_around.Goals as goal
-
-pub copy-requires : goal.copy-requires
-copy-requires c = search around_1
-
-pub copy-requires-2 : goal.copy-requires-2
-copy-requires-2 c = search around_2
 
 pub returns : goal.returns
 returns c = record {

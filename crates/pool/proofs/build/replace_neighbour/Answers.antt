@@ -1,19 +1,12 @@
 -- `pool::build::replace_neighbour` meets its contract. By cases on whether old is listed; the part is lent twice.
-use Rattle.space.proofs.Laws.{frame_none}
-use Rattle.pool.proofs.PartLaws.{rename_none, rename_some, rename_frame, part_le}
-use borrow.Author.Rules.{rules}
+use Rattle.pool.proofs.PartLaws.{rename_none, rename_some, rename_frame}
 use Rattle.pool.proofs.build.replace_neighbour.Goals as goal
 
-pub returns-then-k-e : goal.returns-then-k-e
-returns-then-k-e c = record {
-  ws_after = search rename_none;
-  lower_bound = search rules;
-  frame = search frame_none;
-}
+pub returns-then-k-e-clause-ws_after : goal.returns-then-k-e-clause-ws_after
+returns-then-k-e-clause-ws_after c = search rename_none
 
-pub returns : goal.returns
-returns c = record {
-  ws_after = search rename_some;
-  lower_bound = (search rules, part_le _ _ _ _ c.requires.0 c.remove_adjacent_neighbours-n.ensures.1);
-  frame = search rename_frame;
-}
+pub returns-clause-ws_after : goal.returns-clause-ws_after
+returns-clause-ws_after c = search rename_some
+
+pub returns-clause-frame : goal.returns-clause-frame
+returns-clause-frame c = search rename_frame

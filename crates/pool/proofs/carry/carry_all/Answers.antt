@@ -1,16 +1,9 @@
 -- The answers that the check does not find alone.
-use Rattle.pool.proofs.CarryLaws.{carried_none, carry_source, carry_go, carry_done}
-use borrow.Author.Rules.{rules}
+use Rattle.pool.proofs.CarryLaws.{carry_source, carry_go}
 use Rattle.pool.proofs.carry.carry_all.Goals as goal
-
-pub loop-x-init : goal.loop-x-init
-loop-x-init c = (search rules, search rules, search carried_none)
 
 pub carry_next-e-requires : goal.carry_next-e-requires
 carry_next-e-requires c = search carry_source
 
 pub loop-x-preserved : goal.loop-x-preserved
-loop-x-preserved c = (search rules, search rules, search carry_go)
-
-pub returns : goal.returns
-returns c = search carry_done
+loop-x-preserved c = search carry_go

@@ -1,16 +1,12 @@
 -- The answers that the check does not find alone.
-use Rattle.pool.proofs.LinkLaws.{linking_none, room_same, linking_go, linking_all, linking_kept}
-use borrow.Author.Rules.{rules}
+use Rattle.pool.proofs.LinkLaws.{linking_none, linking_go, linking_all, linking_kept}
 use Rattle.pool.proofs.links.link_all.Goals as goal
 
 pub loop-q-init : goal.loop-q-init
-loop-q-init c = (search rules, search rules, search linking_none)
-
-pub link_one-requires : goal.link_one-requires
-link_one-requires c = (search room_same, search rules)
+loop-q-init c = search linking_none
 
 pub loop-q-preserved : goal.loop-q-preserved
-loop-q-preserved c = (search rules, search rules, search linking_go)
+loop-q-preserved c = search linking_go
 
 pub returns : goal.returns
 returns c = record {

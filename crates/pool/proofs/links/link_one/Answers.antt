@@ -3,5 +3,5 @@
 use Rattle.pool.proofs.LinkLaws.{link_one}
 use Rattle.pool.proofs.links.link_one.Goals as goal
 
-pub returns : goal.returns
-returns c = search link_one
+pub returns-then-r-m : goal.returns-then-r-m
+returns-then-r-m c = search link_one

@@ -1,15 +1,12 @@
 -- The answers that the check does not find alone.
-use lib.ListN.{length-set}
-use Rattle.pool.proofs.ListLaws.{map_to-start, map_to_go, map_to-end}
-use mathlib.Core.Path.{refl}
-use borrow.Author.Rules.{rules}
+use native.Mathlib.Omega.{arith}
+use Rattle.pool.proofs.ListLaws.{swapped_more, swap-hit, swap-miss}
 use Rattle.pool.proofs.lists.swap.Goals as goal
+use Rattle.pool.proofs.lists.swap.Goals.{then-x-old, else-x-old}
 
-pub loop-i-init : goal.loop-i-init
-loop-i-init c = (search rules, refl, search (rules, map_to-start))
-
-pub loop-i-preserved : goal.loop-i-preserved
-loop-i-preserved c = (search rules, simp length-set (search rules), search (rules, map_to_go))
-
-pub returns : goal.returns
-returns c = search (rules, map_to-end)
+pub loop-x-preserved : goal.loop-x-preserved
+loop-x-preserved c =
+    elim c.if-x-old.branch [
+      | then-x-old w ↦ swapped_more _ _ _ _ _ (omega arith) c.loop-x.auto.l c.loop-x.invariant (swap-hit _ _ _ _ w.if-x-old.true w.x-is)
+      | else-x-old w ↦ swapped_more _ _ _ _ _ (omega arith) c.loop-x.auto.l c.loop-x.invariant (swap-miss _ _ _ _ w.if-x-old.false w.x-is)
+    ]

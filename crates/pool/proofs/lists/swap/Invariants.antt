@@ -1,12 +1,9 @@
--- `pool::lists::swap` meets its contract. The loop's invariant: the first i entries are swapped, the others as they were.
-use lib.ListN.{length}
-use Rattle.pool.specs.Lists.{map_to, swap_one}
-use Prim.Native.Nat.{◌≤◌, ◌-◌}
+-- `pool::lists::swap` meets its contract. The loop's invariant: the entries so far are swapped, the others as they were.
 use mathlib.Core.Path.{◌≡◌}
+use mathlib.Core.List.{◌++◌, map}
+use lib.ListN.{take, drop}
+use Rattle.pool.specs.Lists.{swap_one}
 use Rattle.pool.proofs.lists.swap.Given as goal
 
-abbrev pub invariant-loop-i : goal.invariant-loop-i
-invariant-loop-i l = (l.i ≤ length l.initial.l) × (length l.l ≡ length l.initial.l) × (l.l ≡ map_to (swap_one l.old l.new) l.i l.initial.l)
-
-abbrev pub decreases-loop-i : goal.decreases-loop-i
-decreases-loop-i l = length l.initial.l - l.i
+abbrev pub invariant-loop-x : goal.invariant-loop-x
+invariant-loop-x l = l.l ≡ map (swap_one l.old l.new) (take l.x-index l.initial.l) ++ drop l.x-index l.initial.l

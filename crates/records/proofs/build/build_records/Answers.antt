@@ -2,7 +2,7 @@
 use Prim.Native.Nat.{◌+◌, ◌*◌, ◌≤◌}
 use mathlib.Core.Path.{refl, ◌∙◌}
 use Rattle.rules.specs.Field.{Field}
-use Rattle.field.specs.Lent.{lent}
+use Rattle.field.specs.Seen.{seen}
 use Rattle.field.proofs.Passed.{sound_reached}
 use Rattle.records.specs.Build.{spans_at}
 use Rattle.records.specs.declared.grow.Plan.{Plan}
@@ -11,17 +11,17 @@ use native.Mathlib.Omega.{arith}
 use Rattle.records.proofs.build.build_records.Goals as goal
 
 pub overflow_mul-c-end : goal.overflow_mul-c-end
-overflow_mul-c-end c = let F : Field = lent c.args.w c.args.h c.args.index.now c.args.count.now c.args.area.now c.args.con.now in
-    let grid : c.args.w * c.args.h ≤ 65536 = (sound_reached (F) c.requires.given.sound).celled.grid in
+overflow_mul-c-end c = let F : Field = seen c.args.field.now in
+    let grid : c.args.field.now.w * c.args.field.now.h ≤ 65536 = (sound_reached (F) c.requires.given.sound).celled.grid in
     omega (arith, grid)
 
 pub loop-c-init : goal.loop-c-init
-loop-c-init c = let F : Field = lent c.args.w c.args.h c.args.index.now c.args.count.now c.args.area.now c.args.con.now in
+loop-c-init c = let F : Field = seen c.args.field.now in
     (run-start F _ _ _ c.requires.blank.0 _ c.renew.ensures, know_start _ _ _ _ refl)
 
 pub add_cell_at-t-requires : goal.add_cell_at-t-requires
 unfolding spans_at
-add_cell_at-t-requires c = let F : Field = lent c.args.w c.args.h c.args.index.now c.args.count.now c.args.area.now c.args.con.now in
+add_cell_at-t-requires c = let F : Field = seen c.args.field.now in
     let P : Plan = record { records = c.args.next + 1; table = c.args.table } in
     record {
       c_in_bounds = cell_in F _ P _ _ c.requires.given c.requires.blank.1 c.renew.ensures _ _ _ c.loop-c.invariant.0 c.loop-c-test.true;
@@ -29,13 +29,13 @@ add_cell_at-t-requires c = let F : Field = lent c.args.w c.args.h c.args.index.n
     }
 
 pub overflow_step-c : goal.overflow_step-c
-overflow_step-c c = let F : Field = lent c.args.w c.args.h c.args.index.now c.args.count.now c.args.area.now c.args.con.now in
-    let grid : c.args.w * c.args.h ≤ 65536 = (sound_reached (F) c.requires.given.sound).celled.grid in
+overflow_step-c c = let F : Field = seen c.args.field.now in
+    let grid : c.args.field.now.w * c.args.field.now.h ≤ 65536 = (sound_reached (F) c.requires.given.sound).celled.grid in
     omega (arith, grid, c.loop-c-test.true)
 
 pub loop-c-preserved : goal.loop-c-preserved
 unfolding spans_at
-loop-c-preserved c = let F : Field = lent c.args.w c.args.h c.args.index.now c.args.count.now c.args.area.now c.args.con.now in
+loop-c-preserved c = let F : Field = seen c.args.field.now in
     let P : Plan = record { records = c.args.next + 1; table = c.args.table } in (
       run_next F _ P _ _ c.requires.given c.requires.blank.1 c.renew.ensures _ _ _ c.loop-c.invariant.0 _ refl refl c.loop-c-test.true _ _ c.add_cell_at-t.ensures.0,
       c.add_cell_at-t.ensures.1,
@@ -45,5 +45,5 @@ pub shape_of-ws : goal.shape_of-ws
 shape_of-ws c = c.loop-c.invariant.0.size ∙ c.renew.auto.ws
 
 pub returns : goal.returns
-returns c = let F : Field = lent c.args.w c.args.h c.args.index.now c.args.count.now c.args.area.now c.args.con.now in
+returns c = let F : Field = seen c.args.field.now in
     built F _ _ _ _ _ _ c.requires.given c.renew.ensures _ _ c.loop-c.invariant.0 c.loop-c-test.false

@@ -1,8 +1,9 @@
--- Both cells have spans, as many, so they lie among the ids, and what `same` finds of their parts is what the layers have (CellLaws).
+-- Both cells have spans, as many, so they lie among the ids, and what `==` finds of their parts is what the layers have (CellLaws).
 use Prim.Native.Nat.{◌+◌, ◌≤◌}
 use native.Mathlib.Omega.{arith}
-use mathlib.Core.Path.{refl}
+use mathlib.Core.Path.{refl, sym, ◌∙◌}
 use lib.ListN.{length}
+use lib.Pointwise.{bytes_decides}
 use Rattle.records.proofs.CellLaws.{alike_ids}
 use Rattle.records.proofs.cell.alike.Goals as goal
 
@@ -14,8 +15,8 @@ pub offset_bounds-ids-b : goal.offset_bounds-ids-b
 offset_bounds-ids-b c = let lies : c.args.cell.from + c.args.cell.size ≤ length c.args.ids.now = c.requires.2.inside c.requires.3 in
     omega (arith, lies, c.requires.0)
 
-pub slice_bounds-same-end : goal.slice_bounds-same-end
-slice_bounds-same-end c = let lies : c.args.cell.from + c.args.cell.size ≤ length c.args.ids.now = c.requires.2.inside c.requires.3 in
+pub slice_bounds-eq-end : goal.slice_bounds-eq-end
+slice_bounds-eq-end c = let lies : c.args.cell.from + c.args.cell.size ≤ length c.args.ids.now = c.requires.2.inside c.requires.3 in
     lies
 
 pub overflow_add-a : goal.overflow_add-a
@@ -28,10 +29,10 @@ offset_bounds-ids-a c = let lies : c.args.cell.from + c.args.cell.size ≤ lengt
     let lies-last : c.args.last.from + c.args.cell.size ≤ length c.args.ids.now = omega (arith, c.requires.4, c.requires.1.inside (omega (arith, c.requires.4, c.requires.3))) in
     omega (arith, lies, lies-last, c.requires.0)
 
-pub slice_bounds-same-end-2 : goal.slice_bounds-same-end-2
-slice_bounds-same-end-2 c = let lies : c.args.cell.from + c.args.cell.size ≤ length c.args.ids.now = c.requires.2.inside c.requires.3 in
+pub slice_bounds-eq-end-2 : goal.slice_bounds-eq-end-2
+slice_bounds-eq-end-2 c = let lies : c.args.cell.from + c.args.cell.size ≤ length c.args.ids.now = c.requires.2.inside c.requires.3 in
     let lies-last : c.args.last.from + c.args.cell.size ≤ length c.args.ids.now = omega (arith, c.requires.4, c.requires.1.inside (omega (arith, c.requires.4, c.requires.3))) in
     omega (arith, lies, lies-last)
 
 pub returns : goal.returns
-returns c = λ e. alike_ids _ _ _ _ c.requires.4 refl (c.same.ensures.0 e)
+returns c = λ e. alike_ids _ _ _ _ c.requires.4 refl (sym ((bytes_decides _ _).0 (sym c.eq.ensures ∙ e)))

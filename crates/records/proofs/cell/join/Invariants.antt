@@ -9,6 +9,3 @@ use Rattle.records.proofs.cell.join.Given as goal
 abbrev pub invariant-loop-j : goal.invariant-loop-j
 invariant-loop-j l = (Joining l.ids l.initial.part l.span.0 l.cell.from l.cell.size l.len l.part l.l.len l.j)
     × (l.twin or twins l.ids l.span.0 l.own (l.cell.size - l.j) (l.cell.from + l.j) ≡ twins l.ids l.span.0 l.own l.cell.size l.cell.from)
-
-abbrev pub decreases-loop-j : goal.decreases-loop-j
-decreases-loop-j l = l.cell.size - l.j

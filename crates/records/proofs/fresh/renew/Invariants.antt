@@ -1,6 +1,5 @@
 -- The invariant `Renewed`: the records before i are new, and `lower` is how many spans have an id below i.
--- It starts from the counts of all ids; the measure is what is left of the records.
-use Prim.Native.Nat.{◌-◌}
+-- It starts from the counts of all ids.
 use mathlib.Core.Path.{◌≡◌}
 use Rattle.records.specs.Rows.{slot}
 use Rattle.records.specs.Fresh.{Renewed}
@@ -8,6 +7,3 @@ use Rattle.records.proofs.fresh.renew.Given as goal
 
 abbrev pub invariant-loop-i : goal.invariant-loop-i
 invariant-loop-i l = Renewed l.ids l.m l.i l.initial.ws l.ws × (l.lower ≡ slot l.ids l.i)
-
-abbrev pub decreases-loop-i : goal.decreases-loop-i
-decreases-loop-i l = l.m - l.i

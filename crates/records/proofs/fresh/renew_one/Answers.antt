@@ -17,8 +17,8 @@ pub overflow_add-floors-2 : goal.overflow_add-floors-2
 overflow_add-floors-2 c = let lower-few : c.args.lower ≤ most_spans = omega (arith, c.requires.renewed.2, c.requires.m_le_border.1, slot_room c.args.ids.now c.args.i) in
     omega (arith, lower-few, c.requires.m_le_border.0, c.requires.m_le_border.1)
 
-pub bounds-ws-m : goal.bounds-ws-m
-bounds-ws-m c = simp length-set (omega (arith, c.requires.m_le_border.2, c.requires.renewed.1))
+pub bounds-ws-m-2 : goal.bounds-ws-m-2
+bounds-ws-m-2 c = simp length-set (omega (arith, c.requires.m_le_border.2, c.requires.renewed.1))
 
 pub set_part-requires : goal.set_part-requires
 set_part-requires c = record {
@@ -41,4 +41,4 @@ shape_of-ws c = let two_stores : length (set (set c.args.ws.now c.args.i c.args.
     c.set_part-2.auto.ws ∙ c.set_part.auto.ws ∙ two_stores
 
 pub returns : goal.returns
-returns c = (renewed_one _ _ _ _ c.requires.renewed.0 c.requires.renewed.1 _ _ c.requires.renewed.2 refl c.requires.m_le_border.0 c.requires.m_le_border.1 c.requires.m_le_border.2 _ _ _ refl c.set_part.ensures c.set_part.auto.ws c.set_part-2.ensures c.set_part-2.auto.ws, c.at-spans.ensures.0 ∙ c.requires.renewed.0.counts _ (omega arith) c.requires.renewed.1)
+returns c = (renewed_one _ _ _ _ c.requires.renewed.0 c.requires.renewed.1 _ _ c.requires.renewed.2 refl c.requires.m_le_border.0 c.requires.m_le_border.1 c.requires.m_le_border.2 _ _ _ refl c.set_part.ensures c.set_part.auto.ws c.set_part-2.ensures c.set_part-2.auto.ws, c.requires.renewed.0.counts _ (omega arith) c.requires.renewed.1)

@@ -4,11 +4,11 @@ use Rattle.records.proofs.FreshLaws.{tally_past, tally_below}
 use native.Mathlib.Omega.{arith}
 use Rattle.records.proofs.fresh.tally_one.Goals as goal
 
-pub returns-then-m-r : goal.returns-then-m-r
-returns-then-m-r c = tally_past _ _ _ c.if-m-r.true
+pub overflow_add-ws-then-r-m : goal.overflow_add-ws-then-r-m
+overflow_add-ws-then-r-m c = omega (arith, c.requires.2 c.if-r-m.true)
 
-pub overflow_add-ws-2 : goal.overflow_add-ws-2
-overflow_add-ws-2 c = omega (arith, c.requires.2 c.if-m-r.false)
+pub returns-then-r-m : goal.returns-then-r-m
+returns-then-r-m c = tally_below _ _ _ c.if-r-m.true
 
-pub returns : goal.returns
-returns c = tally_below _ _ _ c.if-m-r.false
+pub returns-else-r-m : goal.returns-else-r-m
+returns-else-r-m c = tally_past _ _ _ c.if-r-m.false

@@ -1,6 +1,6 @@
 -- `add_contour` is the rule's `contoured`: a record with a list stays; one without takes the area and the traced list.
 -- The store of the area leaves the tables, the pool and the net alone.
-use mathlib.Core.Path.{◌≡◌, ◌∙◌}
+use mathlib.Core.Path.{◌≡◌, refl, ◌∙◌}
 use lib.ListN.{length-set}
 use Rattle.table.specs.View.{start_of, end_of}
 use Rattle.table.specs.Map.{lists_at}
@@ -20,8 +20,8 @@ returns-then-start_of-end_of c = let ea : c.start_of.result ≡ start_of c.args.
     let ee : c.end_of.result ≡ end_of c.args.ws.now c.args.plan.records (lists_at c.args.plan.records) c.args.r = c.end_of.ensures.0 in
     contour_there _ _ _ _ _ c.requires.keeping _ c.requires.r_value.1 _ _ ea ee c.if-start_of-end_of.true _ _
 
-pub at8-a-requires : goal.at8-a-requires
-at8-a-requires c = omega (arith, c.requires.reach.span, c.requires.reach.sized)
+pub bounds-area-span : goal.bounds-area-span
+bounds-area-span c = omega (arith, c.requires.reach.span, c.requires.reach.sized)
 
 pub overflow_mul-ws : goal.overflow_mul-ws
 overflow_mul-ws c = omega (arith, c.requires.keeping.few)
@@ -50,4 +50,4 @@ shape_of-ws c = c.add_list.auto.ws ∙ simp length-set
 pub returns : goal.returns
 returns c = let ea : c.start_of.result ≡ start_of c.args.ws.now c.args.plan.records (lists_at c.args.plan.records) c.args.r = c.start_of.ensures.0 in
     let ee : c.end_of.result ≡ end_of c.args.ws.now c.args.plan.records (lists_at c.args.plan.records) c.args.r = c.end_of.ensures.0 in
-    contour-taken _ _ _ _ _ c.requires.keeping _ c.requires.r_value.1 _ _ ea ee c.if-start_of-end_of.false _ _ _ _ _ c.requires.reach c.requires.r_value.0 _ c.at8-a.ensures.0 _ c.add_list.ensures
+    contour-taken _ _ _ _ _ c.requires.keeping _ c.requires.r_value.1 _ _ ea ee c.if-start_of-end_of.false _ _ _ _ _ c.requires.reach c.requires.r_value.0 _ refl _ c.add_list.ensures

@@ -1,7 +1,12 @@
 -- The answers that the check does not find alone.
+use Rattle.field.proofs.Passed.{sound_reached}
+use native.Mathlib.Omega.{arith}
 use Rattle.refresh.proofs.Turns.{onward_go, onward_stop, onward-end, kept_up, kept_none, kept_all, kept_size}
 use borrow.Author.Rules.{rules}
 use Rattle.refresh.proofs.redo.settle1.Goals as goal
+
+pub overflow_step-y : goal.overflow_step-y
+overflow_step-y c = let u = sound_reached _ c.requires.0 in omega (arith, u.celled.short)
 
 pub loop-y-init : goal.loop-y-init
 loop-y-init c = (search rules, search rules, search rules, search rules, search (rules, kept_none), search rules)

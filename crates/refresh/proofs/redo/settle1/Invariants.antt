@@ -3,13 +3,13 @@ use Prim.Native.Nat.{◌≤◌, ◌-◌, ◌+◌}
 use mathlib.Core.Path.{◌≡◌}
 use lib.ListN.{length}
 use Rattle.rules.specs.Refresh.{onward}
-use Rattle.field.specs.Lent.{lent}
+use Rattle.field.specs.Seen.{seen}
 use Rattle.distance.specs.Value.{Low}
 use Rattle.refresh.specs.Redo.{Kept}
 use Rattle.refresh.proofs.redo.settle1.Given as goal
 
 abbrev pub invariant-loop-y : goal.invariant-loop-y
-invariant-loop-y l = (l.z1 + 1 ≤ l.y) × (l.y ≤ l.h) × (onward (lent l.w l.h l.index l.count l.area l.con) l.z1 (l.h - (l.z1 + 1)) (l.z1 + 1) l.initial.pass1 ≡ onward (lent l.w l.h l.index l.count l.area l.con) l.z1 (l.h - l.y) l.y l.pass1) × Low (lent l.w l.h l.index l.count l.area l.con) l.pass1 × Kept (lent l.w l.h l.index l.count l.area l.con) (l.z1 + 1) l.y l.initial.kept l.kept × (length l.kept ≡ length l.area)
+invariant-loop-y l = (l.z1 + 1 ≤ l.y) × (l.y ≤ l.field.h) × (onward (seen l.field) l.z1 (l.field.h - (l.z1 + 1)) (l.z1 + 1) l.initial.pass1 ≡ onward (seen l.field) l.z1 (l.field.h - l.y) l.y l.pass1) × Low (seen l.field) l.pass1 × Kept (seen l.field) (l.z1 + 1) l.y l.initial.kept l.kept × (length l.kept ≡ length l.field.area.now)
 
 abbrev pub decreases-loop-y : goal.decreases-loop-y
-decreases-loop-y l = l.h - l.y
+decreases-loop-y l = l.field.h - l.y

@@ -7,8 +7,8 @@ use Rattle.refresh.proofs.rows.last_cell.Goals as goal
 pub loop-x-init : goal.loop-x-init
 loop-x-init c = (search rules, λ t h g. absurd (omega arith))
 
-pub returns-then-at8-ne0 : goal.returns-then-at8-ne0
-returns-then-at8-ne0 c = search (rules, last_found)
+pub returns-then-count-c-ne0 : goal.returns-then-count-c-ne0
+returns-then-count-c-ne0 c = search (rules, last_found)
 
 pub loop-x-preserved : goal.loop-x-preserved
 loop-x-preserved c = (search rules, search (rules, last_go))

@@ -7,4 +7,4 @@ pub returns-then-e-eq0 : goal.returns-then-e-eq0
 returns-then-e-eq0 c = search (rules, add_first)
 
 pub returns : goal.returns
-returns c = add_more _ _ _ _ c.if-e-eq0.false _ _ _ _ c.smaller.ensures c.larger.ensures c.smaller-2.ensures c.larger-2.ensures
+returns c = add_more _ _ _ _ c.if-e-eq0.false _ _ _ _ c.min.ensures c.max.ensures c.min-2.ensures c.max-2.ensures

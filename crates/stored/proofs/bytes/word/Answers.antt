@@ -1,4 +1,4 @@
--- Two bytes, each below 256, make a number of 16 bits.
+-- The lower byte stands first.
 use Rattle.rules.specs.File.{word}
 use borrow.Author.Rules.{rules}
 use Rattle.stored.proofs.bytes.word.Goals as goal

@@ -6,7 +6,7 @@ use borrow.Author.Rules.{rules}
 use Rattle.stored.proofs.id.find_whole.Goals as goal
 
 pub loop-j-init : goal.loop-j-init
-loop-j-init c = (search (rules, new_length), search rules, search (rules, at_first), search (rules, seeks_first))
+loop-j-init c = (search (rules, new_length), search (rules, at_first), search (rules, seeks_first))
 
 pub returns-then-run_holds : goal.returns-then-run_holds
 returns-then-run_holds c = search (rules, seeks_found)
@@ -15,7 +15,7 @@ pub stretch_after-p-requires : goal.stretch_after-p-requires
 stretch_after-p-requires c = search (rules, stretch_fits)
 
 pub loop-j-preserved : goal.loop-j-preserved
-loop-j-preserved c = (search rules, search rules, search (rules, at_on), search (rules, seeks_next))
+loop-j-preserved c = (search rules, search (rules, at_on), search (rules, seeks_next))
 
 pub returns : goal.returns
 returns c = search (rules, seeks_end)

@@ -6,8 +6,8 @@ use Rattle.stored.proofs.id.id_at_whole.Goals as goal
 pub find_whole-requires : goal.find_whole-requires
 find_whole-requires c = search (rules, whole_fine)
 
-pub returns-in-Refused : goal.returns-in-Refused
-returns-in-Refused c = search (rules, whole_refused, whole_found)
+pub returns-in-Err : goal.returns-in-Err
+returns-in-Err c = search (rules, whole_refused)
 
-pub returns-in-Fine : goal.returns-in-Fine
-returns-in-Fine c = search (rules, whole_refused, whole_found)
+pub returns-in-Ok : goal.returns-in-Ok
+returns-in-Ok c = search (rules, whole_found)

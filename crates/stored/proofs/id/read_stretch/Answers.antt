@@ -1,24 +1,25 @@
 -- The answers that the check does not find alone.
-use Rattle.stored.proofs.Halving.{within_first, within_end, within-other, within_found, within_next, within-wrong}
+use Rattle.stored.proofs.Halving.{within_first, within_beyond, within_cut, within-other, within_found, within_on, within-wrong}
 use borrow.Author.Rules.{rules}
 use Rattle.stored.proofs.id.read_stretch.Goals as goal
 
-pub loop-left-init : goal.loop-left-init
-loop-left-init c = search (rules, within_first)
+pub loop-j-init : goal.loop-j-init
+loop-j-init c = search (rules, within_first)
 
 pub returns-then-j-m : goal.returns-then-j-m
-returns-then-j-m c = search (rules, within_end)
+returns-then-j-m c = search (rules, within_cut)
 
-pub returns-else-is_run : goal.returns-else-is_run
-returns-else-is_run c = search (rules, within-other)
+pub returns-then-file-j-eq-END : goal.returns-then-file-j-eq-END
+returns-then-file-j-eq-END c = search (rules, within_beyond)
+
+pub returns-then-not-is_run : goal.returns-then-not-is_run
+returns-then-not-is_run c = search (rules, within-other)
 
 pub returns-then-run_holds : goal.returns-then-run_holds
 returns-then-run_holds c = search (rules, within_found)
 
-pub loop-left-preserved : goal.loop-left-preserved
-loop-left-preserved c = within_next c.args.file.now c.args.p c.args.before c.args.span c.loop-left.left c.loop-left.j c.loop-left.spans
-    c.loop-left.invariant c.requires.0 (search rules) c.if-j-m.false _ c.is_run.ensures c.if-is_run.true _ c.run_holds.ensures
-    c.spans_after-spans.result c.if-run_holds.false c.spans_after-spans.ensures.0 c.spans_after-spans.ensures.1
+pub loop-j-preserved : goal.loop-j-preserved
+loop-j-preserved c = search (rules, within_on)
 
 pub returns : goal.returns
 returns c = search (rules, within-wrong)

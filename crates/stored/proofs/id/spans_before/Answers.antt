@@ -6,5 +6,5 @@ use Rattle.stored.proofs.id.spans_before.Goals as goal
 pub returns-then-p-eq0 : goal.returns-then-p-eq0
 returns-then-p-eq0 c = (search (rules, before_none), search rules)
 
-pub returns : goal.returns
-returns c = (search (rules, before_mark), search rules)
+pub returns-else-p-eq0 : goal.returns-else-p-eq0
+returns-else-p-eq0 c = (search (rules, before_mark), search rules)

@@ -10,5 +10,5 @@ overflow_add-result c = let h : c.args.p < 4294967295 = c.requires (search rules
 pub returns-then-t-eq-STRETCH : goal.returns-then-t-eq-STRETCH
 returns-then-t-eq-STRETCH c = search (rules, stretch_more)
 
-pub returns : goal.returns
-returns c = search (rules, stretch_same)
+pub returns-else-t-eq-STRETCH : goal.returns-else-t-eq-STRETCH
+returns-else-t-eq-STRETCH c = search (rules, stretch_same)

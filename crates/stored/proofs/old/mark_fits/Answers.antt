@@ -3,8 +3,8 @@ use Rattle.stored.proofs.Calls.{mark_tests, mark_none}
 use borrow.Author.Rules.{rules}
 use Rattle.stored.proofs.old.mark_fits.Goals as goal
 
-pub returns-then-t-eq-STRETCH : goal.returns-then-t-eq-STRETCH
-returns-then-t-eq-STRETCH c = search (rules, mark_tests)
+pub returns-then-run-ne-STRETCH : goal.returns-then-run-ne-STRETCH
+returns-then-run-ne-STRETCH c = search (rules, mark_none)
 
-pub returns : goal.returns
-returns c = search (rules, mark_none)
+pub returns-else-run-ne-STRETCH : goal.returns-else-run-ne-STRETCH
+returns-else-run-ne-STRETCH c = search (rules, mark_tests)

@@ -10,7 +10,7 @@ pub returns-then-old-i-ne-SPAN : goal.returns-then-old-i-ne-SPAN
 returns-then-old-i-ne-SPAN c = search (rules, old_stops)
 
 pub loop-i-preserved : goal.loop-i-preserved
-loop-i-preserved c = (search rules, search rules, search (rules, old_goes))
+loop-i-preserved c = (search rules, search (rules, old_goes))
 
 pub returns : goal.returns
 returns c = search (rules, old_end)

@@ -9,8 +9,8 @@ put_five-next-requires c = search (rules, first_room)
 pub put_mark-requires : goal.put_mark-requires
 put_mark-requires c = search (rules, after_room)
 
-pub returns-then-t-eq-STRETCH : goal.returns-then-t-eq-STRETCH
-returns-then-t-eq-STRETCH c = search (rules, after_done)
+pub returns-then-run-eq-STRETCH : goal.returns-then-run-eq-STRETCH
+returns-then-run-eq-STRETCH c = search (rules, after_done)
 
-pub returns : goal.returns
-returns c = search (rules, alone_done)
+pub returns-else-run-eq-STRETCH : goal.returns-else-run-eq-STRETCH
+returns-else-run-eq-STRETCH c = search (rules, alone_done)

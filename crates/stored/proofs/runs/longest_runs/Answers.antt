@@ -5,13 +5,13 @@ use borrow.Author.Rules.{rules}
 use Rattle.stored.proofs.runs.longest_runs.Goals as goal
 
 pub loop-j-init : goal.loop-j-init
-loop-j-init c = (search (rules, new_length), search rules, search rules, search (rules, longest-first))
+loop-j-init c = (search (rules, new_length), search rules, search (rules, longest-first))
 
-pub returns-else-record_follows : goal.returns-else-record_follows
-returns-else-record_follows c = search (rules, longest-stops)
+pub returns-then-not-record_follows : goal.returns-then-not-record_follows
+returns-then-not-record_follows c = search (rules, longest-stops)
 
 pub loop-j-preserved : goal.loop-j-preserved
-loop-j-preserved c = (search rules, search rules, search (rules, runs_below), search (rules, longest_goes))
+loop-j-preserved c = (search rules, search (rules, runs_below), search (rules, longest_goes))
 
 pub returns : goal.returns
 returns c = search (rules, longest-end)

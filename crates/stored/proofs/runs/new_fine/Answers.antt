@@ -7,16 +7,16 @@ pub returns-then-new-ne1 : goal.returns-then-new-ne1
 returns-then-new-ne1 c = search (rules, new_odd)
 
 pub loop-j-init : goal.loop-j-init
-loop-j-init c = (search rules, search rules, search (rules, at_first))
+loop-j-init c = (search rules, search (rules, at_first))
 
-pub returns-else-record_fine : goal.returns-else-record_fine
-returns-else-record_fine c = search (rules, at-not)
+pub returns-then-not-record_fine : goal.returns-then-not-record_fine
+returns-then-not-record_fine c = search (rules, at-not)
 
 pub loop-j-preserved : goal.loop-j-preserved
-loop-j-preserved c = (search rules, search rules, search (rules, at_next))
+loop-j-preserved c = (search rules, search (rules, at_next))
 
-pub returns-then-t-eq-STRETCH : goal.returns-then-t-eq-STRETCH
-returns-then-t-eq-STRETCH c = search (rules, at_full)
+pub returns-then-t-ne-STRETCH : goal.returns-then-t-ne-STRETCH
+returns-then-t-ne-STRETCH c = search (rules, at-end)
 
-pub returns : goal.returns
-returns c = search (rules, at-end)
+pub returns-else-t-ne-STRETCH : goal.returns-else-t-ne-STRETCH
+returns-else-t-ne-STRETCH c = search (rules, at_full)

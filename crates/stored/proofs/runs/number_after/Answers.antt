@@ -6,5 +6,5 @@ use Rattle.stored.proofs.runs.number_after.Goals as goal
 pub returns-then-t-eq-STRETCH : goal.returns-then-t-eq-STRETCH
 returns-then-t-eq-STRETCH c = search (rules, after_mark)
 
-pub returns : goal.returns
-returns c = search (rules, after_run)
+pub returns-else-t-eq-STRETCH : goal.returns-else-t-eq-STRETCH
+returns-else-t-eq-STRETCH c = search (rules, after_run)

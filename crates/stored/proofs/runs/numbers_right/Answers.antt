@@ -5,13 +5,13 @@ use borrow.Author.Rules.{rules}
 use Rattle.stored.proofs.runs.numbers_right.Goals as goal
 
 pub loop-j-init : goal.loop-j-init
-loop-j-init c = (search (rules, new_length), search rules, search (rules, at_first), search (rules, numbers_first))
+loop-j-init c = (search (rules, new_length), search (rules, at_first), search (rules, numbers_first))
 
-pub returns-else-number_right : goal.returns-else-number_right
-returns-else-number_right c = search (rules, numbers_not)
+pub returns-then-not-number_right : goal.returns-then-not-number_right
+returns-then-not-number_right c = search (rules, numbers_not)
 
 pub loop-j-preserved : goal.loop-j-preserved
-loop-j-preserved c = (search rules, search rules, search (rules, at_on), search (rules, numbers_next))
+loop-j-preserved c = (search rules, search (rules, at_on), search (rules, numbers_next))
 
 pub returns : goal.returns
 returns c = search (rules, numbers_end)

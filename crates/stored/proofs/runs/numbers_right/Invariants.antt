@@ -1,5 +1,5 @@
 -- The loop's invariant: all numbers are right exactly if those from record j on are; and where the reading stands (At).
-use Prim.Native.Nat.{◌≤◌, ◌-◌, ◌/◌, ◌%◌, ◌*◌}
+use Prim.Native.Nat.{◌%◌, ◌*◌}
 use mathlib.Core.Path.{◌≡◌}
 use lib.ListN.{length, drop}
 use Rattle.rules.specs.Stored.{right_numbers, right_from}
@@ -7,7 +7,4 @@ use Rattle.stored.proofs.NewPlaces.{At}
 use Rattle.stored.proofs.runs.numbers_right.Given as goal
 
 abbrev pub invariant-loop-j : goal.invariant-loop-j
-invariant-loop-j l = (length l.new % 5 ≡ 1) × (l.j ≤ length l.new / 5) × At l.new l.j l.t l.spans × (right_numbers l.new ≡ right_from l.t l.spans (drop (5 * l.j) l.new))
-
-abbrev pub decreases-loop-j : goal.decreases-loop-j
-decreases-loop-j l = length l.new / 5 - l.j
+invariant-loop-j l = (length l.new % 5 ≡ 1) × At l.new l.j l.t l.spans × (right_numbers l.new ≡ right_from l.t l.spans (drop (5 * l.j) l.new))

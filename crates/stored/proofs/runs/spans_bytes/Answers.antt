@@ -6,5 +6,5 @@ use Rattle.stored.proofs.runs.spans_bytes.Goals as goal
 pub returns-then-t-eq-STRETCH : goal.returns-then-t-eq-STRETCH
 returns-then-t-eq-STRETCH c = search (rules, bytes_mark)
 
-pub returns : goal.returns
-returns c = search (rules, bytes_spans)
+pub returns-else-t-eq-STRETCH : goal.returns-else-t-eq-STRETCH
+returns-else-t-eq-STRETCH c = search (rules, bytes_spans)

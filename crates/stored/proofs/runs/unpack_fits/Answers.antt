@@ -6,13 +6,13 @@ use borrow.Author.Rules.{rules}
 use Rattle.stored.proofs.runs.unpack_fits.Goals as goal
 
 pub loop-j-init : goal.loop-j-init
-loop-j-init c = (search (rules, new_length), search rules, search rules, search (rules, span_fit_first))
+loop-j-init c = (search (rules, new_length), search rules, search (rules, span_fit_first))
 
 pub returns-then-left-taken : goal.returns-then-left-taken
 returns-then-left-taken c = search (rules, span_fit_not)
 
 pub loop-j-preserved : goal.loop-j-preserved
-loop-j-preserved c = (search rules, search rules, search (rules, runs_below), search (rules, span_fit_next))
+loop-j-preserved c = (search rules, search (rules, runs_below), search (rules, span_fit_next))
 
 pub returns : goal.returns
 returns c = search (rules, span_fit_end)

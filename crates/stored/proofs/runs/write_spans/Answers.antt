@@ -6,13 +6,13 @@ use borrow.Author.Rules.{rules}
 use Rattle.stored.proofs.runs.write_spans.Goals as goal
 
 pub loop-j-init : goal.loop-j-init
-loop-j-init c = (search (rules, new_length), search rules, search rules, search (rules, all_first))
+loop-j-init c = (search (rules, new_length), search rules, search (rules, all_first))
 
 pub put_record_spans-at-requires : goal.put_record_spans-at-requires
 put_record_spans-at-requires c = (search rules, search (rules, all_room))
 
 pub loop-j-preserved : goal.loop-j-preserved
-loop-j-preserved c = (search rules, search rules, search (rules, runs_below), search (rules, all_next))
+loop-j-preserved c = (search rules, search (rules, runs_below), search (rules, all_next))
 
 pub put-requires : goal.put-requires
 put-requires c = search (rules, all_end_room)

@@ -1,6 +1,6 @@
 -- The loop's invariant: what is still to be written, written from here on, gives what the whole gives.
 -- Each turn writes the spans of a run.
-use Prim.Native.Nat.{◌≤◌, ◌-◌, ◌/◌, ◌%◌}
+use Prim.Native.Nat.{◌≤◌, ◌%◌}
 use mathlib.Core.Path.{◌≡◌}
 use lib.ListN.{length}
 use Rattle.rules.specs.Stored.{unpacked}
@@ -9,7 +9,4 @@ use Rattle.stored.proofs.Fits.{Writes}
 use Rattle.stored.proofs.runs.write_spans.Given as goal
 
 abbrev pub invariant-loop-j : goal.invariant-loop-j
-invariant-loop-j l = (length l.new % 5 ≡ 1) × (l.j ≤ length l.new / 5) × (l.t ≤ 64) × Writes l.initial.out (unpacked l.new) l.at (spans_left l.new l.j l.t) l.out
-
-abbrev pub decreases-loop-j : goal.decreases-loop-j
-decreases-loop-j l = length l.new / 5 - l.j
+invariant-loop-j l = (length l.new % 5 ≡ 1) × (l.t ≤ 64) × Writes l.initial.out (unpacked l.new) l.at (spans_left l.new l.j l.t) l.out

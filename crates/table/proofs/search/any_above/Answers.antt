@@ -1,13 +1,13 @@
--- The answers that the check does not find alone.
-use Rattle.table.proofs.SearchLaws.{above_here, above_next, above_none}
-use borrow.Author.Rules.{rules}
+-- What the iterator answers is what the rule's `any` says (SearchLaws).
+use mathlib.Core.Path.{◌∙◌}
+use lib.Dec.{ltb}
+use Rattle.std.proofs.Common.{rules, tests}
+use Rattle.std.proofs.lemmas.Iterator.{YieldsList-from_slice}
+use Rattle.std.proofs.lemmas.Iterator.Search.{any_from_yields_List}
+use Rattle.table.proofs.SearchLaws.{any_listed}
 use Rattle.table.proofs.search.any_above.Goals as goal
 
-pub returns-then-most-l : goal.returns-then-most-l
-returns-then-most-l c = search above_here
-
-pub loop-i-preserved : goal.loop-i-preserved
-loop-i-preserved c = (search rules, search above_next)
-
 pub returns : goal.returns
-returns c = search above_none
+returns c =
+    let l = c.args.l.now in
+    any_from_yields_List (ltb c.args.most) _ _ c.any.result c.any.ensures.ran (YieldsList-from_slice l cc) (λ x b q k. search (rules, tests)) ∙ any_listed (ltb c.args.most) l

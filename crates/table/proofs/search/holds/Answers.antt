@@ -1,15 +1,7 @@
--- The answers that the check does not find alone.
-use Rattle.rules.specs.Base.{◌or◌}
-use Rattle.laws.proofs.Basics.{any_go, any_done}
-use borrow.Author.Rules.{rules}
+-- What `contains` answers is what `has` says (SearchLaws).
+use mathlib.Core.Path.{◌∙◌}
+use Rattle.table.proofs.SearchLaws.{has_listed}
 use Rattle.table.proofs.search.holds.Goals as goal
 
-pub loop-i-init : goal.loop-i-init
-unfolding ◌or◌
-loop-i-init c = search rules
-
-pub loop-i-preserved : goal.loop-i-preserved
-loop-i-preserved c = (search rules, search (rules, any_go))
-
 pub returns : goal.returns
-returns c = search (rules, any_done)
+returns c = c.contains.ensures.value ∙ has_listed c.args.l.now c.args.r

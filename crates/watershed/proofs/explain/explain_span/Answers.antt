@@ -1,27 +1,22 @@
 -- A refusal is given before anything is written; else the outcome is that of a field that is not refused (ExplainLaws).
-use native.Mathlib.Omega.{arith}
-use Prim.Native.Nat.{ℕ, ◌<◌}
-use lib.ListN.{get_or}
 use Rattle.watershed.proofs.StageLaws.{areas_are_bytes}
 use Rattle.watershed.proofs.Why.{call_means}
 use Rattle.watershed.proofs.ExplainLaws.{outcome_refused, none_refused, outcome-told}
 use Rattle.watershed.proofs.explain.explain_span.Goals as goal
 
 pub returns-then-refusal-ne0 : goal.returns-then-refusal-ne0
-returns-then-refusal-ne0 c = let bytes : (j : ℕ) → get_or c.args.area.now j 0 < 256 = λ j. omega (arith, c.type_inv.area j) in
-    let e = outcome_refused _ _ _ _ _ c.args.workspace.now c.args.trail.now _ c.check_explain-refusal.ensures c.if-refusal-ne0.true _ (c.refused.ensures _ _) in
+returns-then-refusal-ne0 c = let e = outcome_refused _ _ _ _ _ c.args.workspace.now c.args.trail.now _ c.check_explain-refusal.ensures c.if-refusal-ne0.true _ (c.refused.ensures _ _) in
     record {
       trail_after = e;
-      means = call_means _ _ _ _ _ _ _ _ _ _ (areas_are_bytes _ _ _ _ _ _ bytes) e;
+      means = call_means _ _ _ _ _ _ _ _ _ _ (areas_are_bytes _ _ _ _ _ _ c.args.field.now.codes) e;
     }
 
 pub explain_found-requires : goal.explain_found-requires
 explain_found-requires c = none_refused _ _ _ (record { border = 0; least = 0; merge = 0 }) _ c.args.workspace.now c.args.trail.now _ c.check_explain-refusal.ensures c.if-refusal-ne0.false
 
 pub returns : goal.returns
-returns c = let bytes : (j : ℕ) → get_or c.args.area.now j 0 < 256 = λ j. omega (arith, c.type_inv.area j) in
-    let e = outcome-told _ _ _ _ _ c.args.workspace.now c.args.trail.now _ c.check_explain-refusal.ensures c.if-refusal-ne0.false _ c.explain_found.ensures in
+returns c = let e = outcome-told _ _ _ _ _ c.args.workspace.now c.args.trail.now _ c.check_explain-refusal.ensures c.if-refusal-ne0.false _ c.explain_found.ensures in
     record {
       trail_after = e;
-      means = call_means _ _ _ _ _ _ _ _ _ _ (areas_are_bytes _ _ _ _ _ _ bytes) e;
+      means = call_means _ _ _ _ _ _ _ _ _ _ (areas_are_bytes _ _ _ _ _ _ c.args.field.now.codes) e;
     }

@@ -1,8 +1,7 @@
 -- Each number is the rule's.
-use mathlib.Core.Path.{refl}
 use Rattle.rules.specs.Reasons.{unexplained}
 use Rattle.watershed.proofs.explain.refused.Goals as goal
 
 pub returns : goal.returns
 unfolding unexplained
-returns c = λ ws l. refl
+returns c = λ ws l. cc

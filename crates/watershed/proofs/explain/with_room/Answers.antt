@@ -1,8 +1,7 @@
 -- Each number is the rule's.
-use mathlib.Core.Path.{refl}
 use Rattle.watershed.specs.Explain.{with_room}
 use Rattle.watershed.proofs.explain.with_room.Goals as goal
 
 pub returns : goal.returns
 unfolding with_room
-returns c = λ l. refl
+returns c = λ l. cc

@@ -1,8 +1,7 @@
 -- Each number is the rule's.
-use mathlib.Core.Path.{refl}
 use Rattle.watershed.specs.Explain.{without_room}
 use Rattle.watershed.proofs.explain.without_room.Goals as goal
 
 pub returns : goal.returns
 unfolding without_room
-returns c = λ l. refl
+returns c = λ l. cc

@@ -1,6 +1,7 @@
 -- The ids stand past the table, which growth leaves alone, so they can be put back where it is stopped (StageLaws).
 use native.Mathlib.Omega.{arith}
-use mathlib.Core.Path.{refl, ◌∙◌}
+use mathlib.Core.Path.{refl, sym, ◌∙◌}
+use Rattle.growth.proofs.Stopped.{err_stops, ok_goes}
 use Rattle.watershed.proofs.StageLaws.{few, kept_room, poised, raised, put_back}
 use Rattle.watershed.proofs.regions.grow_regions.Goals as goal
 
@@ -33,20 +34,21 @@ put_back-requires c = omega (
   c.copy_part.auto.ws,
 )
 
-pub shape_of-ws-then-g-ne-GOES_ON : goal.shape_of-ws-then-g-ne-GOES_ON
-shape_of-ws-then-g-ne-GOES_ON c = c.grow-g.auto.ws ∙ c.clear_part.auto.ws ∙ c.copy_part.auto.ws
+pub shape_of-ws-then-is_err : goal.shape_of-ws-then-is_err
+shape_of-ws-then-is_err c = c.grow-g.auto.ws ∙ c.clear_part.auto.ws ∙ c.copy_part.auto.ws
 
-pub returns-then-g-ne-GOES_ON : goal.returns-then-g-ne-GOES_ON
-returns-then-g-ne-GOES_ON c = let size = c.grow-g.auto.ids ∙ c.clear.auto.s in
+pub returns-then-is_err : goal.returns-then-is_err
+returns-then-is_err c = let size = c.grow-g.auto.ids ∙ c.clear.auto.s in
+    let stopped = err_stops _ (sym c.is_err.ensures.value ∙ c.if-is_err.true) in
     record {
       fact = put_back _ _ _ _ _ _ _ _ _ c.requires.0 _ c.requires.1 _ refl _ c.copy_part.auto.ws c.copy_part.ensures.0 _ c.clear_part.auto.ws c.clear_part.ensures.1
-          _ _ _ _ _ _ c.grow-g.ensures.fact c.grow-g.auto.ws _ _ size c.put_back.ensures c.if-g-ne-GOES_ON.true;
-      story_value = λ o. absurd (c.if-g-ne-GOES_ON.true o);
+          _ _ _ _ _ _ c.grow-g.ensures.fact c.grow-g.auto.ws _ _ size c.put_back.ensures stopped;
+      story_value = λ o. absurd (stopped o);
     }
 
-pub returns-else-g-ne-GOES_ON : goal.returns-else-g-ne-GOES_ON
-returns-else-g-ne-GOES_ON c = record {
+pub returns-else-is_err : goal.returns-else-is_err
+returns-else-is_err c = record {
   fact = raised _ _ _ _ _ _ _ _ _ c.requires.0 _ c.requires.1 _ refl _ c.copy_part.auto.ws c.copy_part.ensures.0 _ c.clear_part.auto.ws c.clear_part.ensures.1
-      _ _ _ _ _ _ c.grow-g.ensures.fact c.grow-g.auto.ws c.if-g-ne-GOES_ON.false;
+      _ _ _ _ _ _ c.grow-g.ensures.fact c.grow-g.auto.ws (ok_goes _ (sym c.is_err.ensures.value ∙ c.if-is_err.false));
   story_value = c.grow-g.ensures.story_value;
 }

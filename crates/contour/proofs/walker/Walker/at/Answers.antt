@@ -5,7 +5,7 @@ use borrow.Author.Rules.{rules}
 use Rattle.contour.proofs.walker.Walker.at.Goals as goal
 
 pub returns-then-self-span : goal.returns-then-self-span
-returns-then-self-span c = search (rules, back_no)
+returns-then-self-span c = search (rules, back_dir)
 
-pub returns : goal.returns
-returns c = search (rules, back_dir)
+pub returns-else-self-span : goal.returns-else-self-span
+returns-else-self-span c = search (rules, back_no)

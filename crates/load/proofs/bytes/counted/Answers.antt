@@ -1,8 +1,0 @@
--- `bytes::counted` meets its contract: three numbers are set, the others stay.
-use Rattle.rules.specs.Load.{counted}
-use borrow.Author.Rules.{rules}
-use Rattle.load.proofs.bytes.counted.Goals as goal
-
-pub returns : goal.returns
-unfolding counted
-returns c = search rules

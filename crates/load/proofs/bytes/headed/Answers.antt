@@ -1,9 +1,0 @@
--- `bytes::headed` meets its contract: over the limit it is refused at its kind byte.
-use Rattle.load.proofs.Ways.{headed-over, headed_fits}
-use Rattle.load.proofs.bytes.headed.Goals as goal
-
-pub returns-then-l-product : goal.returns-then-l-product
-returns-then-l-product c = search headed-over
-
-pub returns : goal.returns
-returns c = search headed_fits

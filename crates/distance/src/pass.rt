@@ -18,7 +18,11 @@ fn lower(raw: &[u16], t: usize, n: u16, best: u16) -> u16
     requires { (t < length raw.now) × (get_or raw.now t 0 ≤ 510) × (n ≤ 3) }
     ensures { result ≡ min best (get_or raw.now t 0 + n) }
 {
-    best.min(raw[t] + n)
+    let v = raw[t] + n;
+    if best <= v {
+        return best;
+    }
+    v
 }
 
 // The least of best, neighbour d plus 2, and its neighbour e plus 3, of the span at place p, whose connections are cons; neighbour d is there.

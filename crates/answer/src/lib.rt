@@ -174,10 +174,3 @@ pub fn reply(bytes: &[u8], out: &mut [u8]) -> usize
         out,
     )
 }
-
-// Prints what is printed for a file.
-pub fn print_reply(rt: &impl Print, bytes: &[u8]) -> Result<()> {
-    let mut out = [0u8; 4096];
-    let n = reply(bytes, &mut out);
-    rt.write_all(&out[..n])
-}

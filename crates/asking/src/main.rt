@@ -14,7 +14,7 @@ ghost use Rattle.std.specs.Prelude.{◌≤◌};
 
 use crate::place::Asked;
 use crate::whole::tell_file;
-use console::{arg, arg_count, buffer, fail, number, read_first, tell_place};
+use console::{arg, arg_count, buffer, fail, number, read_first};
 use file::read::place;
 use std::io::{Read, Result};
 use std::rt::Env;
@@ -29,7 +29,10 @@ fn tell_input(
     match read_first(from, &mut bytes) {
         Ok(n) => {
             tell_file(rt, &bytes[..n], asked)?;
-            tell_place(rt, place(&bytes[..n]))
+            match place(&bytes[..n]) {
+                Some(p) => eprintln!(rt; "position {p}"),
+                None => Ok(()),
+            }
         }
         Err(e) => fail(rt, "standard input", &e),
     }

@@ -4,7 +4,6 @@ ghost use Rattle.file.specs.Reads.{Few, Lists};
 
 use crate::place::{Asked, Missing, find};
 use crate::print::{print_number, print_told, print_two};
-use console::print_refused;
 use field::lent::Heightfield;
 use file::read::{Header, read_file};
 use std::io::Result;
@@ -32,7 +31,7 @@ fn tell_span(
         trail,
     );
     if e.refusal != 0 {
-        return print_refused(rt, e.refusal);
+        return println!(rt; "refused {}", e.refusal);
     }
     print_told(rt, field, e, trail)
 }
@@ -51,7 +50,7 @@ fn tell_field(
 {
     let most = match build_distance_field(field, raw, blurred) {
         Ok(m) => m,
-        Err(r) => return print_refused(rt, r.number()),
+        Err(r) => return println!(rt; "refused {}", r.number()),
     };
     match find(asked, field) {
         Ok(span) => tell_span(rt, field, head, span, blurred, most, workspace, trail),
@@ -106,7 +105,7 @@ pub(crate) fn tell_file(rt: &impl Print, bytes: &[u8], asked: Asked) -> Result<(
     let mut area = [0u8; 200];
     let mut con = [0u8; 800];
     match read_file(bytes, &mut index, &mut count, &mut area, &mut con) {
-        Err(r) => print_refused(rt, r.number()),
+        Err(r) => println!(rt; "refused {}", r.number()),
         Ok((head, n)) => tell_first(rt, head, n, asked, &index, &count, &area, &con),
     }
 }

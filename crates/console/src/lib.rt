@@ -125,19 +125,6 @@ pub fn fail(rt: &(impl Eprint + Alloc), what: &str, error: &Error) -> Result<()>
     eprintln!(rt; "{what}: {text}")
 }
 
-// The line of a refusal.
-pub fn print_refused(rt: &impl Print, n: u16) -> Result<()> {
-    println!(rt; "refused {n}")
-}
-
-// On standard error, the place where a file is refused, if it is.
-pub fn tell_place(rt: &impl Eprint, at: Option<u32>) -> Result<()> {
-    match at {
-        Some(p) => eprintln!(rt; "position {p}"),
-        None => Ok(()),
-    }
-}
-
 #[cfg(test)]
 mod tests {
     use super::*;

@@ -1,4 +1,5 @@
-// Bytes written from a place on. Each function gives the place after what it wrote: list and place are no struct, since the crates above write by `put` in this form.
+// Bytes written from a place on. Each function gives the place after what it wrote.
+// List and place are no struct, since the crates above write by `put` in this form.
 ghost use Rattle.std.specs.Prelude.{◌≡◌, [], ◌∷◌};
 ghost use Rattle.rules.specs.Listing.{decimal};
 ghost use Rattle.file.specs.Written.{Room, Wrote};

@@ -14,6 +14,7 @@ ghost use Rattle.rules.specs.Outcomes.{Sizes, distance_outcome, region_outcome};
 ghost use Rattle.rules.specs.Mend.{mend_outcome};
 ghost use Rattle.rules.specs.Refresh.{stages_outcome};
 ghost use Rattle.field.specs.Lent.{lent};
+ghost use Rattle.field.specs.Seen.{seen};
 ghost use Rattle.mend.specs.Answer.{mend_refused_by, changes_in};
 ghost use Rattle.refresh.specs.Answer.{rect, stages_refused_by, stages_most_in};
 ghost use Rattle.refresh.specs.Into.{GivesInto};
@@ -52,6 +53,27 @@ pub struct Regions {
 pub struct Mending {
     pub refusal: u32,
     pub count: u32,
+}
+
+// The lists that C lends, as one value.
+fn lend<'a>(
+    w: u16,
+    h: u16,
+    index: &'a [u32],
+    count: &'a [u8],
+    area: &'a [u8],
+    con: &'a [u8],
+) -> Heightfield<'a>
+    ensures { seen result ≡ lent w h index.now count.now area.now con.now }
+{
+    Heightfield {
+        w: w as usize,
+        h: h as usize,
+        index,
+        count,
+        area,
+        con,
+    }
 }
 
 fn numbers(a: Result<u16, Refusal>) -> Distances
@@ -121,14 +143,7 @@ pub extern "C" fn gussetraft_build_distance_field(
     ensures meaning { let F = lent w h index.now count.now area.now con.now in
         LeavesDistances F result raw.new blurred.new }
 {
-    let field = Heightfield {
-        w: w as usize,
-        h: h as usize,
-        index,
-        count,
-        area,
-        con,
-    };
+    let field = lend(w, h, index, count, area, con);
     numbers(build_distance_field(&field, raw, blurred))
 }
 
@@ -155,14 +170,7 @@ pub extern "C" fn gussetraft_build_regions(
     ensures rooms { let F = lent w h index.now count.now area.now con.now in
         LeavesRooms dense F border_size result ids.new }
 {
-    let field = Heightfield {
-        w: w as usize,
-        h: h as usize,
-        index,
-        count,
-        area,
-        con,
-    };
+    let field = lend(w, h, index, count, area, con);
     let answer = build_regions(
         &field,
         dist,
@@ -199,14 +207,7 @@ pub extern "C" fn gussetraft_build_regions_compared(
     ensures rooms { let F = lent w h index.now count.now area.now con.now in
         LeavesRooms compared F border_size result ids.new }
 {
-    let field = Heightfield {
-        w: w as usize,
-        h: h as usize,
-        index,
-        count,
-        area,
-        con,
-    };
+    let field = lend(w, h, index, count, area, con);
     let compared = build_regions_compared(
         &field,
         dist,
@@ -253,14 +254,7 @@ pub extern "C" fn gussetraft_build_distance_stages(
         let o = stages_outcome F pass1.old raw.old blurred.old in
         GivesStages o result pass1.new raw.new blurred.new }
 {
-    let field = Heightfield {
-        w: w as usize,
-        h: h as usize,
-        index,
-        count,
-        area,
-        con,
-    };
+    let field = lend(w, h, index, count, area, con);
     numbers(build_distance_stages(&field, pass1, raw, blurred))
 }
 
@@ -286,13 +280,6 @@ pub extern "C" fn gussetraft_refresh_distance_field_into(
         GivesInto F (rect x0 z0 x1 z1) pass1.old raw.old blurred.old answer.old
         result pass1.new raw.new blurred.new answer.new }
 {
-    let field = Heightfield {
-        w: w as usize,
-        h: h as usize,
-        index,
-        count,
-        area,
-        con,
-    };
+    let field = lend(w, h, index, count, area, con);
     refresh_into(&field, x0, z0, x1, z1, pass1, raw, blurred, answer)
 }

@@ -5,8 +5,8 @@ ghost use Rattle.field.specs.Lent.{lent};
 ghost use Rattle.plain.specs.Answer.{rooms_refused_by, rooms_most_in};
 ghost use Rattle.gussetraft.specs.PlainRooms.{GivesRooms, LeavesPlainRooms};
 
+use crate::lend;
 use checker::Refusal;
-use field::lent::Heightfield;
 use plain::build_rooms;
 
 // The answer of the entry: 0 or the refusal number, and max_region.
@@ -50,13 +50,6 @@ pub extern "C" fn gussetraft_build_rooms(
     ensures rooms { let F = lent w h index.now count.now area.now con.now in
         LeavesPlainRooms F border_size result ids.new }
 {
-    let field = Heightfield {
-        w: w as usize,
-        h: h as usize,
-        index,
-        count,
-        area,
-        con,
-    };
+    let field = lend(w, h, index, count, area, con);
     rooms_numbers(build_rooms(&field, border_size, workspace, ids))
 }

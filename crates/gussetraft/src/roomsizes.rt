@@ -3,7 +3,7 @@
 ghost use Rattle.field.specs.Lent.{lent};
 ghost use Rattle.sizes.specs.Into.{GivesInto};
 
-use field::lent::Heightfield;
+use crate::lend;
 use sizes::into::measure_into;
 
 #[unsafe(no_mangle)]
@@ -25,13 +25,6 @@ pub extern "C" fn gussetraft_measure_room_into(
         GivesInto F ids.now max_region k id sizes.old numbers.old
         result sizes.new numbers.new }
 {
-    let field = Heightfield {
-        w: w as usize,
-        h: h as usize,
-        index,
-        count,
-        area,
-        con,
-    };
+    let field = lend(w, h, index, count, area, con);
     measure_into(&field, ids, max_region, k, id, sizes, numbers)
 }

@@ -4,7 +4,7 @@ ghost use Rattle.rules.specs.Outcomes.{Sizes};
 ghost use Rattle.field.specs.Lent.{lent};
 ghost use Rattle.watershed.specs.Into.{ExplainsInto, ExplainsMeant};
 
-use field::lent::Heightfield;
+use crate::lend;
 use watershed::into::explain_into;
 
 #[unsafe(no_mangle)]
@@ -33,14 +33,7 @@ pub extern "C" fn gussetraft_explain_span_into(
         let z : Sizes = record { border = border_size; least = min_region_area; merge = merge_region_area } in
         ExplainsMeant F dist.now max_distance z span workspace.old trail.old answer.old result) }
 {
-    let field = Heightfield {
-        w: w as usize,
-        h: h as usize,
-        index,
-        count,
-        area,
-        con,
-    };
+    let field = lend(w, h, index, count, area, con);
     explain_into(
         &field,
         dist,

@@ -4,12 +4,18 @@
 
 #![tactic(auto)]
 
-use answer::print_reply;
-use console::{arg_count, arg_text, buffer, fail, read_first, tell_place};
+use answer::reply;
+use console::{arg_count, arg_text, buffer, fail, read_first};
 use file::read::place;
 use std::fs;
 use std::io::{Read, Result};
 use std::rt::{Env, Files};
+
+fn print_reply(rt: &impl Print, bytes: &[u8]) -> Result<()> {
+    let mut out = [0u8; 4096];
+    let n = reply(bytes, &mut out);
+    rt.write_all(&out[..n])
+}
 
 // A read that fails is told, by name.
 fn print_file(rt: &(impl Print + Eprint + Alloc), from: &mut impl Read, name: &str) -> Result<()> {
@@ -17,7 +23,10 @@ fn print_file(rt: &(impl Print + Eprint + Alloc), from: &mut impl Read, name: &s
     match read_first(from, &mut bytes) {
         Ok(n) => {
             print_reply(rt, &bytes[..n])?;
-            tell_place(rt, place(&bytes[..n]))
+            match place(&bytes[..n]) {
+                Some(p) => eprintln!(rt; "position {p}"),
+                None => Ok(()),
+            }
         }
         Err(e) => fail(rt, name, &e),
     }

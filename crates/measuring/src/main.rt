@@ -11,7 +11,7 @@ mod whole;
 ghost use Rattle.std.specs.Prelude.{◌≤◌};
 
 use crate::whole::print_file;
-use console::{arg, arg_count, buffer, fail, number, read_first, tell_place};
+use console::{arg, arg_count, buffer, fail, number, read_first};
 use file::read::place;
 use std::io::{Read, Result};
 use std::rt::Env;
@@ -22,7 +22,10 @@ fn print_input(rt: &(impl Print + Eprint + Alloc), from: &mut impl Read, k: u16)
     match read_first(from, &mut bytes) {
         Ok(n) => {
             print_file(rt, &bytes[..n], k)?;
-            tell_place(rt, place(&bytes[..n]))
+            match place(&bytes[..n]) {
+                Some(p) => eprintln!(rt; "position {p}"),
+                None => Ok(()),
+            }
         }
         Err(e) => fail(rt, "standard input", &e),
     }

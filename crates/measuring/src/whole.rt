@@ -3,7 +3,6 @@ ghost use Rattle.std.specs.Prelude.{◌≤◌, length, Ok};
 ghost use Rattle.file.specs.Reads.{Few, Lists};
 
 use crate::print::print_room;
-use console::print_refused;
 use field::lent::Heightfield;
 use file::read::{Header, read_file};
 use sizes::measure_room;
@@ -15,7 +14,7 @@ fn print_rooms(rt: &impl Print, field: &Heightfield, ids: &[u16], most: u16, k: 
     for id in 1..=most {
         match measure_room(field, ids, most, k, id) {
             Ok(room) => print_room(rt, id, room)?,
-            Err(r) => return print_refused(rt, r.number()),
+            Err(r) => return println!(rt; "refused {}", r.number()),
         }
     }
     Ok(())
@@ -42,7 +41,7 @@ fn print_regions(
         ids,
     ) {
         Ok(r) => print_rooms(rt, field, ids, r.max_region, k),
-        Err(r) => print_refused(rt, r.number()),
+        Err(r) => println!(rt; "refused {}", r.number()),
     }
 }
 
@@ -58,7 +57,7 @@ fn print_field(
 ) -> Result<()> {
     match build_distance_field(field, raw, blurred) {
         Ok(m) => print_regions(rt, field, head, k, blurred, m, workspace, ids),
-        Err(r) => print_refused(rt, r.number()),
+        Err(r) => println!(rt; "refused {}", r.number()),
     }
 }
 
@@ -108,7 +107,7 @@ pub(crate) fn print_file(rt: &impl Print, bytes: &[u8], k: u16) -> Result<()> {
     let mut area = [0u8; 200];
     let mut con = [0u8; 800];
     match read_file(bytes, &mut index, &mut count, &mut area, &mut con) {
-        Err(r) => print_refused(rt, r.number()),
+        Err(r) => println!(rt; "refused {}", r.number()),
         Ok((head, n)) => print_first(rt, head, n, k, &index, &count, &area, &con),
     }
 }

@@ -11,7 +11,7 @@ ghost use Rattle.std.specs.Prelude.{◌+◌, ◌*◌, ◌≤◌, ◌<◌, length
 
 use crate::patch::{Spot, spot_of};
 use crate::whole::mend_file;
-use console::{buffer, fail, print_refused, read_first, tell_place};
+use console::{buffer, fail, read_first};
 use file::read::place;
 use std::io::Result;
 
@@ -61,8 +61,11 @@ fn print_mended(rt: &(impl Print + Eprint), bytes: &mut [u8]) -> Result<()> {
         &mut changes,
     ) {
         Err(r) => {
-            print_refused(rt, r.number())?;
-            tell_place(rt, place(bytes))
+            println!(rt; "refused {}", r.number())?;
+            match place(bytes) {
+                Some(p) => eprintln!(rt; "position {p}"),
+                None => Ok(()),
+            }
         }
         Ok(m) => {
             rt.write_all(bytes)?;

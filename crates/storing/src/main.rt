@@ -12,7 +12,7 @@ ghost use Rattle.std.specs.Prelude.{◌≤◌};
 
 use crate::read::{print_id, span};
 use crate::whole::print_file;
-use console::{arg, arg_count, buffer, fail, read_first, tell_place};
+use console::{arg, arg_count, buffer, fail, read_first};
 use file::read::place;
 use std::io::{Read, Result};
 use std::rt::Env;
@@ -23,7 +23,10 @@ fn store_input(rt: &(impl Print + Eprint + Alloc), from: &mut impl Read) -> Resu
     match read_first(from, &mut bytes) {
         Ok(n) => {
             print_file(rt, &bytes[..n])?;
-            tell_place(rt, place(&bytes[..n]))
+            match place(&bytes[..n]) {
+                Some(p) => eprintln!(rt; "position {p}"),
+                None => Ok(()),
+            }
         }
         Err(e) => fail(rt, "standard input", &e),
     }

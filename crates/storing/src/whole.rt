@@ -2,7 +2,6 @@
 ghost use Rattle.std.specs.Prelude.{◌≤◌, length, Ok};
 ghost use Rattle.file.specs.Reads.{Few, Lists};
 
-use console::print_refused;
 use field::lent::Heightfield;
 use file::read::{Header, read_file};
 use std::io::Result;
@@ -61,7 +60,7 @@ fn print_regions(
         ids,
     ) {
         Ok(_) => print_stored(rt, ids),
-        Err(r) => print_refused(rt, r.number()),
+        Err(r) => println!(rt; "refused {}", r.number()),
     }
 }
 
@@ -78,7 +77,7 @@ fn print_field(
 {
     match build_distance_field(field, raw, blurred) {
         Ok(m) => print_regions(rt, field, head, blurred, m, workspace, ids),
-        Err(r) => print_refused(rt, r.number()),
+        Err(r) => println!(rt; "refused {}", r.number()),
     }
 }
 
@@ -126,7 +125,7 @@ pub(crate) fn print_file(rt: &impl Print, bytes: &[u8]) -> Result<()> {
     let mut area = [0u8; 200];
     let mut con = [0u8; 800];
     match read_file(bytes, &mut index, &mut count, &mut area, &mut con) {
-        Err(r) => print_refused(rt, r.number()),
+        Err(r) => println!(rt; "refused {}", r.number()),
         Ok((head, n)) => print_first(rt, head, n, &index, &count, &area, &con),
     }
 }

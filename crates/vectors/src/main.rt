@@ -3,9 +3,15 @@
 
 #![tactic(auto)]
 
-use answer::print_reply;
+use answer::reply;
 use console::read_full;
 use std::io::{Read, Result};
+
+fn print_reply(rt: &impl Print, bytes: &[u8]) -> Result<()> {
+    let mut out = [0u8; 4096];
+    let n = reply(bytes, &mut out);
+    rt.write_all(&out[..n])
+}
 
 // The next file, as long as bytes. Gives whether it was there.
 fn print_next(rt: &(impl Print + Eprint), from: &mut impl Read, bytes: &mut [u8]) -> Result<bool> {

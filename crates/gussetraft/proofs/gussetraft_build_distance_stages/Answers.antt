@@ -3,4 +3,4 @@ use Rattle.gussetraft.proofs.Apart.{gives_stages}
 use Rattle.gussetraft.proofs.gussetraft_build_distance_stages.Goals as goal
 
 pub returns : goal.returns
-returns c = search gives_stages
+returns c = rw (← c.lend-field.ensures) (search gives_stages)

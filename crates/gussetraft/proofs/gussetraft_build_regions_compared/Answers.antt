@@ -4,6 +4,6 @@ use Rattle.gussetraft.proofs.gussetraft_build_regions_compared.Goals as goal
 
 pub returns : goal.returns
 returns c = record {
-  fact = gives-regions _ _ _ _ _ c.build_regions_compared-compared.ensures.fact c.region_numbers.ensures.0 c.region_numbers.ensures.1 c.region_numbers.ensures.2 c.region_numbers.ensures.3;
-  rooms = leaves_rooms _ _ _ _ _ _ c.build_regions_compared-compared.ensures.rooms c.region_numbers.ensures.0 c.region_numbers.ensures.1;
+  fact = rw (← c.lend-field.ensures) (gives-regions _ _ _ _ _ c.build_regions_compared-compared.ensures.fact c.region_numbers.ensures.0 c.region_numbers.ensures.1 c.region_numbers.ensures.2 c.region_numbers.ensures.3);
+  rooms = rw (← c.lend-field.ensures) (leaves_rooms _ _ _ _ _ _ c.build_regions_compared-compared.ensures.rooms c.region_numbers.ensures.0 c.region_numbers.ensures.1);
 }

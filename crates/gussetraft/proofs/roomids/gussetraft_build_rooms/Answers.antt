@@ -4,6 +4,6 @@ use Rattle.gussetraft.proofs.roomids.gussetraft_build_rooms.Goals as goal
 
 pub returns : goal.returns
 returns c = record {
-  fact = search gives_rooms;
-  rooms = search leaves-plain_rooms;
+  fact = rw (← c.lend-field.ensures) (search gives_rooms);
+  rooms = rw (← c.lend-field.ensures) (search leaves-plain_rooms);
 }

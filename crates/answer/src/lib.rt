@@ -12,7 +12,6 @@ ghost use Rattle.answer.specs.Answers.{Buffers, Fitting, Own, second};
 use field::lent::Heightfield;
 use file::read::{Header, read_file};
 use file::write::{write_listing, write_refused};
-use std::io::Result;
 use watershed::{build_distance_field, build_regions};
 
 // The region entry, and its answer printed.

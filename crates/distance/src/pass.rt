@@ -10,7 +10,7 @@ ghost use Rattle.field.specs.Seen.{seen};
 
 use crate::start::{FARTHEST, start_span, surrounded};
 use field::block::{block_of, is_empty};
-use field::lent::Heightfield;
+use field::lent::{Heightfield, codes_are_bytes};
 use field::place::{NO_LAYER, Place, SpanIx, connections, follow};
 
 // The least of best and the value of span t plus n.
@@ -128,6 +128,7 @@ fn from_start(field: &Heightfield, raw: &[u16], p: Place) -> u16
     ensures { let F = seen field.now in
         result ≡ least_from F (rules.start_at F p.span.0) 0 3 3 2 p.span.0 raw.now }
 {
+    codes_are_bytes(field.area);
     let cons = connections(field.con, p.span);
     if !surrounded(cons) {
         return 0;
@@ -142,6 +143,7 @@ fn pass1_cell(field: &Heightfield, raw: &mut [u16], x: usize, y: usize)
     ensures { let F = seen field.now in
         (raw.new ≡ over_cell F (from_start F) (F.w * y + x) raw.old) × Passing F y (x + 1) raw.new }
 {
+    codes_are_bytes(field.area);
     let c = field.w * y + x;
     let i = field.index[c] as usize;
     let k = field.count[c] as usize;
@@ -203,6 +205,7 @@ fn edges(field: &Heightfield, raw: &mut [u16], s: usize) -> Option<usize>
         let at = run_end (length F.area) result in
         (raw.new ≡ spans_up (from_start F) s (at - s) raw.old) × PassedTo F at raw.new × (s ≤ at) × Goes (length F.area) F.con result }
 {
+    codes_are_bytes(field.area);
     for k in s..field.area.len() {
         let cons = connections(field.con, SpanIx(k));
         if surrounded(cons) {
@@ -223,6 +226,7 @@ pub fn pass1(field: &Heightfield, raw: &mut [u16], cells: &[u16])
 {
     // A copy of its own, so that the compiler keeps it in registers.
     let field = &{ *field };
+    codes_are_bytes(field.area);
     let mut next = edges(field, raw, 0);
     while let Some(s) = next {
         let p = Place {

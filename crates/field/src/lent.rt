@@ -11,6 +11,9 @@ pub struct Heightfield<'a> {
     pub count: &'a [u8],
     pub area: &'a [u8],
     pub con: &'a [u8],
-    // An area code is a byte.
-    ghost codes: { (i : ℕ) → get_or area.now i 0 < 256 },
 }
+
+// An area code is a byte. It does nothing: a proof does not see it of a list within a struct, and asks here.
+pub fn codes_are_bytes(area: &[u8])
+    ensures { (i : ℕ) → get_or area.now i 0 < 256 }
+{}

@@ -157,6 +157,8 @@ fn mend_cells(grid: &Grid, con: &mut [u8], changes: &mut [u16], room: usize) -> 
         state con.new changes.new result
         ≡ walk (bare G) room 0 (4 * length G.area.now) (state con.old changes.old 0) }
 {
+    // A copy of its own, so that the compiler keeps it in registers while connections are written.
+    let grid = &{ *grid };
     let mut found: usize = 0;
     for c in 0..grid.count.len() {
         found = mend_cell(grid, con, changes, room, c, found);
@@ -177,6 +179,9 @@ fn mend_all(grid: &Grid, con: &mut [u8], changes: &mut [u16]) -> Result<u32, Men
     let made = mend_cells(grid, con, changes, room);
     Ok(made as u32)
 }
+
+// The first refusal that is about connections.
+const LINKS: u16 = 5;
 
 // The entry: any input; how many connections were set to none. A sound field is left as it is after the checker's one pass.
 // Of the refusals that the checker gives, those past 4 are about connections, and are what is mended: so no `?` on the checker's answer.
@@ -206,7 +211,7 @@ pub fn mend(
     match check(&field, n, n) {
         Ok(()) => Ok(0),
         Err(r) => {
-            if r.number() < 5 {
+            if r.number() < LINKS {
                 return Err(MendRefusal::Field(r));
             }
             let grid = Grid {

@@ -15,7 +15,7 @@ ghost use Rattle.field.specs.Seen.{seen};
 
 use crate::fill::number_rooms;
 use checker::{Refusal, check};
-use field::lent::Heightfield;
+use field::lent::{Heightfield, codes_are_bytes};
 use net::fill::fill_neighbours;
 use paint::paint_border;
 use space::{clear, copy, copy_part};
@@ -84,6 +84,7 @@ pub fn build_rooms(
     ensures rooms { let F = seen field.now in
         GivesPlainRooms F border_size result ids.new }
 {
+    codes_are_bytes(field.area);
     check_rooms(field, workspace.len(), ids.len())?;
     let most = find_rooms(field, border_size, workspace, ids);
     clear(workspace);

@@ -48,7 +48,7 @@ pub(crate) fn remove_adjacent_neighbours(l: &mut [u16]) -> usize
 pub fn many(l: &[u16], r: u16) -> usize
     ensures { result ≡ many (eqb r) l.now }
 {
-    l.iter().filter(|x| **x == r).count()
+    l.iter().map(|x| (*x == r) as usize).sum()
 }
 
 // Every old becomes new.

@@ -13,7 +13,7 @@ use lib.Dec.{eqb, ltb}
 use borrow.Author.Tests.{eqb-true}
 use mathlib.Core.Logic.{⊎_elim}
 use Rattle.rules.specs.Base.{◌and◌, ◌or◌, when◌then◌else◌, upto, tab}
-use Rattle.rules.specs.Field.{Field, spans, cell_of}
+use Rattle.rules.specs.Field.{Field, spans, cell_of, none}
 use Rattle.rules.specs.Net.{Net, net_of}
 use Rattle.rules.specs.Growth.{plain}
 use Rattle.rules.specs.Contour.{first_solid, contour, cut_short}
@@ -33,7 +33,6 @@ use Rattle.contour.proofs.Areas.{ways_areas}
 use Rattle.contour.proofs.WalkLaws.{ways_same}
 use Rattle.table.specs.View.{part, start_of, end_of, list_at, rec_at, recs_of, Held}
 use Rattle.table.proofs.ViewLaws.{view_by, view-length, part_none, rec_eq, recs_at}
-use Rattle.std.proofs.Common.{Option}
 use Rattle.records.specs.Cell.{twins, others_from, Lies, Alike, as_many_from, LooksTo}
 use Rattle.records.specs.Rows.{mine, Row, Keeping, Known, Step, plus_one, overlaid, floored, celled, contoured, traced, traced_cut}
 use Rattle.records.specs.Fresh.{Renewed}
@@ -207,12 +206,13 @@ module _ (plan : Plan) (ar cs ids : List ℕ) (cell : Spans) (top : ℕ) (ws₀ 
     }
 
     -- of a prior cell what is known stays known
-    pub entered_knowing : (prior : Option ℕ) → KnowingFrom ids plan.records cell prior ws₀ → KnowingFrom ids plan.records cell prior ws
+    pub entered_knowing : (prior : ℕ) → KnowingFrom ids plan.records cell prior ws₀ → KnowingFrom ids plan.records cell prior ws
     entered_knowing prior k = record {
-      knowing = λ p n. record {
-        known = rw D.same (known_run _ ids cell (as_many_from p cell) j (recs_of ws₀ plan.records) (k.knowing p n).known);
-        lies = (k.knowing p n).lies;
+      knowing = λ n. record {
+        known = rw D.same (known_run _ ids cell (as_many_from prior cell) j (recs_of ws₀ plan.records) (k.knowing n).known);
+        lies = (k.knowing n).lies;
       };
+      place = k.place;
     }
 
     pub entered_room : cell.from + j < most_spans
@@ -243,14 +243,21 @@ module _ (plan : Plan) (ar cs ids : List ℕ) (cell last : Spans) (top : ℕ) (w
   ]
 
   -- of the cell that is looked back to
-  pub know_from : (prior : Option ℕ) → LooksTo ids last cell prior → KnowingFrom ids plan.records cell prior ws
-  know_from prior L = record {
-    knowing = λ p n. ⊎_elim
-        (λ (w : (p ≡ cell.from) × (1 < cell.size → Alike ids last cell)).
+  pub know_from : 0 < cell.size → (prior : ℕ) → LooksTo ids last cell prior → KnowingFrom ids plan.records cell prior ws
+  know_from h prior L = record {
+    knowing = λ n. ⊎_elim
+        (λ (w : (prior ≡ cell.from) × (1 < cell.size → Alike ids last cell)).
         rw w.0 (record { known = know_enter w.1; lies = cell_lies }))
-        (λ (w : (p ≡ last.from) × (last.size ≡ cell.size)).
+        (λ (w : (prior ≡ last.from) × (last.size ≡ cell.size)).
         rw (w.0, ← w.1) k)
-        (L.seen p n);
+        (L.seen n);
+    place = elim (ℕ_discrete prior none) [
+      | yes e ↦ omega (arith, e)
+      | no e ↦ ⊎_elim
+          (λ (w : (prior ≡ cell.from) × (1 < cell.size → Alike ids last cell)). omega (arith, w.0, E.inside h, (E.keeping h).spans))
+          (λ (w : (prior ≡ last.from) × (last.size ≡ cell.size)). omega (arith, w.0, w.1, k.lies.inside (omega (arith, w.1)), (E.keeping h).spans))
+          (L.seen e)
+    ];
   }
 
   -- of each all is once it is done, and of the last one it stays known

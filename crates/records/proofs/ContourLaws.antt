@@ -3,12 +3,12 @@
 use Prim.Native.Nat.{ℕ, suc, ◌+◌, ◌*◌, ◌-◌, ◌≤◌, ◌<◌}
 use native.Mathlib.Omega.{arith}
 use mathlib.Core.Path.{◌≡◌, refl, sym, ap, ◌∙◌}
-use mathlib.Core.Bool.{Bool, true, false, not, false≢true}
+use mathlib.Core.Bool.{Bool, true, false, not}
 use mathlib.Core.List.{List}
 use lib.ListN.{length, get_or, set, length-set}
 use lib.Seq.{get_or-set_same, get_or-set_other}
 use lib.Dec.{eqb}
-use borrow.Author.Tests.{eqb-true, eq-eqb, ne_eqb}
+use borrow.Author.Tests.{eq-eqb, ne_eqb}
 use Rattle.rules.specs.Base.{◌and◌, when◌then◌else◌}
 use Rattle.rules.specs.Net.{Net, area_of}
 use Rattle.rules.specs.Contour.{first_solid}
@@ -28,18 +28,12 @@ use Rattle.records.specs.Rows.{Keeping, Took, Step, Slack, traced, traced_cut, m
 use Rattle.records.specs.Map.{pool_in}
 use Rattle.records.specs.Stock.{Reach}
 use Rattle.records.specs.Build.{Knowing, KnowingFrom}
-use Rattle.std.proofs.Common.{Option, Some, None}
-use Rattle.std.specs.Option.{option_eq}
+use Rattle.rules.specs.Field.{none}
 use Rattle.records.specs.declared.cell.Spans.{Spans}
 use Rattle.records.proofs.KnownLaws.{celled_took, prior_known}
 use Rattle.records.proofs.RowLaws.{list_parts, floor_parts, count_room, step_then, store_start, store_end}
 use Rattle.records.proofs.StepLaws.{step-none, step-one, step_area, step-marked}
 use Rattle.records.proofs.TraceLaws.{list_tracing}
-
--- the test for a number that is there
-pub same_some : (o : Option ℕ) (k : ℕ) → option_eq eqb o (Some k) ≡ true → o ≡ Some k
-same_some None k e = absurd (false≢true e)
-same_some (Some p) k e = ap Some (eqb-true p k e)
 
 -- a contour reads no area, so it is the same with ids in their place
 traced_areas : (table : ℕ) (ar ids ws : List ℕ) (s : ℕ) → length ids ≡ length ar → traced (net_at table ids ws) ids s ≡ traced (net_at table ar ws) ids s
@@ -134,9 +128,10 @@ module _ (ids : List ℕ) (m top s : ℕ) (ws : List ℕ) (K : Keeping ids m top
   one = step-one ids m top s ws K r own_in g er pl
 
   -- looked back to its own cell, its record has what it takes from it
-  pub took_known : (cell : Spans) (prior : Option ℕ) → Within ids s cell → KnowingFrom ids m cell prior ws → prior ≡ Some cell.from
-      → Took ids s cell.size cell.from (at (recs_of ws m) r)
-  took_known cell prior w k e = rw er ((k.knowing cell.from e).known.took s (omega (arith, w.lower)) (omega (arith, w.upper)) pl)
+  pub took_known : (cell : Spans) (prior : ℕ) → Within ids s cell → KnowingFrom ids m cell prior ws → prior ≡ cell.from → Took ids s cell.size cell.from (at (recs_of ws m) r)
+  took_known cell prior w k e =
+      let n : prior ≡ none → ⊥ = (λ z. omega (arith, w.lower, g, K.spans)) in
+      rw (er, ← e) ((k.knowing n).known.took s (omega (arith, w.lower)) (omega (arith, w.upper)) pl)
 
   -- its record has what it takes from its cell
   pub cell_known : Took ids s size from (at (recs_of ws m) r) → Step (celled ids s size from) ids m r top (s + 1) ws (set ws (m + r) (get_or ws (m + r) 0 + 1))

@@ -1,14 +1,15 @@
 -- The loops over cells and layers.
-use Rattle.std.specs.Prelude.{◌≡◌, List, ℕ, ◌+◌, ◌≤◌, ◌<◌, length, get_or, set, Option, Some}
+use Rattle.std.specs.Prelude.{◌≡◌, List, ℕ, ◌+◌, ◌≤◌, ◌<◌, length, get_or, set}
 use Rattle.rules.specs.Base.{when◌then◌else◌, upto}
 use Rattle.rules.specs.Net.{Net}
+use Rattle.rules.specs.Field.{none}
 use Rattle.rules.specs.Growth.{plain}
 use Rattle.rules.specs.Records.{Rec, at}
 use Rattle.net.specs.Table.{net_at}
 use Rattle.contour.specs.Ways.{Ways}
 use Rattle.table.specs.Map.{records_end}
 use Rattle.table.specs.View.{recs_of}
-use Rattle.records.specs.Cell.{Within, Lies, as_many_from}
+use Rattle.records.specs.Cell.{Within, Lies, as_many_from, Some}
 use Rattle.records.specs.Rows.{Keeping, Known, celled, contoured}
 use Rattle.records.specs.Stock.{Reach}
 use Rattle.records.specs.declared.cell.Spans.{Spans}
@@ -52,8 +53,9 @@ pub record Knowing (ids : List ℕ) (m : ℕ) (last : Spans) (ws : List ℕ) : T
   pub lies : Lies ids last
 
 -- and so have those of a cell's spans from a prior cell that has as many, if there is one: it may be the cell itself
-pub record KnowingFrom (ids : List ℕ) (m : ℕ) (cell : Spans) (prior : Option ℕ) (ws : List ℕ) : Type 0 where
-  pub knowing : (p : ℕ) → prior ≡ Some p → Knowing ids m (as_many_from p cell) ws
+pub record KnowingFrom (ids : List ℕ) (m : ℕ) (cell : Spans) (prior : ℕ) (ws : List ℕ) : Type 0 where
+  pub knowing : Some prior → Knowing ids m (as_many_from prior cell) ws
+  pub place : prior ≤ none
 
 -- what its first j spans leave, and the pool's end t
 pub record Entered (plan : Plan) (areas ids : List ℕ) (cell : Spans) (j top : ℕ) (ws₀ : List ℕ) (t : ℕ) (ws : List ℕ) : Type 0 where

@@ -1,6 +1,7 @@
 -- The other spans of a cell, as the code goes through them.
-use Rattle.std.specs.Prelude.{◌≡◌, ◌⊎◌, Bool, true, false, not, List, map, ℕ, zero, suc, ◌+◌, ◌-◌, ◌≤◌, ◌<◌, length, get_or, take, eqb, ltb, Option, Some}
+use Rattle.std.specs.Prelude.{◌≡◌, ◌⊎◌, Bool, true, false, not, List, map, ℕ, zero, suc, ◌+◌, ◌-◌, ◌≤◌, ◌<◌, length, get_or, take, eqb, ltb}
 use Rattle.rules.specs.Base.{◌and◌, ◌or◌, when◌then◌else◌, keep, tab}
+use Rattle.rules.specs.Field.{none}
 use Rattle.rules.specs.Growth.{plain}
 use Rattle.rules.specs.Records.{has, once, once_all}
 use Rattle.rules.specs.Refusals.{most_spans}
@@ -60,9 +61,13 @@ pub record Within (ids : List ℕ) (s : ℕ) (cell : Spans) : Type 0 where
 abbrev pub as_many_from : ℕ → Spans → Spans
 as_many_from prior cell = record { from = prior; size = cell.size }
 
--- where to look back to, if anywhere: this cell itself, if it is like the last one or has few spans; or the last one, if it has as many
-pub record LooksTo (ids : List ℕ) (last cell : Spans) (prior : Option ℕ) : Type 0 where
-  pub seen : (p : ℕ) → prior ≡ Some p → ((p ≡ cell.from) × (1 < cell.size → Alike ids last cell)) ⊎ ((p ≡ last.from) × (last.size ≡ cell.size))
+-- there is a prior cell
+abbrev pub Some : ℕ → Type 0
+Some prior = prior ≡ none → ⊥
+
+-- where to look back to: this cell itself, if it is like the last one or has few spans; or the last one, if it has as many
+pub record LooksTo (ids : List ℕ) (last cell : Spans) (prior : ℕ) : Type 0 where
+  pub seen : Some prior → ((prior ≡ cell.from) × (1 < cell.size → Alike ids last cell)) ⊎ ((prior ≡ last.from) × (last.size ≡ cell.size))
 
 -- a prior cell has as many spans, and in the layer of span s its id
 pub record Near (ids : List ℕ) (s : ℕ) (cell prior : Spans) : Type 0 where

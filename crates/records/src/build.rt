@@ -22,7 +22,7 @@ fn count_span(
     ws: &mut [u16],
     plan: Plan,
     cell: Spans,
-    prior: Option<usize>,
+    prior: usize,
     span: SpanIx,
     top: usize,
 ) -> usize
@@ -43,7 +43,7 @@ fn add_span(
     ws: &mut [u16],
     plan: Plan,
     cell: Spans,
-    prior: Option<usize>,
+    prior: usize,
     span: SpanIx,
     top: usize,
 ) -> usize
@@ -66,7 +66,7 @@ fn add_spans(
     ws: &mut [u16],
     plan: Plan,
     cell: Spans,
-    prior: Option<usize>,
+    prior: usize,
     top: usize,
 ) -> usize
     requires entering { Entering plan area.now con.now ids.now cell top ws.old }

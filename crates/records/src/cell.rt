@@ -1,12 +1,13 @@
 // The other spans of a cell.
-ghost use Rattle.std.specs.Prelude.{◌≡◌, ℕ, true, false, ◌+◌, ◌≤◌, ◌<◌, length, get_or, take, ltb, Some};
+ghost use Rattle.std.specs.Prelude.{◌≡◌, true, false, ◌+◌, ◌≤◌, ◌<◌, length, get_or, take, ltb};
 ghost use Rattle.rules.specs.Base.{◌or◌, when◌then◌else◌};
+ghost use Rattle.rules.specs.Field.{none};
 ghost use Rattle.rules.specs.Records.{once, once_all};
 ghost use Rattle.rules.specs.Refusals.{most_spans};
 ghost use Rattle.records.specs.Cell.{twin, twins, others_from, join_one, Lies, Alike, Found, JoinedOne};
-ghost use Rattle.records.specs.Cell.{JoinedAll, Within, Roomy, Near, Unchanged, Prior, as_many_from, LooksTo};
+ghost use Rattle.records.specs.Cell.{JoinedAll, Within, Roomy, Near, Unchanged, Prior, as_many_from, Some, LooksTo};
 
-use field::place::{Layer, SpanIx};
+use field::place::{Layer, NO_SPAN, SpanIx};
 use region::RegionId;
 use table::place;
 
@@ -38,12 +39,13 @@ fn alike(ids: &[u16], last: Spans, cell: Spans) -> bool
     &ids[b..b + n] == &ids[a..a + n]
 }
 
-// The last cell with several spans, and where the one begins from which the records of this one's have something, if there is one. A cell that
-// begins where this one does has as many spans as this one: it is this one, and they have all.
+// The last cell with several spans, and where the one begins from which the records of this one's have something; NO_SPAN where that is none. A cell that
+// begins where this one does has as many spans as this one: it is this one, and they have all. One number and no Option, whose tag is handed to each span
+// of a cell too (docs/DECISIONS.md).
 #[derive(Clone, Copy)]
 pub struct Looked {
     pub last: Spans,
-    pub prior: Option<usize>,
+    pub prior: usize,
 }
 
 // The records of the last cell's spans have what these take from theirs; so have others with the same ids, layer by layer; and a span alone in its cell
@@ -55,24 +57,24 @@ pub(crate) fn look_back(ids: &[u16], last: Spans, cell: Spans) -> Looked
     if cell.size < 2 {
         return Looked {
             last,
-            prior: Some(cell.from),
+            prior: cell.from,
         };
     }
     if last.size != cell.size {
         return Looked {
             last: cell,
-            prior: None,
+            prior: NO_SPAN,
         };
     }
     if alike(ids, last, cell) {
         return Looked {
             last: cell,
-            prior: Some(cell.from),
+            prior: cell.from,
         };
     }
     Looked {
         last: cell,
-        prior: Some(last.from),
+        prior: last.from,
     }
 }
 
@@ -141,17 +143,12 @@ fn join_one(ids: &[u16], part: &mut [u16], span: SpanIx, other: SpanIx, l: Liste
     add_unique_floor_region(part, l, r)
 }
 
-// The prior cell's place, if there is one and it has the span's id in the span's layer. None decides only how fast.
-fn near(ids: &[u16], span: SpanIx, cell: Spans, prior: Option<usize>) -> Option<usize>
-    requires few { (length ids.now ≤ most_spans) × Within ids.now span.0 cell }
-    requires lies { (p : ℕ) → prior ≡ Some p → Lies ids.now (as_many_from p cell) }
-    ensures { (p : ℕ) → result ≡ Some p → (prior ≡ Some p) × Near ids.now span.0 cell (as_many_from p cell) }
+// Has the prior cell, if there is one, the span's id in its layer? A no decides only how fast.
+fn is_near(ids: &[u16], span: SpanIx, cell: Spans, prior: usize) -> bool
+    requires { (length ids.now ≤ most_spans) × Within ids.now span.0 cell × (Some prior → Lies ids.now (as_many_from prior cell)) }
+    ensures { result ≡ true → Some prior × Near ids.now span.0 cell (as_many_from prior cell) }
 {
-    let p = prior?;
-    if ids[p + (span.0 - cell.from)] != ids[span.0] {
-        return None;
-    }
-    Some(p)
+    prior != NO_SPAN && ids[prior + (span.0 - cell.from)] == ids[span.0]
 }
 
 // As join_one; but of a span near the prior cell's, a layer that has the id that it had there is passed over: the list has that id already, or it is none
@@ -161,22 +158,22 @@ fn join_changed(
     part: &mut [u16],
     span: SpanIx,
     other: SpanIx,
-    near: Option<usize>,
-    j: usize,
+    before: usize,
+    near: bool,
     l: Listed,
 ) -> Listed
     requires other_in_bounds { other.0 < length ids.now }
     requires len_in_bounds { l.len ≤ length part.old }
     requires len_in_bounds_2 { (other.0 ≡ span.0 → ⊥) → l.len < length part.old }
-    requires unchanged { (p : ℕ) → near ≡ Some p → Unchanged ids.now (take l.len part.old) span.0 other.0 (p + j) }
+    requires unchanged { near ≡ true → Unchanged ids.now (take l.len part.old) span.0 other.0 before }
     ensures fact { let joined = join_one ids.now span.0 other.0 (take l.len part.old) in
         JoinedOne joined l.len part.new result.len }
     ensures len_value { other.0 ≡ span.0 → result.len ≡ l.len }
 {
-    match near {
-        Some(p) if ids[other.0] == ids[p + j] => l,
-        _ => join_one(ids, part, span, other, l),
+    if near && ids[other.0] == ids[before] {
+        return l;
     }
+    join_one(ids, part, span, other, l)
 }
 
 // What a span takes from its cell: the length of its record's floor list, and whether another span has its id.
@@ -193,12 +190,12 @@ pub(crate) fn join(
     part: &mut [u16],
     span: SpanIx,
     cell: Spans,
-    prior: Option<usize>,
+    prior: usize,
     len: usize,
 ) -> Taken
     requires roomy { Roomy ids.now part.old span.0 cell.from cell.size len }
-    requires lies { (p : ℕ) → prior ≡ Some p → Lies ids.now (as_many_from p cell) }
-    requires prior { (p : ℕ) → prior ≡ Some p → Prior ids.now (take len part.old) span.0 cell (as_many_from p cell) }
+    requires lies { Some prior → Lies ids.now (as_many_from prior cell) }
+    requires prior { (Some prior → Prior ids.now (take len part.old) span.0 cell (as_many_from prior cell)) × (prior ≤ none) }
     ensures fact { let others = others_from ids.now span.0 cell.size cell.from in
         JoinedAll (once_all (take len part.old) others) len part.new result.len }
     ensures twin_value { let own = get_or ids.now span.0 0 in
@@ -206,13 +203,13 @@ pub(crate) fn join(
 {
     let s = span.0;
     let own = ids[s];
-    let near = near(ids, span, cell, prior);
+    let near = is_near(ids, span, cell, prior);
     let mut l = Listed { len, next: 0 };
     let mut twin = false;
     for j in 0..cell.size {
         let other = cell.at(Layer(j as u8));
         twin = met(ids, other, span, own, twin);
-        l = join_changed(ids, part, span, other, near, j, l);
+        l = join_changed(ids, part, span, other, prior + j, near, l);
     }
     Taken { len: l.len, twin }
 }

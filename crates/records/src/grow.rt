@@ -1,12 +1,13 @@
 // A span is added to its record, part by part.
-ghost use Rattle.std.specs.Prelude.{◌≡◌, ℕ, true, ◌+◌, ◌*◌, ◌≤◌, ◌<◌, length, get_or, Some};
+ghost use Rattle.std.specs.Prelude.{◌≡◌, true, ◌+◌, ◌*◌, ◌≤◌, ◌<◌, length, get_or};
+ghost use Rattle.rules.specs.Field.{none};
 ghost use Rattle.rules.specs.Growth.{plain};
 ghost use Rattle.net.specs.Table.{net_at};
 ghost use Rattle.contour.specs.Pool.{Start};
 ghost use Rattle.table.specs.Map.{spare_at, pool_at};
 ghost use Rattle.table.specs.View.{list_start, list_end, floors_in};
 ghost use Rattle.records.specs.Map.{pool_in};
-ghost use Rattle.records.specs.Cell.{twins, others_from, Within, Lies, Prior, as_many_from};
+ghost use Rattle.records.specs.Cell.{twins, others_from, Within, Lies, Prior, as_many_from, Some};
 ghost use Rattle.records.specs.Rows.{Keeping, Step, Slack, Traced, traced, traced_cut, marked, cut_marked, floored, with_contour, contoured, celled};
 ghost use Rattle.records.specs.Stock.{Reach};
 ghost use Rattle.records.specs.Build.{KnowingFrom};
@@ -38,11 +39,11 @@ fn add_floors(
     span: SpanIx,
     r: usize,
     cell: Spans,
-    prior: Option<usize>,
+    prior: usize,
 ) -> bool
     requires keeping { Keeping ids.now m top (span.0 + 1) ws.old × (r < m) × Slack m r ws.old × Within ids.now span.0 cell }
-    requires lies { (p : ℕ) → prior ≡ Some p → Lies ids.now (as_many_from p cell) }
-    requires prior { (p : ℕ) → prior ≡ Some p → Prior ids.now (floors_in ws.old m r) span.0 cell (as_many_from p cell) }
+    requires lies { Some prior → Lies ids.now (as_many_from prior cell) }
+    requires prior { (Some prior → Prior ids.now (floors_in ws.old m r) span.0 cell (as_many_from prior cell)) × (prior ≤ none) }
     ensures fact { let others = others_from ids.now span.0 cell.size cell.from in
         Step (floored others) ids.now m r top (span.0 + 1) ws.old ws.new }
     ensures result_value { let own = get_or ids.now span.0 0 in
@@ -159,7 +160,7 @@ pub(crate) fn add_cell(
     span: SpanIx,
     r: usize,
     cell: Spans,
-    prior: Option<usize>,
+    prior: usize,
 )
     requires keeping { Keeping ids.now m top span.0 ws.old × Within ids.now span.0 cell }
     requires r_value { (r ≡ get_or ids.now span.0 0) × (plain (get_or ids.now span.0 0) ≡ true) }
@@ -168,7 +169,7 @@ pub(crate) fn add_cell(
         Step f ids.now m r top (span.0 + 1) ws.old ws.new }
 {
     ws[m + r] += 1;
-    if prior == Some(cell.from) {
+    if prior == cell.from {
         return;
     }
     let twin = add_floors(ids, ws, m, top, span, r, cell, prior);

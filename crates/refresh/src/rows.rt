@@ -5,6 +5,7 @@ ghost use Rattle.refresh.specs.Part.{FirstCell, LastCell, RowPart, part_to, same
 ghost use Rattle.field.specs.Seen.{seen};
 
 use field::lent::Heightfield;
+use space::copy;
 
 // Spans from number `from` on, up to number `to`, which is not among them.
 #[derive(Clone, Copy)]
@@ -63,7 +64,7 @@ pub(crate) fn copy_part(values: &[u16], to: &mut [u16], a: usize, b: usize)
     requires { (a ≤ b) × (b ≤ length values.now) × (b ≤ length to.old) }
     ensures { to.new ≡ part_to values.now a b to.old }
 {
-    to[a..b].copy_from_slice(&values[a..b]);
+    copy(&values[a..b], &mut to[a..b]);
 }
 
 // Whether a part of one list holds what another holds there.

@@ -22,8 +22,13 @@ pub old_first : (l out : List ℕ) → length (old_bytes l) ≤ length out → W
 old_first l out h = writes_first out (old_bytes l) (old_bytes (drop 0 l)) h refl
 
 module _ (l out₀ : List ℕ) (at i : ℕ) (out : List ℕ) (w : Writes out₀ (old_bytes l) at (old_bytes (drop i l)) out) where
-  pub old_room : i < length l → Room out at (span_record (get_or l i 0))
-  old_room h = writes_room out₀ (old_bytes l) at (old_bytes (drop i l)) out w (span_record (get_or l i 0)) (old_bytes (drop (i + 1) l)) (left_next l i h)
+  here_room : i < length l → Room out at (span_record (get_or l i 0))
+  here_room h = writes_room out₀ (old_bytes l) at (old_bytes (drop i l)) out w (span_record (get_or l i 0)) (old_bytes (drop (i + 1) l)) (left_next l i h)
+
+  -- the records of spans have one length
+  pub old_room : (x : ℕ) → i < length l → Room out at (span_record x)
+  unfolding span_record two
+  old_room x h = record { fits = (here_room h).fits }
 
   pub old_next : i < length l → (r : ℕ) (out' : List ℕ) → Wrote out at (span_record (get_or l i 0)) r out' → Writes out₀ (old_bytes l) r (old_bytes (drop (i + 1) l)) out'
   old_next h = writes_next out₀ (old_bytes l) at (old_bytes (drop i l)) out w (span_record (get_or l i 0)) (old_bytes (drop (i + 1) l)) (left_next l i h)

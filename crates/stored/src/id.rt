@@ -149,6 +149,7 @@ fn read_stretch(
 }
 
 // By way of the kind 7 records and one stretch: any input.
+#[tactic(auto, using(crate::proofs::Halving::id_read))]
 pub fn id_at(file: &[u8], span: u32) -> IdAnswer
     ensures { id_outcome result ≡ id_at file.now span }
 {

@@ -12,6 +12,7 @@ use Rattle.rules.specs.Field.{Field, spans}
 use Rattle.rules.specs.Refusals.{refusal, too_short, too_far, region_refusal, most_spans}
 use Rattle.checker.specs.Answer.{number_of, verdict_number}
 use Rattle.checker.specs.declared.Refusal.{Refusal}
+use Rattle.checker.specs.declared.Refusal.TheVariants.{TooShort, TooFar}
 use Rattle.std.specs.Prelude.{Result, Ok, Err}
 use Rattle.field.proofs.Passed.{reached_of}
 use Rattle.watershed.specs.Stages.{own_refusal}
@@ -48,20 +49,22 @@ module _ (F : Field) (lens : List ℕ) (work : ℕ) (dist : List ℕ) (most : �
     none : refusal F lens ≡ 0
     none = sym e ∙ ap verdict_number z
 
-    pub then_seven : work < 128 * spans F + 4096 → 7 ≡ region_refusal F lens work dist most
-    then_seven h = short_seven F lens work dist most none h
-
-    module _ (h : 128 * spans F + 4096 ≤ work) where
-      pub then_eight : true ≡ too_far dist most → 8 ≡ region_refusal F lens work dist most
-      unfolding region_refusal when◌then◌else◌ too_short
-      then_eight f = rw (eq-eqb (refusal F lens) 0 none, le-ltb work (128 * spans F + 4096) h, ← f)
-
-      pub then_none : false ≡ too_far dist most → 0 ≡ region_refusal F lens work dist most
-      unfolding region_refusal when◌then◌else◌ too_short
-      then_none f = rw (eq-eqb (refusal F lens) 0 none, le-ltb work (128 * spans F + 4096) h, ← f)
-
     -- both in their order, as one number
     pub then_own : (short far : Bool) → short ≡ ltb work (128 * spans F + 4096) → far ≡ too_far dist most → (u : Result Unit Refusal) → verdict_number u ≡ own_refusal short far
         → verdict_number u ≡ region_refusal F lens work dist most
     unfolding region_refusal when◌then◌else◌ too_short own_refusal
     then_own short far p q u h = h ∙ rw (eq-eqb (refusal F lens) 0 none, p, q)
+
+    -- each way out of the code is a case of it: 7 whatever the distances, else 8, else none
+    pub then_seven : work < 128 * spans F + 4096 → 7 ≡ region_refusal F lens work dist most
+    unfolding own_refusal when◌then◌else◌
+    then_seven h = then_own true (too_far dist most) (sym (lt-ltb work (128 * spans F + 4096) h)) refl (Err TooShort) refl
+
+    module _ (h : 128 * spans F + 4096 ≤ work) where
+      pub then_eight : true ≡ too_far dist most → 8 ≡ region_refusal F lens work dist most
+      unfolding own_refusal when◌then◌else◌
+      then_eight f = then_own false true (sym (le-ltb work (128 * spans F + 4096) h)) f (Err TooFar) refl
+
+      pub then_none : false ≡ too_far dist most → 0 ≡ region_refusal F lens work dist most
+      unfolding own_refusal when◌then◌else◌
+      then_none f = then_own false false (sym (le-ltb work (128 * spans F + 4096) h)) f (Ok tt) refl

@@ -17,7 +17,7 @@ use crate::form::{first_id, lower};
 use crate::regions::{
     MORE_RECORDS, RegionSizes, check_regions, grow_regions, ready_records, stop_refusal,
 };
-use field::lent::Heightfield;
+use field::lent::{Heightfield, codes_are_bytes};
 use flood::story::{NOBODY, Story};
 use merge::merge_and_filter_told;
 use records::build::build_records;
@@ -181,6 +181,7 @@ fn explain_region(
         explained result [] ids.new
         ≡ explains (length F.area) (reason_of F dist.now max_distance z span) (story_of story) 0) }
 {
+    codes_are_bytes(field.area);
     let n = field.area.len();
     // The part before `end` is all that the records and their links can take. The table of neighbours lies in it too: the links come when it has been read.
     let end = links_past(n + MORE_RECORDS, n);
@@ -226,6 +227,7 @@ fn explain_grown(
         explained result [] ids.new
         ≡ explains (length F.area) (reason_of F dist.now max_distance z span) (story_of story) 0) }
 {
+    codes_are_bytes(field.area);
     let r = ids[span];
     if field.area[span] == 0 {
         clear(ids);
@@ -326,6 +328,7 @@ pub fn explain_span(
         let z : Sizes = record { border = border_size; least = min_region_area; merge = merge_region_area } in
         result.refusal ≡ 0 → Means F dist.now max_distance z span (explained result workspace.new trail.new)) }
 {
+    codes_are_bytes(field.area);
     let refusal = check_explain(
         field,
         dist,

@@ -17,7 +17,7 @@ pub use crate::regions::{build_regions, build_regions_compared};
 use checker::{Refusal, check};
 use distance::blur::{box_blur, greatest};
 use distance::distances::calculate_distance_field;
-use field::lent::Heightfield;
+use field::lent::{Heightfield, codes_are_bytes};
 
 // Raw and blurred distances of any lists, and max_distance: a field that is refused leaves both as they were.
 pub fn build_distance_field(
@@ -31,6 +31,7 @@ pub fn build_distance_field(
     ensures meaning { let F = seen field.now in
         GivesDistances F result raw.new blurred.new }
 {
+    codes_are_bytes(field.area);
     check(field, raw.len(), blurred.len())?;
     // Until the blur its list has the cell of each span.
     calculate_distance_field(field, raw, blurred);

@@ -19,7 +19,7 @@ ghost use Rattle.field.specs.Seen.{seen};
 
 use crate::form::{Form, give_form};
 use checker::{Refusal, check};
-use field::lent::Heightfield;
+use field::lent::{Heightfield, codes_are_bytes};
 use flood::story::NOBODY;
 use growth::grow::{GROWTH_ROOM, grow};
 use growth::turns::{Growth, Stop};
@@ -163,6 +163,7 @@ fn find_regions(
     ensures ws_after { ws.new ≡ replicate (length ws.old) 0 }
     ensures bytes { Bytes (seen field.now) }
 {
+    codes_are_bytes(field.area);
     let n = field.area.len();
     let table = records_end(n + MORE_RECORDS, n);
     let g = match grow_regions(

@@ -11,7 +11,11 @@ pub number_one-k-requires : goal.number_one-k-requires
 number_one-k-requires c = (search (rules, column_kept), search rules, search rules)
 
 pub loop-i-preserved : goal.loop-i-preserved
-loop-i-preserved c = (search rules, search (rules, frame_then), search (rules, numbers_go))
+loop-i-preserved c = (
+  search rules,
+  search (rules, frame_then),
+  numbers_go _ _ _ _ (search rules) (search rules) (search rules) _ _ _ _ (search rules) (search rules) c.number_one-k.ensures.by_index,
+)
 
 pub returns : goal.returns
 returns c = record {

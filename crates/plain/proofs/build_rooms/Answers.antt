@@ -30,5 +30,5 @@ returns c = let done = rooms_done _ _ c.args.workspace.now c.args.ids.now _ c.ch
     (c.clear.ensures ∙ ap (λ (n : ℕ). replicate n 0) c.find_rooms-most.auto.ws) c.if-most-gt-MOST_ROOMS.false in
     record {
       ids_after = done;
-      rooms = call_gives-plain_rooms _ _ c.args.workspace.now c.args.ids.now _ _ _ done (lent_bytes _ _ _ _ c.args.field.now.area.now _ c.args.field.now.codes);
+      rooms = call_gives-plain_rooms _ _ c.args.workspace.now c.args.ids.now _ _ _ done (lent_bytes _ _ _ _ c.args.field.now.area.now _ c.codes_are_bytes.ensures);
     }

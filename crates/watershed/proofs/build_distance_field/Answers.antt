@@ -19,5 +19,5 @@ returns-in_err-check c = record {
 pub returns : goal.returns
 returns c = record {
   fact = search (rules, done_out);
-  meaning = search (rules, done_means, c.args.field.now.codes);
+  meaning = search (rules, done_means, c.codes_are_bytes.ensures);
 }

@@ -17,6 +17,6 @@ returns-then-surrounded c =
 
 pub loop-k-preserved : goal.loop-k-preserved
 loop-k-preserved c = (
-  edge_run _ _ _ _ _ _ _ _ c.requires.0 c.loop-k.invariant.1 c.loop-k-test.true _ c.connections-cons.ensures _ c.surrounded.ensures c.if-surrounded.false c.args.field.now.codes _ _ c.loop-k.auto.k c.loop-k.invariant.0,
-  edge_go _ _ _ _ _ _ _ _ c.requires.0 c.loop-k.invariant.1 c.loop-k-test.true _ c.connections-cons.ensures _ c.surrounded.ensures c.if-surrounded.false c.args.field.now.codes,
+  edge_run _ _ _ _ _ _ _ _ c.requires.0 c.loop-k.invariant.1 c.loop-k-test.true _ c.connections-cons.ensures _ c.surrounded.ensures c.if-surrounded.false c.codes_are_bytes.ensures _ _ c.loop-k.auto.k c.loop-k.invariant.0,
+  edge_go _ _ _ _ _ _ _ _ c.requires.0 c.loop-k.invariant.1 c.loop-k-test.true _ c.connections-cons.ensures _ c.surrounded.ensures c.if-surrounded.false c.codes_are_bytes.ensures,
 )

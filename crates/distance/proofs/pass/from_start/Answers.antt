@@ -11,7 +11,7 @@ pub surrounded-requires : goal.surrounded-requires
 surrounded-requires c = span_layers _ _ _ _ _ _ _ _ c.requires.0 c.requires.1.span c.connections-cons.ensures
 
 pub returns-then-not-surrounded : goal.returns-then-not-surrounded
-returns-then-not-surrounded c = from_edge _ _ _ _ c.requires.0 c.requires.1 _ c.connections-cons.ensures _ c.surrounded.ensures c.if-not-surrounded.true c.args.field.now.codes
+returns-then-not-surrounded c = from_edge _ _ _ _ c.requires.0 c.requires.1 _ c.connections-cons.ensures _ c.surrounded.ensures c.if-not-surrounded.true c.codes_are_bytes.ensures
 
 pub from_inside-requires : goal.from_inside-requires
 from_inside-requires c = record {

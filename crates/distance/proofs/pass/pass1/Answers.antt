@@ -24,7 +24,7 @@ edges-next-requires-in-Some c =
     let g = rw c.in-Some.is at c.loop-next.invariant.2 in
     let p = rw c.in-Some.is at c.loop-next.invariant.1 in
     let st = cell_stands _ _ _ _ _ c.requires.2 g.0 refl refl in
-    (search rules, omega (arith, g.0), flat_go _ c.requires.0 _ _ _ p st c.args.field.now.codes _ c.from_inside.ensures)
+    (search rules, omega (arith, g.0), flat_go _ c.requires.0 _ _ _ p st c.codes_are_bytes.ensures _ c.from_inside.ensures)
 
 pub loop-next-preserved : goal.loop-next-preserved
 loop-next-preserved c =

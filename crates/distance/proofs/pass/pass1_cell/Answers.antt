@@ -30,7 +30,7 @@ pub bounds-raw-s : goal.bounds-raw-s
 bounds-raw-s c = search (rules, passing_in)
 
 pub loop-j-preserved : goal.loop-j-preserved
-loop-j-preserved c = (search rules, search rules, start_go _ _ _ _ _ _ _ _ _ _ _ c.requires.0 refl refl c.loop-j-test.true _ _ c.loop-j.invariant.1 c.requires.1 c.loop-j.invariant.3 _ c.from_start.ensures _ c.loop-j.invariant.2, passing_go _ _ _ _ _ _ _ _ _ _ _ c.requires.0 refl refl c.loop-j-test.true _ _ c.loop-j.invariant.1 c.requires.1 c.loop-j.invariant.3 _ c.from_start.ensures, layers_go _ _ _ _ _ _ _ _ _ _ _ c.requires.0 refl refl c.loop-j-test.true _ _ c.loop-j.invariant.1 c.requires.1 c.loop-j.invariant.3 _ c.from_start.ensures c.args.field.now.codes c.loop-j.invariant.4)
+loop-j-preserved c = (search rules, search rules, start_go _ _ _ _ _ _ _ _ _ _ _ c.requires.0 refl refl c.loop-j-test.true _ _ c.loop-j.invariant.1 c.requires.1 c.loop-j.invariant.3 _ c.from_start.ensures _ c.loop-j.invariant.2, passing_go _ _ _ _ _ _ _ _ _ _ _ c.requires.0 refl refl c.loop-j-test.true _ _ c.loop-j.invariant.1 c.requires.1 c.loop-j.invariant.3 _ c.from_start.ensures, layers_go _ _ _ _ _ _ _ _ _ _ _ c.requires.0 refl refl c.loop-j-test.true _ _ c.loop-j.invariant.1 c.requires.1 c.loop-j.invariant.3 _ c.from_start.ensures c.codes_are_bytes.ensures c.loop-j.invariant.4)
 
 pub returns : goal.returns
 returns c = (cell-end _ _ _ _ _ _ _ _ refl refl c.loop-j.invariant.2 c.loop-j.invariant.0 (omega arith), passing_end _ _ _ _ _ _ _ _ _ _ _ c.requires.0 refl refl (omega arith) _ _ c.loop-j.invariant.1 c.loop-j.invariant.3 c.loop-j.invariant.4)

@@ -18,7 +18,7 @@ pub add_spans-requires : goal.add_spans-requires
 add_spans-requires c = let some : 0 < (spans_at c.args.field.now.index.now c.args.field.now.count.now c.args.c).size = let e = ap (λ (x : Spans). x.size) c.spans_of-cell.ensures in omega (arith, e, c.if-cell-eq0.false) in
     record {
       entering = rw c.spans_of-cell.ensures c.requires.fact.0;
-      knowing_from = rw c.spans_of-cell.ensures (know_from _ _ _ _ _ _ _ _ c.requires.fact.0 c.requires.fact.1 _ (rw c.spans_of-cell.ensures at c.look_back-back.ensures.1));
+      knowing_from = rw c.spans_of-cell.ensures (know_from _ _ _ _ _ _ _ _ c.requires.fact.0 c.requires.fact.1 some _ (rw c.spans_of-cell.ensures at c.look_back-back.ensures.1));
     }
 
 pub returns : goal.returns

@@ -2,9 +2,9 @@
 -- Counting first gives the floors of this span their room; what the record has already, all or from a prior cell (KnownLaws), is not looked for.
 use lib.ListN.{length-set}
 use Prim.Native.Nat.{◌<◌}
-use mathlib.Core.Path.{refl, sym, ◌∙◌}
+use mathlib.Core.Path.{refl, ◌∙◌}
 use lib.ListN.{length}
-use Rattle.records.proofs.ContourLaws.{own_in, count_fits, counted_keeping, counted_slack, counted_prior, same_some, took_known, cell_known, cell-step}
+use Rattle.records.proofs.ContourLaws.{own_in, count_fits, counted_keeping, counted_slack, counted_prior, took_known, cell_known, cell-step}
 use native.Mathlib.Omega.{arith}
 use Rattle.records.proofs.grow.add_cell.Goals as goal
 
@@ -26,12 +26,12 @@ pub bounds-ws-m-2 : goal.bounds-ws-m-2
 bounds-ws-m-2 c = let here : c.args.span.0 < length c.args.ids.now = omega (arith, c.requires.keeping.1.inside, c.requires.keeping.1.upper) in
     omega (arith, own_in _ _ _ _ _ c.requires.keeping.0 _ 0 0 c.requires.r_value.0 c.requires.r_value.1 here, c.requires.keeping.0.room)
 
-pub shape_of-ws-then-eq : goal.shape_of-ws-then-eq
-shape_of-ws-then-eq c = simp length-set
+pub shape_of-ws-then-prior-cell : goal.shape_of-ws-then-prior-cell
+shape_of-ws-then-prior-cell c = simp length-set
 
-pub returns-then-eq : goal.returns-then-eq
-returns-then-eq c = let here : c.args.span.0 < length c.args.ids.now = omega (arith, c.requires.keeping.1.inside, c.requires.keeping.1.upper) in
-    let k = took_known _ _ _ _ _ c.requires.keeping.0 _ 0 0 c.requires.r_value.0 c.requires.r_value.1 here _ _ c.requires.keeping.1 c.requires.knowing_from (same_some _ _ (sym c.eq.ensures ∙ c.if-eq.true)) in
+pub returns-then-prior-cell : goal.returns-then-prior-cell
+returns-then-prior-cell c = let here : c.args.span.0 < length c.args.ids.now = omega (arith, c.requires.keeping.1.inside, c.requires.keeping.1.upper) in
+    let k = took_known _ _ _ _ _ c.requires.keeping.0 _ 0 0 c.requires.r_value.0 c.requires.r_value.1 here _ _ c.requires.keeping.1 c.requires.knowing_from c.if-prior-cell.true in
     cell_known _ _ _ _ _ c.requires.keeping.0 _ _ _ c.requires.r_value.0 c.requires.r_value.1 here k
 
 pub add_floors-twin-requires : goal.add_floors-twin-requires
@@ -43,8 +43,8 @@ add_floors-twin-requires c = let here : c.args.span.0 < length c.args.ids.now = 
         counted_slack _ _ _ _ _ c.requires.keeping.0 _ 0 0 c.requires.r_value.0 c.requires.r_value.1 here _ refl,
         c.requires.keeping.1,
       );
-      lies = λ p n. (c.requires.knowing_from.knowing p n).lies;
-      prior = λ p n. counted_prior _ _ _ _ _ c.requires.keeping.0 _ 0 0 c.requires.r_value.0 c.requires.r_value.1 here _ refl _ _ c.requires.keeping.1 (c.requires.knowing_from.knowing p n);
+      lies = λ n. (c.requires.knowing_from.knowing n).lies;
+      prior = ((λ n. counted_prior _ _ _ _ _ c.requires.keeping.0 _ 0 0 c.requires.r_value.0 c.requires.r_value.1 here _ refl _ _ c.requires.keeping.1 (c.requires.knowing_from.knowing n)), c.requires.knowing_from.place);
     }
 
 pub add_overlap-requires : goal.add_overlap-requires

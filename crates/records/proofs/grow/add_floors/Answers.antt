@@ -30,7 +30,7 @@ join-taken-requires c = let ea : c.start_of-start.result ≡ start_of c.args.ws.
     record {
       roomy = room_roomy _ _ _ _ _ c.requires.keeping.0 _ c.requires.keeping.1 _ _ _ ea ee refl _ _ _ (omega (arith, c.requires.keeping.2.slack, ea, ee)) c.requires.keeping.3.few c.requires.keeping.3.inside c.requires.keeping.3.lower c.requires.keeping.3.upper;
       lies = c.requires.lies;
-      prior = λ p n. room_prior _ _ _ _ _ c.requires.keeping.0 _ c.requires.keeping.1 _ _ _ ea ee refl _ _ _ (c.requires.prior p n);
+      prior = ((λ n. room_prior _ _ _ _ _ c.requires.keeping.0 _ c.requires.keeping.1 _ _ _ ea ee refl _ _ _ (c.requires.prior.0 n)), c.requires.prior.1);
     }
 
 pub returns-then-taken-len : goal.returns-then-taken-len

@@ -3,4 +3,4 @@ use Rattle.refresh.proofs.Parts.{copied_whole}
 use Rattle.refresh.proofs.rows.copy_part.Goals as goal
 
 pub returns : goal.returns
-returns c = copied_whole _ _ _ _ _ c.requires.0 c.requires.1 c.requires.2 c.copy_from_slice.ensures.after
+returns c = copied_whole _ _ _ _ _ c.requires.0 c.requires.1 c.requires.2 c.copy.ensures

@@ -12,51 +12,51 @@ use Rattle.watershed.proofs.ExplainLaws.{no_room_told, room_told, tells_filtered
 use Rattle.watershed.proofs.explain.explain_region.Goals as goal
 
 pub links_past-end-requires : goal.links_past-end-requires
-links_past-end-requires c = let n = short _ _ _ _ _ _ _ _ _ _ _ _ _ _ _ c.requires.0 c.args.field.now.codes in
+links_past-end-requires c = let n = short _ _ _ _ _ _ _ _ _ _ _ _ _ _ _ c.requires.0 c.codes_are_bytes.ensures in
     (omega (arith, n), n)
 
 pub bounds-ids-span : goal.bounds-ids-span
-bounds-ids-span c = omega (arith, c.requires.0.span, sized _ _ _ _ _ _ _ _ _ _ _ _ _ _ _ c.requires.0 c.args.field.now.codes)
+bounds-ids-span c = omega (arith, c.requires.0.span, sized _ _ _ _ _ _ _ _ _ _ _ _ _ _ _ c.requires.0 c.codes_are_bytes.ensures)
 
 pub overflow_add-next : goal.overflow_add-next
-overflow_add-next c = omega (arith, (can_ready_part _ _ _ _ _ _ _ _ _ _ _ _ _ _ _ c.requires.0 c.args.field.now.codes).0)
+overflow_add-next c = omega (arith, (can_ready_part _ _ _ _ _ _ _ _ _ _ _ _ _ _ _ c.requires.0 c.codes_are_bytes.ensures).0)
 
 pub ready_records-requires : goal.ready_records-requires
-ready_records-requires c = can_ready_part _ _ _ _ _ _ _ _ _ _ _ _ _ _ _ c.requires.0 c.args.field.now.codes
+ready_records-requires c = can_ready_part _ _ _ _ _ _ _ _ _ _ _ _ _ _ _ c.requires.0 c.codes_are_bytes.ensures
 
 pub build_in-requires : goal.build_in-requires
-build_in-requires c = (omega (arith, past_room _ _ _ _ _ _ _ _ _ _ _ _ _ _ _ c.requires.0 c.args.field.now.codes _ c.links_past-end.ensures _ c.ready_records.auto.ws c.ready_records.ensures), part_given _ _ _ _ _ _ _ _ _ _ _ _ _ _ _ c.requires.0 c.args.field.now.codes _ c.links_past-end.ensures _ c.ready_records.auto.ws c.ready_records.ensures, part-blank _ _ _ _ _ _ _ _ _ _ _ _ _ _ _ c.requires.0 c.args.field.now.codes _ c.links_past-end.ensures _ c.ready_records.auto.ws c.ready_records.ensures, part_fits _ _ _ _ _ _ _ _ _ _ _ _ _ _ _ c.requires.0 c.args.field.now.codes)
+build_in-requires c = (omega (arith, past_room _ _ _ _ _ _ _ _ _ _ _ _ _ _ _ c.requires.0 c.codes_are_bytes.ensures _ c.links_past-end.ensures _ c.ready_records.auto.ws c.ready_records.ensures), part_given _ _ _ _ _ _ _ _ _ _ _ _ _ _ _ c.requires.0 c.codes_are_bytes.ensures _ c.links_past-end.ensures _ c.ready_records.auto.ws c.ready_records.ensures, part-blank _ _ _ _ _ _ _ _ _ _ _ _ _ _ _ c.requires.0 c.codes_are_bytes.ensures _ c.links_past-end.ensures _ c.ready_records.auto.ws c.ready_records.ensures, part_fits _ _ _ _ _ _ _ _ _ _ _ _ _ _ _ c.requires.0 c.codes_are_bytes.ensures)
 
 pub merge_and_filter_told-t-requires : goal.merge_and_filter_told-t-requires
-merge_and_filter_told-t-requires c = (omega (arith, past_room _ _ _ _ _ _ _ _ _ _ _ _ _ _ _ c.requires.0 c.args.field.now.codes _ c.links_past-end.ensures _ c.ready_records.auto.ws c.ready_records.ensures, c.build_in.auto.ws), part_ready _ _ _ _ _ _ _ _ _ _ _ _ _ _ _ c.requires.0 c.args.field.now.codes _ c.links_past-end.ensures _ c.ready_records.auto.ws c.ready_records.ensures _ c.build_in.auto.ws c.build_in.ensures, id_below _ _ _ _ _ _ _ _ _ _ _ _ _ _ _ c.requires.0 c.args.field.now.codes c.requires.1.plain)
+merge_and_filter_told-t-requires c = (omega (arith, past_room _ _ _ _ _ _ _ _ _ _ _ _ _ _ _ c.requires.0 c.codes_are_bytes.ensures _ c.links_past-end.ensures _ c.ready_records.auto.ws c.ready_records.ensures, c.build_in.auto.ws), part_ready _ _ _ _ _ _ _ _ _ _ _ _ _ _ _ c.requires.0 c.codes_are_bytes.ensures _ c.links_past-end.ensures _ c.ready_records.auto.ws c.ready_records.ensures _ c.build_in.auto.ws c.build_in.ensures, id_below _ _ _ _ _ _ _ _ _ _ _ _ _ _ _ c.requires.0 c.codes_are_bytes.ensures c.requires.1.plain)
 
 pub overflow_sub-first_id : goal.overflow_sub-first_id
 overflow_sub-first_id c = omega (arith, c.first_id.ensures, first_some c.args.sizes.border)
 
 pub without_room-requires : goal.without_room-requires
-without_room-requires c = omega (arith, group_small _ _ _ _ _ _ _ _ _ _ _ _ _ _ _ c.requires.0 c.args.field.now.codes _ c.links_past-end.ensures _ c.ready_records.auto.ws c.ready_records.ensures _ c.build_in.auto.ws c.build_in.ensures _ _ _ _ _ _ _ _ refl c.merge_and_filter_told-t.ensures)
+without_room-requires c = omega (arith, group_small _ _ _ _ _ _ _ _ _ _ _ _ _ _ _ c.requires.0 c.codes_are_bytes.ensures _ c.links_past-end.ensures _ c.ready_records.auto.ws c.ready_records.ensures _ c.build_in.auto.ws c.build_in.ensures _ _ _ _ _ _ _ _ refl c.merge_and_filter_told-t.ensures)
 
 pub shape_of-ws-then-t-eq0 : goal.shape_of-ws-then-t-eq0
 shape_of-ws-then-t-eq0 c = c.merge_and_filter_told-t.auto.ws ∙ c.build_in.auto.ws ∙ c.ready_records.auto.ws
 
 pub returns-then-t-eq0 : goal.returns-then-t-eq0
-returns-then-t-eq0 c = no_room_told _ _ _ _ _ _ _ _ c.without_room.ensures c.clear.ensures (c.merge_and_filter_told-t.auto.ids ∙ sized _ _ _ _ _ _ _ _ _ _ _ _ _ _ _ c.requires.0 c.args.field.now.codes) (tells_filtered_out _ _ _ _)
-    (filtered_out_at _ _ _ _ _ _ c.requires.0.grew c.requires.0.span c.requires.1 _ _ (told_id _ _ _ _ _ _ _ _ _ _ _ _ _ _ _ c.requires.0 c.args.field.now.codes _ c.links_past-end.ensures _ c.ready_records.auto.ws c.ready_records.ensures _ c.build_in.auto.ws c.build_in.ensures _ _ _ _ _ _ _ _ refl c.merge_and_filter_told-t.ensures) c.if-t-eq0.true (told_group _ _ _ _ _ _ _ _ _ _ _ _ _ _ _ c.requires.0 c.args.field.now.codes _ c.links_past-end.ensures _ c.ready_records.auto.ws c.ready_records.ensures _ c.build_in.auto.ws c.build_in.ensures _ _ _ _ _ _ _ _ refl c.merge_and_filter_told-t.ensures))
+returns-then-t-eq0 c = no_room_told _ _ _ _ _ _ _ _ c.without_room.ensures c.clear.ensures (c.merge_and_filter_told-t.auto.ids ∙ sized _ _ _ _ _ _ _ _ _ _ _ _ _ _ _ c.requires.0 c.codes_are_bytes.ensures) (tells_filtered_out _ _ _ _)
+    (filtered_out_at _ _ _ _ _ _ c.requires.0.grew c.requires.0.span c.requires.1 _ _ (told_id _ _ _ _ _ _ _ _ _ _ _ _ _ _ _ c.requires.0 c.codes_are_bytes.ensures _ c.links_past-end.ensures _ c.ready_records.auto.ws c.ready_records.ensures _ c.build_in.auto.ws c.build_in.ensures _ _ _ _ _ _ _ _ refl c.merge_and_filter_told-t.ensures) c.if-t-eq0.true (told_group _ _ _ _ _ _ _ _ _ _ _ _ _ _ _ c.requires.0 c.codes_are_bytes.ensures _ c.links_past-end.ensures _ c.ready_records.auto.ws c.ready_records.ensures _ c.build_in.auto.ws c.build_in.ensures _ _ _ _ _ _ _ _ refl c.merge_and_filter_told-t.ensures))
 
 pub offset_bounds-ids-span-2 : goal.offset_bounds-ids-span-2
-offset_bounds-ids-span-2 c = omega (arith, c.requires.0.span, short _ _ _ _ _ _ _ _ _ _ _ _ _ _ _ c.requires.0 c.args.field.now.codes)
+offset_bounds-ids-span-2 c = omega (arith, c.requires.0.span, short _ _ _ _ _ _ _ _ _ _ _ _ _ _ _ c.requires.0 c.codes_are_bytes.ensures)
 
 pub bounds-ids-span-2 : goal.bounds-ids-span-2
-bounds-ids-span-2 c = omega (arith, c.requires.0.span, sized _ _ _ _ _ _ _ _ _ _ _ _ _ _ _ c.requires.0 c.args.field.now.codes, c.merge_and_filter_told-t.auto.ids)
+bounds-ids-span-2 c = omega (arith, c.requires.0.span, sized _ _ _ _ _ _ _ _ _ _ _ _ _ _ _ c.requires.0 c.codes_are_bytes.ensures, c.merge_and_filter_told-t.auto.ids)
 
 pub lay_trail-long-requires : goal.lay_trail-long-requires
 lay_trail-long-requires c = (
-  omega (arith, noted_room _ _ _ _ _ _ _ _ _ _ _ _ _ _ _ c.requires.0 c.args.field.now.codes _ c.links_past-end.ensures _ c.ready_records.auto.ws c.ready_records.ensures _ c.build_in.auto.ws c.build_in.ensures _ _ _ _ _ _ _ _ refl c.merge_and_filter_told-t.ensures, c.merge_and_filter_told-t.auto.ws, c.build_in.auto.ws),
-  omega (arith, laid_room _ _ _ _ _ _ _ _ _ _ _ _ _ _ _ c.requires.0 c.args.field.now.codes _ c.links_past-end.ensures _ c.ready_records.auto.ws c.ready_records.ensures _ c.build_in.auto.ws c.build_in.ensures _ _ _ _ _ _ _ _ refl c.merge_and_filter_told-t.ensures c.if-t-eq0.false, c.merge_and_filter_told-t.auto.ids, sized _ _ _ _ _ _ _ _ _ _ _ _ _ _ _ c.requires.0 c.args.field.now.codes),
+  omega (arith, noted_room _ _ _ _ _ _ _ _ _ _ _ _ _ _ _ c.requires.0 c.codes_are_bytes.ensures _ c.links_past-end.ensures _ c.ready_records.auto.ws c.ready_records.ensures _ c.build_in.auto.ws c.build_in.ensures _ _ _ _ _ _ _ _ refl c.merge_and_filter_told-t.ensures, c.merge_and_filter_told-t.auto.ws, c.build_in.auto.ws),
+  omega (arith, laid_room _ _ _ _ _ _ _ _ _ _ _ _ _ _ _ c.requires.0 c.codes_are_bytes.ensures _ c.links_past-end.ensures _ c.ready_records.auto.ws c.ready_records.ensures _ c.build_in.auto.ws c.build_in.ensures _ _ _ _ _ _ _ _ refl c.merge_and_filter_told-t.ensures c.if-t-eq0.false, c.merge_and_filter_told-t.auto.ids, sized _ _ _ _ _ _ _ _ _ _ _ _ _ _ _ c.requires.0 c.codes_are_bytes.ensures),
 )
 
 pub in_room-requires : goal.in_room-requires
-in_room-requires c = omega (arith, c.lay_trail-long.ensures.0, laid_room _ _ _ _ _ _ _ _ _ _ _ _ _ _ _ c.requires.0 c.args.field.now.codes _ c.links_past-end.ensures _ c.ready_records.auto.ws c.ready_records.ensures _ c.build_in.auto.ws c.build_in.ensures _ _ _ _ _ _ _ _ refl c.merge_and_filter_told-t.ensures c.if-t-eq0.false, short _ _ _ _ _ _ _ _ _ _ _ _ _ _ _ c.requires.0 c.args.field.now.codes)
+in_room-requires c = omega (arith, c.lay_trail-long.ensures.0, laid_room _ _ _ _ _ _ _ _ _ _ _ _ _ _ _ c.requires.0 c.codes_are_bytes.ensures _ c.links_past-end.ensures _ c.ready_records.auto.ws c.ready_records.ensures _ c.build_in.auto.ws c.build_in.ensures _ _ _ _ _ _ _ _ refl c.merge_and_filter_told-t.ensures c.if-t-eq0.false, short _ _ _ _ _ _ _ _ _ _ _ _ _ _ _ c.requires.0 c.codes_are_bytes.ensures)
 
 pub shape_of-ws : goal.shape_of-ws
 shape_of-ws c = c.merge_and_filter_told-t.auto.ws ∙ c.build_in.auto.ws ∙ c.ready_records.auto.ws
@@ -65,6 +65,6 @@ pub returns : goal.returns
 returns c = let d = ap (λ (f : ℕ). f - 1) c.first_id.ensures in
     let t = trail (mergings_from c.merge_and_filter_told-t.new.ws c.links_past-end.result c.merge_and_filter_told-t.result.merges)
     (get_or c.args.ids.now c.args.span 0) in
-    room_told _ _ _ _ _ _ t _ c.lay_trail-long.ensures.1 (c.merge_and_filter_told-t.auto.ids ∙ sized _ _ _ _ _ _ _ _ _ _ _ _ _ _ _ c.requires.0 c.args.field.now.codes) (c.in_room.ensures _ t c.lay_trail-long.ensures.0)
-    (has_room_at _ _ _ _ _ _ c.requires.0.grew c.requires.0.span c.requires.1 _ _ _ _ _ (told_id _ _ _ _ _ _ _ _ _ _ _ _ _ _ _ c.requires.0 c.args.field.now.codes _ c.links_past-end.ensures _ c.ready_records.auto.ws c.ready_records.ensures _ c.build_in.auto.ws c.build_in.ensures _ _ _ _ _ _ _ _ refl c.merge_and_filter_told-t.ensures) c.if-t-eq0.false refl (ap (λ (y : Story). y.from) c.requires.0.told) (told-trail _ _ _ _ _ _ _ _ _ _ _ _ _ _ _ c.requires.0 c.args.field.now.codes _ c.links_past-end.ensures _ c.ready_records.auto.ws c.ready_records.ensures _ c.build_in.auto.ws c.build_in.ensures _ _ _ _ _ _ _ _ refl c.merge_and_filter_told-t.ensures)
-    (told_number _ _ _ _ _ _ _ _ _ _ _ _ _ _ _ c.requires.0 c.args.field.now.codes _ c.links_past-end.ensures _ c.ready_records.auto.ws c.ready_records.ensures _ c.build_in.auto.ws c.build_in.ensures _ _ _ _ _ _ _ _ refl c.merge_and_filter_told-t.ensures _ _ d c.lower-number.ensures))
+    room_told _ _ _ _ _ _ t _ c.lay_trail-long.ensures.1 (c.merge_and_filter_told-t.auto.ids ∙ sized _ _ _ _ _ _ _ _ _ _ _ _ _ _ _ c.requires.0 c.codes_are_bytes.ensures) (c.in_room.ensures _ t c.lay_trail-long.ensures.0)
+    (has_room_at _ _ _ _ _ _ c.requires.0.grew c.requires.0.span c.requires.1 _ _ _ _ _ (told_id _ _ _ _ _ _ _ _ _ _ _ _ _ _ _ c.requires.0 c.codes_are_bytes.ensures _ c.links_past-end.ensures _ c.ready_records.auto.ws c.ready_records.ensures _ c.build_in.auto.ws c.build_in.ensures _ _ _ _ _ _ _ _ refl c.merge_and_filter_told-t.ensures) c.if-t-eq0.false refl (ap (λ (y : Story). y.from) c.requires.0.told) (told-trail _ _ _ _ _ _ _ _ _ _ _ _ _ _ _ c.requires.0 c.codes_are_bytes.ensures _ c.links_past-end.ensures _ c.ready_records.auto.ws c.ready_records.ensures _ c.build_in.auto.ws c.build_in.ensures _ _ _ _ _ _ _ _ refl c.merge_and_filter_told-t.ensures)
+    (told_number _ _ _ _ _ _ _ _ _ _ _ _ _ _ _ c.requires.0 c.codes_are_bytes.ensures _ c.links_past-end.ensures _ c.ready_records.auto.ws c.ready_records.ensures _ c.build_in.auto.ws c.build_in.ensures _ _ _ _ _ _ _ _ refl c.merge_and_filter_told-t.ensures _ _ d c.lower-number.ensures))

@@ -8,7 +8,7 @@ pub returns-then-refusal-ne0 : goal.returns-then-refusal-ne0
 returns-then-refusal-ne0 c = let e = outcome_refused _ _ _ _ _ c.args.workspace.now c.args.trail.now _ c.check_explain-refusal.ensures c.if-refusal-ne0.true _ (c.refused.ensures _ _) in
     record {
       trail_after = e;
-      means = call_means _ _ _ _ _ _ _ _ _ _ (areas_are_bytes _ _ _ _ _ _ c.args.field.now.codes) e;
+      means = call_means _ _ _ _ _ _ _ _ _ _ (areas_are_bytes _ _ _ _ _ _ c.codes_are_bytes.ensures) e;
     }
 
 pub explain_found-requires : goal.explain_found-requires
@@ -18,5 +18,5 @@ pub returns : goal.returns
 returns c = let e = outcome-told _ _ _ _ _ c.args.workspace.now c.args.trail.now _ c.check_explain-refusal.ensures c.if-refusal-ne0.false _ c.explain_found.ensures in
     record {
       trail_after = e;
-      means = call_means _ _ _ _ _ _ _ _ _ _ (areas_are_bytes _ _ _ _ _ _ c.args.field.now.codes) e;
+      means = call_means _ _ _ _ _ _ _ _ _ _ (areas_are_bytes _ _ _ _ _ _ c.codes_are_bytes.ensures) e;
     }
